@@ -20,8 +20,8 @@ use std::io::{Read, Write};
 use std::marker::Model;
 use std::sync::ledger::Ledger;
 
-/// A reader and a writer of messages, which are often the two ways of one stream, and all that is kept from one message to the
-/// next.
+/// A reader and a writer of messages, and all that is kept from one message to the next. The two are often handles of one
+/// stream.
 ///
 /// ```
 /// let mut connection = Connection::new(alloc, b"".as_slice(), Vec::new(alloc), 1, steps);
@@ -52,13 +52,13 @@ impl<R: Read, W: Write, L: Ledger> Model for Connection<R, W, L> {
     ghost Value = { connections.Connection };
 
     ghost view = { λ c. record {
-        input = R.remaining c.reader;
-        output = W.contents c.writer;
-        stream = c.frames;
-        left = c.left;
-        steps = c.steps;
-        read_failed = c.last_read;
-        last_write = c.last_write;
+      input = R.remaining c.reader;
+      output = W.contents c.writer;
+      stream = c.frames;
+      left = c.left;
+      steps = c.steps;
+      read_failed = c.last_read;
+      last_write = c.last_write;
     } };
 }
 
@@ -119,10 +119,17 @@ impl<R: Read, W: Write, L: Ledger> Connection<R, W, L> {
 
     /// The next message; nothing at an end between frames. The bytes that the connection holds are handed out before it reads.
     ///
-    /// `Closed` after a faulty frame; `BadMark`, `BadVersion`, `BadLength`, `UnknownKind` or `Malformed` of the frame that comes
-    /// next, and the connection is closed from then on; `ReadFailed`; `Truncated` at an end inside a frame; `TurnsSpent` if it
-    /// needs one more read than are left; `NoMemory`. After the last four faults every byte that was read is held, and the call
-    /// may be made again.
+    /// Its faults:
+    ///
+    /// - `Closed` after a faulty frame.
+    /// - `BadMark`, `BadVersion`, `BadLength`, `UnknownKind` or `Malformed` of the next frame. The connection is closed from then
+    ///   on.
+    /// - `ReadFailed`.
+    /// - `Truncated` at an end inside a frame.
+    /// - `TurnsSpent` if the call needs one more read than are left.
+    /// - `NoMemory`.
+    ///
+    /// After the last four faults every byte that was read is held, and the call may be made again.
     pub fn receive(&mut self) -> Result<Option<Message>, Fault>
         ensures gives { ReceivesOn self.old self.new result }
         ensures counted { self.new.steps + self.new.left ≡ self.old.steps + self.old.left }
@@ -149,8 +156,8 @@ impl<R: Read, W: Write, L: Ledger> Connection<R, W, L> {
         self.last_read.has_failed()
     }
 
-    /// Whether the last write failed, took no byte, or was one of more than 1,000 in a row that were interrupted; false if none
-    /// was made since `start`. No message can be sent after such a write, unless `start` is called first.
+    /// Whether the last write failed, took no byte, or was interrupted after 1,000 others in a row. False if none was made since
+    /// `start`. No message may be sent after such a write before `start` is called.
     pub fn has_write_failed(&self) -> bool
         ensures { result ≡ has_failed self.now.last_write }
     {

@@ -10,8 +10,8 @@ use std::io::{self, ErrorKind, Read};
 use std::marker::Model;
 use std::sync::ledger::Ledger;
 
-/// What the last read of a call answered. Each call that reads sets it back first, and then only a read changes it. So it tells
-/// of no read that was made before the call.
+/// What the last read of a call answered. Each call that reads sets it back first, and then only a read changes it. So it is of
+/// no read that was made before the call.
 #[derive(Debug, Drop)]
 pub(crate) struct LastRead {
     has_failed: bool,

@@ -1,7 +1,8 @@
 //! The frames that carry messages: sent whole, and read out of a stream that comes in any pieces.
 //!
-//! `send` writes a message as one frame, and `Frames` gives the messages of a stream, in whatever pieces its bytes come. After
-//! a faulty frame the stream is closed. The crate stands on `sb_codec`; sessions and control sockets talk through it.
+//! A `Connection` is a reader and a writer of messages: sessions and control sockets talk over it. Below it `send` writes a
+//! message as one frame, and `Frames` gives the messages of a stream, in whatever pieces its bytes come. After a faulty frame
+//! the stream is closed. The crate uses `sb_codec`.
 //!
 //! ```rust
 //! /// The frame of the message that ends a session whose rounds are done.

@@ -38,7 +38,7 @@ fn receive_open<R: Read, L: Ledger>(
 }
 
 /// The next message of a stream, with as many reads of it as are left; nothing at an end between frames. What is held is
-/// handed out before anything is read. `left` is what is left after the call. Its faults are those of `receive`; `last` tells
+/// handed out before anything is read. `left` is what is left after the call. Its faults are those of `receive`; `last` is
 /// what the last read of the call answered.
 pub(crate) fn receive_within<R: Read, L: Ledger>(
     reader: &mut R,
@@ -65,10 +65,16 @@ pub(crate) fn receive_within<R: Read, L: Ledger>(
 /// The next message of a stream, with at most `max_reads` reads; nothing at an end between frames. What is held is handed out
 /// before anything is read.
 ///
-/// `Closed` after a faulty frame; `BadMark`, `BadVersion`, `BadLength`, `UnknownKind` or `Malformed` of the frame that comes
-/// next, and the frames are closed from then on; `ReadFailed`; `Truncated` at an end inside a frame; `TurnsSpent` if it needs
-/// one more read than were left; `NoMemory`. After the last four faults every byte that was read is held, and the call may be
-/// made again.
+/// Its faults:
+///
+/// - `Closed` after a faulty frame.
+/// - `BadMark`, `BadVersion`, `BadLength`, `UnknownKind` or `Malformed` of the next frame. The frames are closed from then on.
+/// - `ReadFailed`.
+/// - `Truncated` at an end inside a frame.
+/// - `TurnsSpent` if the call needs one more read than `max_reads`.
+/// - `NoMemory`.
+///
+/// After the last four faults every byte that was read is held, and the call may be made again.
 pub fn receive<R: Read, L: Ledger>(
     reader: &mut R,
     frames: &mut Frames,

@@ -38,9 +38,9 @@ pub fn frame_of(alloc: Global, message: &Message) -> Result<Vec<u8>, Fault>
     Ok(frame)
 }
 
-/// Writes all of the bytes after a write that did not fail, and tells what the last write answered. `WriteFailed` with how
+/// Writes all of the bytes after a write that did not fail. `last` is what the last write answered. `WriteFailed` with how
 /// many bytes were written, always fewer than all. A write that takes no byte has failed, and so has one that was
-/// interrupted 1,001 times in a row; after fewer interruptions it is made again.
+/// interrupted 1,001 times in a row. After fewer interruptions it is made again.
 fn write_on<W: Write>(writer: &mut W, bytes: &[u8], last: &mut LastWrite) -> Result<(), Fault>
     requires goes_on { has_failed last.old ≡ false }
     ensures sends { Sends (W.contents writer.old) (W.contents writer.new) bytes.now result }
@@ -60,9 +60,9 @@ fn write_on<W: Write>(writer: &mut W, bytes: &[u8], last: &mut LastWrite) -> Res
     Ok(())
 }
 
-/// Writes all of the bytes, and tells what the last write of the call answered. `WriteFailed` with how many bytes were
+/// Writes all of the bytes, and gives what the last write of the call answered. `WriteFailed` with how many bytes were
 /// written, always fewer than all. A write that takes no byte has failed, and so has one that was interrupted 1,001 times in a
-/// row; after fewer interruptions it is made again.
+/// row. After fewer interruptions it is made again.
 pub fn write_counted<W: Write>(writer: &mut W, bytes: &[u8]) -> (Result<(), Fault>, LastWrite)
     ensures sends { Sends (W.contents writer.old) (W.contents writer.new) bytes.now result.0 }
     ensures failed { OnlyWhereFailed result.0 result.1 }
@@ -73,9 +73,9 @@ pub fn write_counted<W: Write>(writer: &mut W, bytes: &[u8]) -> (Result<(), Faul
     (answer, last)
 }
 
-/// Writes the message's frame out of a buffer that is kept from one message to the next, after a write that did not fail,
-/// and tells what the last write answered. It takes memory only if the buffer has no room for the frame. Its faults are those
-/// of `send`.
+/// Writes the message's frame out of a buffer that is kept from one message to the next. The last write must not have failed,
+/// and `last` is then what the last one answered. It takes memory only if the buffer has no room for the frame. Its faults are
+/// those of `send`.
 pub(crate) fn send_on<W: Write>(
     buffer: &mut Vec<u8>,
     writer: &mut W,
@@ -92,7 +92,7 @@ pub(crate) fn send_on<W: Write>(
     write_on(writer, buffer, last)
 }
 
-/// Writes the message's frame, and tells what the last write of the call answered. Its faults are those of `send`.
+/// Writes the message's frame, and gives what the last write of the call answered. Its faults are those of `send`.
 pub fn send_telling<W: Write>(
     alloc: Global,
     writer: &mut W,
@@ -106,8 +106,8 @@ pub fn send_telling<W: Write>(
     (sent, last)
 }
 
-/// Writes the message's frame. `NoMemory`, with nothing written; `WriteFailed` with how many bytes of the frame were written,
-/// always fewer than all. A write that takes no byte has failed.
+/// Writes the message's frame. `NoMemory`, with nothing written; `WriteFailed` with how many of its bytes were written, always
+/// fewer than all. A write that takes no byte has failed.
 pub fn send<W: Write>(alloc: Global, writer: &mut W, message: &Message) -> Result<(), Fault>
     ensures { Sends (W.contents writer.old) (W.contents writer.new) (frame message.now) result }
 {

@@ -51,7 +51,7 @@ impl<L: Ledger> Steps<L> {
     }
 }
 
-/// Reads some bytes as `read_within` does, and tells what the last read of the call answered. No read is made after one that
+/// Reads some bytes as `read_within` does. `last` is what the last read of the call answered. No read is made after one that
 /// failed.
 pub(crate) fn read_telling<R: Read, L: Ledger>(
     reader: &mut R,

@@ -13,9 +13,15 @@ use std::sync::ledger::Ledger;
 /// Sends one request and gives the message that answers it, a `Refused` as any other. After the call the connection says
 /// whether its last write failed.
 ///
-/// `Closed` if the connection is closed after a faulty frame, with nothing sent; `WriteFailed`, with how many bytes of the
-/// request are out; `BadMark`, `BadVersion`, `BadLength`, `UnknownKind` or `Malformed` of the answer; `ReadFailed`;
-/// `Truncated` if no whole answer comes; `TurnsSpent` if it needs one more read than the connection has left; `NoMemory`.
+/// Its faults:
+///
+/// - `Closed`, with nothing sent, if the connection is closed after a faulty frame.
+/// - `WriteFailed`, with how many bytes of the request are written.
+/// - `BadMark`, `BadVersion`, `BadLength`, `UnknownKind` or `Malformed` of the answer.
+/// - `ReadFailed`.
+/// - `Truncated` if no whole answer comes.
+/// - `TurnsSpent` if the call needs one more read than the connection has left.
+/// - `NoMemory`.
 pub fn ask_control<R: Read, W: Write, K: Ledger>(
     connection: &mut Connection<R, W, K>,
     request: &Message,

@@ -130,15 +130,22 @@ fn reply_to<L: WriteLog, S: DirectoryTag, H: Wait + Drop, Q: Wait>(
     }
 }
 
-/// Reads one request and writes one answer: to an Ask its page, to a Put the version under which the log took the write in
-/// this call, also if the directory refused it, and to either the fault that it met; to any other message the fault
-/// `UnknownKind`. It gives the seat back. After the call the connection says whether its last write failed.
+/// Reads one request, writes one answer, and gives the seat back. The answer to an Ask is its page. The answer to a Put is the
+/// version under which the log took the write in this call, also if the directory refused it. The answer to either may be the
+/// fault that it met, and to any other message it is the fault `UnknownKind`. After the call the connection says whether its
+/// last write failed.
 ///
-/// `Closed` if the connection is closed after a faulty frame; `BadMark`, `BadVersion`, `BadLength`, `UnknownKind` or
-/// `Malformed` of the request; `ReadFailed`; `Truncated` at an end before or inside it; `TurnsSpent` if it needs one more read
-/// than the connection has left; `NoMemory`. Each of these comes before anything is answered, and leaves all else as it was.
-/// `WriteFailed`, with how many bytes of the answer are out, and a `NoMemory` of sending it, with none, come after the request
-/// was done, and that stays. So after `NoMemory` a Put may have been kept.
+/// These faults come before anything is answered, and leave all but the connection as it was:
+///
+/// - `Closed` if the connection is closed after a faulty frame.
+/// - `BadMark`, `BadVersion`, `BadLength`, `UnknownKind` or `Malformed` of the request.
+/// - `ReadFailed`.
+/// - `Truncated` at an end before or inside the request.
+/// - `TurnsSpent` if the call needs one more read than the connection has left.
+/// - `NoMemory`.
+///
+/// These come after the request was done, which stays: `WriteFailed`, with how many bytes of the answer are written, and
+/// `NoMemory`, with none. So after `NoMemory` the log may have taken the write of a Put.
 pub fn serve_control<
     R: Read,
     W: Write,

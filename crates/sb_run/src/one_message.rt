@@ -11,9 +11,8 @@ use sb_types::Fault;
 use std::io::{Read, Write};
 use std::sync::ledger::Ledger;
 
-/// The next message of a connection. `Closed` after a faulty frame; `BadMark`, `BadVersion`, `BadLength`, `UnknownKind` or
-/// `Malformed` of its frame; `ReadFailed`; `Truncated` at an end before or inside the frame; `TurnsSpent` if it needs one more
-/// read than are left; `NoMemory`.
+/// The next message of a connection. Its faults are those of `Connection::receive`, and `Truncated` at an end before the
+/// message.
 pub(crate) fn receive_one<R: Read, W: Write, K: Ledger>(
     connection: &mut Connection<R, W, K>,
 ) -> Result<Message, Fault>

@@ -17,14 +17,14 @@ use sb_types::{Fault, REASON_ROUNDS_DONE};
 use std::io::{Read, Write};
 use std::sync::ledger::Ledger;
 
-/// How a talk ended where no fault did.
+/// How a talk ended that no fault ended.
 #[derive(Clone, Copy, Debug, PartialEq, Eq)]
 pub enum Ended {
     /// The peer said Bye for this reason, 1 to 5.
     Bye(u8),
     /// The peer's bytes ended between two frames.
     End,
-    /// All rounds were made, each an exchange of digests, and Bye was said.
+    /// All rounds were made, each an exchange of digests, and this end said Bye.
     RoundsDone,
 }
 
@@ -175,12 +175,19 @@ fn talk<R: Read, W: Write, L: Ledger, H: Handler>(
 /// Says Hello, and answers the peer until it says Bye, or until its bytes end between two frames. What the connection holds
 /// is heard first, and what it reads beyond the end of the talk stays held.
 ///
-/// `Closed` if the connection is closed after a faulty frame, with nothing said; `BadMark`, `BadVersion`, `BadLength`,
-/// `UnknownKind`, `Malformed`, `ReadFailed` and `Truncated` of the peer's bytes; `WriteFailed` with how many bytes of the
-/// frame that was being written are out; `NoHello`, `WrongCluster`, `SameName` and `SecondHello` of the peer's messages, and
-/// `UnknownKind` of one that has no place in a session; `Closed` if the session had ended before; `TurnsSpent` if it needs
-/// more reads than the connection has left, or the handler's; `NoMemory`, with whole frames written. What was applied before
-/// the fault stays. After the call the connection says whether its last read and its last write failed.
+/// Its faults, and what each leaves:
+///
+/// - `Closed`, with nothing written, if the connection is closed after a faulty frame.
+/// - `BadMark`, `BadVersion`, `BadLength`, `UnknownKind`, `Malformed`, `ReadFailed` or `Truncated` of the peer's bytes.
+/// - `WriteFailed` with how many bytes of the last frame are written.
+/// - `NoHello`, `WrongCluster`, `SameName` or `SecondHello` of the peer's messages.
+/// - `UnknownKind` of a message that has no place in a session.
+/// - `Closed` if the session had ended before the call.
+/// - `TurnsSpent` of the handler, or if the call needs more reads than the connection has left.
+/// - `NoMemory`, with whole frames written.
+///
+/// What was applied before the fault stays. After the call the connection says whether its last read and its last write
+/// failed.
 pub fn serve<R: Read, W: Write, L: Ledger, H: Handler>(
     connection: &mut Connection<R, W, L>,
     session: Session,

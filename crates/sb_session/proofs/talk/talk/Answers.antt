@@ -94,8 +94,15 @@ loop-message-init g c =
       goes = goes_on step a c.args.connection.now c.args.all c.args.first c.args.handler.now c.speak.new.session c.speak.new.handler c.say.new.connection c.speak.new.connection spoke;
       unfailed = c.in_ok-speak.ensures.goes_on;
       grows = c.in_ok-speak.ensures.grows;
-      counted = omega (arith, c.in_ok-speak.ensures.kept.2, c.in_ok-speak.ensures.kept.3, c.in_ok-say.ensures.kept.2, c.in_ok-say.ensures.kept.3,
-          ap (λ (x : Connection). x.left) c.in_ok-start.ensures.1, ap (λ (x : Connection). x.steps) c.in_ok-start.ensures.1);
+      counted = omega (
+        arith,
+        c.in_ok-speak.ensures.kept.2,
+        c.in_ok-speak.ensures.kept.3,
+        c.in_ok-say.ensures.kept.2,
+        c.in_ok-say.ensures.kept.3,
+        ap (λ (x : Connection). x.left) c.in_ok-start.ensures.1,
+        ap (λ (x : Connection). x.steps) c.in_ok-start.ensures.1,
+      );
     }
 
 pub returns-in_err-message-clause-talks : goal.returns-in_err-message-clause-talks
