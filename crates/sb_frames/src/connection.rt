@@ -28,7 +28,7 @@ use std::sync::ledger::Ledger;
 /// connection.send(&bye)?;
 /// let is_over = connection.receive()?.is_none();
 /// let (_, sent) = connection.into_parts();
-/// assert!(is_over && sent.as_slice() == b"\xa7\x03\x00\x00\x00\x02\x04\x01");
+/// assert!(is_over && sent.as_slice() == b"\xa7\x03\x00\x00\x00\x02\x04\x01".as_slice());
 /// ```
 ///
 /// The test `the_example_of_connections` runs these lines.

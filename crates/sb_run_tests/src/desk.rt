@@ -152,13 +152,14 @@ fn serve_from<
     serving: &Serving<S, H, Q>,
     owner: &mut OwnWrites<PlainLog>,
     seat: ReaderSeat<S>,
-    (reader, writer): (&mut R, &mut W),
+    streams: (&mut R, &mut W),
     blank: Blank,
 ) -> (ReaderSeat<S>, Result<(), Fault>)
     requires name { blank.name ≡ K.name }
     requires parts { blank.parts ≡ K.parts }
     requires some { 0 < blank.parts }
 {
+    let (reader, writer) = streams;
     let steps = Steps::<K>::new(blank);
     let mut connection = Connection::new(serving.alloc, reader, writer, serving.max_reads, steps);
     serve_control(serving, &mut connection, owner, seat)

@@ -166,7 +166,7 @@ fn is_over<L: Ledger>(alloc: Global, blank: Blank) -> Result<bool, Fault>
     connection.send(&bye)?;
     let is_over = connection.receive()?.is_none();
     let (_, sent) = connection.into_parts();
-    Ok(is_over && sent.as_slice() == b"\xa7\x03\x00\x00\x00\x02\x04\x01")
+    Ok(is_over && sent.as_slice() == b"\xa7\x03\x00\x00\x00\x02\x04\x01".as_slice())
 }
 
 #[test]

@@ -124,7 +124,7 @@ fn reader_of<'a>(terms: &Terms<'a>) -> Pieces<'a> {
 /// How a talk of this session ends over a reader and a writer, and whether its last write is said to have failed.
 fn talk_on<L: Ledger>(
     node: &mut Node,
-    (reader, writer): (&mut Pieces<'_>, &mut Room),
+    streams: (&mut Pieces<'_>, &mut Room),
     session: Session,
     terms: Terms<'_>,
     blank: Blank,
@@ -133,6 +133,7 @@ fn talk_on<L: Ledger>(
     requires parts { blank.parts ≡ L.parts }
     requires some { 0 < blank.parts }
 {
+    let (reader, writer) = streams;
     let steps = Steps::<L>::new(blank);
     let mut connection = Connection::new(node.alloc, reader, writer, terms.reads, steps);
     let ended = match terms.rounds {
