@@ -130,52 +130,46 @@ fn reply_to<L: WriteLog, S: DirectoryTag, H: Wait + Drop, Q: Wait>(
     }
 }
 
-/// Reads one request, writes one answer, and gives the seat back. The answer to an Ask is its page. The answer to a Put is the
-/// version under which the log took the write in this call, also if the directory refused it. The answer to either may be the
-/// fault that it met, and to any other message it is the fault `UnknownKind`. After the call the connection says whether its
-/// last write failed.
-///
-/// These faults come before anything is answered, and leave all but the connection as it was:
-///
-/// - `Closed` if the connection is closed after a faulty frame.
-/// - `BadMark`, `BadVersion`, `BadLength`, `UnknownKind` or `Malformed` of the request.
-/// - `ReadFailed`.
-/// - `Truncated` at an end before or inside the request.
-/// - `TurnsSpent` if the call needs one more read than the connection has left.
-/// - `NoMemory`.
-///
-/// These come after the request was done, which stays: `WriteFailed`, with how many bytes of the answer are written, and
-/// `NoMemory`, with none. So after `NoMemory` the log may have taken the write of a Put.
-pub fn serve_control<
-    R: Read,
-    W: Write,
-    L: WriteLog,
-    S: DirectoryTag,
-    H: Wait + Drop,
-    Q: Wait,
-    K: Ledger,
->(
-    serving: &Serving<S, H, Q>,
-    connection: &mut Connection<R, W, K>,
-    writes: &mut OwnWrites<L>,
-    seat: ReaderSeat<S>,
-) -> (ReaderSeat<S>, Result<(), Fault>)
-    ensures controls { Controls ((writes.new.log ≡ writes.old.log) × (writes.new.owed ≡ writes.old.owed) × (result.0 ≡ seat))
-        (λ request reply. Answers L.seen S.opening S.settings.budget writes.old.log writes.old.owed seat request writes.new.log writes.new.owed result.0 reply)
-        connection.old connection.new result.1 }
-    ensures counted { connection.new.steps + connection.new.left ≡ connection.old.steps + connection.old.left }
-    // A write that did not fail, or that was made before the call, is no reason to stop.
-    ensures failed { OnlyWhereFailed result.1 connection.new.last_write }
-    // A log that was open and is closed now is told to have failed.
-    ensures closes { (L.seen writes.old.log).is_open ≡ true → (L.seen writes.new.log).is_open ≡ false → writes.new.has_failed ≡ true }
-    ensures settled { IsSettled (L.seen writes.old.log) (L.leaves writes.old.log) → IsSettled (L.seen writes.new.log) (L.leaves writes.new.log) }
-{
-    match receive_first(connection) {
-        Ok(request) => {
-            let (seat, reply) = reply_to(serving, writes, seat, &request);
-            let sent = connection.send(&reply);
-            (seat, sent)
+impl<S: DirectoryTag, H: Wait + Drop, Q: Wait> Serving<'_, S, H, Q> {
+    /// Reads one request, writes one answer, and gives the seat back. The answer to an Ask is its page. The answer to a Put is the
+    /// version under which the log took the write in this call, also if the directory refused it. The answer to either may be the
+    /// fault that it met, and to any other message it is the fault `UnknownKind`. After the call the connection says whether its
+    /// last write failed.
+    ///
+    /// These faults come before anything is answered, and leave all but the connection as it was:
+    ///
+    /// - `Closed` if the connection is closed after a faulty frame.
+    /// - `BadMark`, `BadVersion`, `BadLength`, `UnknownKind` or `Malformed` of the request.
+    /// - `ReadFailed`.
+    /// - `Truncated` at an end before or inside the request.
+    /// - `TurnsSpent` if the call needs one more read than the connection has left.
+    /// - `NoMemory`.
+    ///
+    /// These come after the request was done, which stays: `WriteFailed`, with how many bytes of the answer are written, and
+    /// `NoMemory`, with none. So after `NoMemory` the log may have taken the write of a Put.
+    pub fn serve_control<R: Read, W: Write, K: Ledger, L: WriteLog>(
+        &self,
+        connection: &mut Connection<R, W, K>,
+        writes: &mut OwnWrites<L>,
+        seat: ReaderSeat<S>,
+    ) -> (ReaderSeat<S>, Result<(), Fault>)
+        ensures controls { Controls ((writes.new.log ≡ writes.old.log) × (writes.new.owed ≡ writes.old.owed) × (result.0 ≡ seat))
+            (λ request reply. Answers L.seen S.opening S.settings.budget writes.old.log writes.old.owed seat request writes.new.log writes.new.owed result.0 reply)
+            connection.old connection.new result.1 }
+        ensures counted { connection.new.steps + connection.new.left ≡ connection.old.steps + connection.old.left }
+        // A write that did not fail, or that was made before the call, is no reason to stop.
+        ensures failed { OnlyWhereFailed result.1 connection.new.last_write }
+        // A log that was open and is closed now is told to have failed.
+        ensures closes { (L.seen writes.old.log).is_open ≡ true → (L.seen writes.new.log).is_open ≡ false → writes.new.has_failed ≡ true }
+        ensures settled { IsSettled (L.seen writes.old.log) (L.leaves writes.old.log) → IsSettled (L.seen writes.new.log) (L.leaves writes.new.log) }
+    {
+        match receive_first(connection) {
+            Ok(request) => {
+                let (seat, reply) = reply_to(self, writes, seat, &request);
+                let sent = connection.send(&reply);
+                (seat, sent)
+            }
+            Err(fault) => (seat, Err(fault)),
         }
-        Err(fault) => (seat, Err(fault)),
     }
 }

@@ -40,24 +40,26 @@ pub(crate) fn digests_of_all<S: RoundsTag, H: Wait + Drop, Q: Wait>(
     Some(most)
 }
 
-/// A session over a connection, of so many exchanges of digests and deltas, and how it ended. It makes at most the node's
-/// `max_reads` reads. What it enters is news.
-fn talk<S: RoundsTag, H: Wait + Drop, Q: Wait, I: Read, O: Write, K: Ledger>(
-    node: &NodeContext<S, H, Q>,
-    connection: &mut Connection<I, O, K>,
-    seat: ReaderSeat<S>,
-    exchanges: u64,
-) -> (ReaderSeat<S>, Result<Ended, Fault>)
-    requires limit { connection.old.left ≤ node.now.pace.max_reads }
-    ensures later { IsLater seat result.0 }
-    ensures greets { Greets S.settings.cluster S.opening.held.me connection.old.output connection.new.output }
-    ensures reads { connection.new.steps ≤ connection.old.steps + node.now.pace.max_reads }
-{
-    let served = SeatHandler::new(node.rt, node.directory, seat);
-    let mut handler = GatedHandler::new(served, node.bell, 0);
-    let session = session_of(node.directory);
-    let ended = dial(connection, session, &mut handler, exchanges);
-    (handler.into_inner().into_seat(), ended)
+impl<S: RoundsTag, H: Wait + Drop, Q: Wait> NodeContext<'_, S, H, Q> {
+    /// A session over a connection, of so many exchanges of digests and deltas, and how it ended. It makes at most the node's
+    /// `max_reads` reads. What it enters is news.
+    fn talk<I: Read, O: Write, K: Ledger>(
+        &self,
+        connection: &mut Connection<I, O, K>,
+        seat: ReaderSeat<S>,
+        exchanges: u64,
+    ) -> (ReaderSeat<S>, Result<Ended, Fault>)
+        requires limit { connection.old.left ≤ self.now.pace.max_reads }
+        ensures later { IsLater seat result.0 }
+        ensures greets { Greets S.settings.cluster S.opening.held.me connection.old.output connection.new.output }
+        ensures reads { connection.new.steps ≤ connection.old.steps + self.now.pace.max_reads }
+    {
+        let served = SeatHandler::new(self.rt, self.directory, seat);
+        let mut handler = GatedHandler::new(served, self.bell, 0);
+        let session = session_of(self.directory);
+        let ended = dial(connection, session, &mut handler, exchanges);
+        (handler.into_inner().into_seat(), ended)
+    }
 }
 
 /// A session over the connection to a peer, which may be idle for the node's `dial_idle`, and how it ended: by `ReadFailed`
@@ -80,7 +82,7 @@ fn dial_stream<S: RoundsTag, H: Wait + Drop, Q: Wait, K: Ledger>(
     let max_reads = node.pace.max_reads;
     let steps = Steps::<K>::new(blank);
     let mut connection = Connection::new(node.alloc, &stream, &stream, max_reads, steps);
-    talk(node, &mut connection, seat, exchanges)
+    node.talk(&mut connection, seat, exchanges)
 }
 
 /// Dials the peer at a path, for so many exchanges, and how that ended: by `ReadFailed` also where the peer can't be reached.

@@ -7,7 +7,7 @@ use sb_directory::{Directory, DirectoryTag, EnteredSeat, ReaderSeat};
 use sb_frames::{Connection, Steps};
 use sb_log::PlainLog;
 use sb_node::NodeCore;
-use sb_run::{OwnWrites, Serving, Stored, serve_control};
+use sb_run::{OwnWrites, Serving, Stored};
 use sb_types::{Delta, Fault};
 use sb_views::NewHistory;
 use std::alloc::Global;
@@ -162,5 +162,5 @@ fn serve_from<
     let (reader, writer) = streams;
     let steps = Steps::<K>::new(blank);
     let mut connection = Connection::new(serving.alloc, reader, writer, serving.max_reads, steps);
-    serve_control(serving, &mut connection, owner, seat)
+    serving.serve_control(&mut connection, owner, seat)
 }
