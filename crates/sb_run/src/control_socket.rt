@@ -111,8 +111,8 @@ impl<S: RoundsTag, H: Wait + Drop, Q> NodeContext<'_, S, H, Q> {
 }
 
 impl<S: RoundsTag, H: Wait + Drop, Q: Wait + Net + Clock> NodeContext<'_, S, H, Q> {
-    /// Serves one connection after another at the control socket, until the node is to end, or ends it where its log has failed
-    /// and it is to exit then.
+    /// Serves one connection after another at the control socket, until the node is to end. It ends the node itself if the log
+    /// failed and the node is to exit then.
     pub(crate) fn serve_control_socket<L: WriteLog + Drop, O: Observer>(
         &self,
         writes: OwnWrites<L>,

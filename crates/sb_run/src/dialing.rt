@@ -19,7 +19,7 @@ use std::os::unix::net::UnixStream;
 use std::sync::Wait;
 use std::sync::ledger::{Blank, Ledger};
 
-/// How many digests it takes to tell of all owners that the node holds, at least 1; none where memory is wanting.
+/// How many digests it takes to cover all owners that the node holds, at least 1; none if memory runs out.
 pub(crate) fn digests_of_all<S: RoundsTag, H: Wait + Drop, Q: Wait>(
     node: &NodeContext<S, H, Q>,
     seat: &mut ReaderSeat<S>,
@@ -62,8 +62,8 @@ impl<S: RoundsTag, H: Wait + Drop, Q: Wait> NodeContext<'_, S, H, Q> {
     }
 }
 
-/// A session over the connection to a peer, which may be idle for the node's `dial_idle`, and how it ended: by `ReadFailed`
-/// also where that limit can't be set. Its reads are the first of a ledger.
+/// A session over the connection to a peer, which may be idle for the node's `dial_idle`, and how it ended. It ends by
+/// `ReadFailed` also if that limit can't be set. Its reads are the first of a ledger.
 fn dial_stream<S: RoundsTag, H: Wait + Drop, Q: Wait, K: Ledger>(
     node: &NodeContext<S, H, Q>,
     stream: UnixStream,
@@ -85,7 +85,7 @@ fn dial_stream<S: RoundsTag, H: Wait + Drop, Q: Wait, K: Ledger>(
     node.talk(&mut connection, seat, exchanges)
 }
 
-/// Dials the peer at a path, for so many exchanges, and how that ended: by `ReadFailed` also where the peer can't be reached.
+/// Dials the peer at a path, for so many exchanges, and how that ended: by `ReadFailed` also if the peer can't be reached.
 pub(crate) fn dial_peer<S: RoundsTag, H: Wait + Drop, Q: Wait + Net>(
     node: &NodeContext<S, H, Q>,
     path: &str,

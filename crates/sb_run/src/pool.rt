@@ -21,17 +21,17 @@ use std::sync::ledger::{Blank, Ledger};
 use std::thread;
 use std::thread::Threads;
 
-/// Where workers get their connections.
+/// What gives workers their connections.
 pub trait Source {
     type In: Read + Drop + Send;
 
     type Out: Write + Drop + Send;
 
-    /// What holds where there are no more connections: nothing need.
+    /// What holds once there are no more connections; it may be nothing.
     ghost over: { Self → Type 0 };
 
-    /// The next connection, with the number of its session, from 1. `None` where there are no more; a fault where one
-    /// could not be had, after which the next may be asked for.
+    /// The next connection, with the number of its session, from 1. `None` once there are no more; a fault if one could not be
+    /// had, after which the next may be asked for.
     fn next(&self) -> Option<Result<(u64, Self::In, Self::Out), Fault>>
         ensures numbered { IfSome result (λ next. IfOk next (λ taken. 0 < taken.0)) }
         ensures over { IfNone result (over self.now) };
@@ -169,7 +169,7 @@ where
     /// Serves the connections of a source until it has no more, with a worker for each seat, each in a thread of its own. The
     /// caller is one of the workers, and does the work of those whose thread can't be made. A session is of the directory's node,
     /// under its name and of its cluster. One that the gate turns away ends with `TurnsSpent`; each makes at most `max_reads`
-    /// reads. The seats come back in their order. Where the gate lets no session apply a delta, none of them made an event or has
+    /// reads. The seats come back in their order. If the gate lets no session apply a delta, none of them made an event or has
     /// seen more. It never refuses.
     pub fn serve_pool<X: Source + Sync, G: Gate + Sync>(
         &self,

@@ -143,8 +143,8 @@ impl<O: Observer + Sync> Dialer<'_, O> {
     }
 }
 
-/// Puts together what the threads left. `StoreFailed` where the calling one ended the node since its log had failed; then the fault
-/// of the rounds.
+/// Puts together what the threads left. `StoreFailed` if the calling one ended the node because its log failed; then the fault of
+/// the rounds.
 fn threads_end<S: RoundsTag>(
     pooled: Pooled<S>,
     dialing: ReaderSeat<S>,
