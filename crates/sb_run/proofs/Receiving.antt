@@ -1,12 +1,14 @@
--- One message out of a connection.
-use Rattle.std.proofs.Common.{◌≡◌, ◌++◌, inl, inr, List, ℕ, Option, Some, None, Result, Ok, Err, refl}
+-- One message out of a connection, and what is sent before it or after.
+use Rattle.std.proofs.Common.{◌≡◌, ◌++◌, inl, inr, List, ℕ, Option, Some, None, Result, Ok, Err, true, refl, sym, ap, subst, ◌∙◌}
+use Rattle.std.specs.Io.KnownBytes.{Keeps, Consumes}
+use Rattle.std.proofs.KnownBytes.{Keeps-refl}
 use Rattle.sb_types.specs.declared.fault.Fault.{Fault}
-use Rattle.sb_types.specs.declared.fault.Fault.TheVariants.{Truncated}
+use Rattle.sb_types.specs.declared.fault.Fault.TheVariants.{Closed, Truncated}
 use Rattle.sb_codec.specs.declared.message.Message.{Message}
 use Rattle.sb_frames.specs.Streams.{Stream, open_with, shut}
-use Rattle.sb_frames.specs.Receiving.{Receives}
-use Rattle.sb_frames.specs.Connections.{Connection}
-use Rattle.sb_run.specs.OneMessage.{ReceivesOneFrom}
+use Rattle.sb_frames.specs.Receiving.{Receives, Stops, is_shut}
+use Rattle.sb_frames.specs.Connections.{Connection, KeepsInput}
+use Rattle.sb_run.specs.OneMessage.{ReceivesOneFrom, ReceivesOne}
 
 pub one_came : (old new : Connection) (m : Message) (stream : Stream) → Receives stream new.stream old.input new.input old.left new.left (Ok (Some m))
     → ReceivesOneFrom stream old new (Ok m)
@@ -22,3 +24,49 @@ pub one_stopped : (old new : Connection) (fault : Fault) (stream : Stream) → R
     → ReceivesOneFrom stream old new (Err fault)
 one_stopped old new fault (open_with held) r = (r.bytes, r.consumed, inr r.given)
 one_stopped old new fault shut r = (cc (r.0), r.1, r.2, r.3)
+
+from_same : (old mid new : Connection) (stream : Stream) (result : Result Message Fault) → mid.input ≡ old.input → mid.left ≡ old.left → ReceivesOneFrom stream mid new result
+    → ReceivesOneFrom stream old new result
+from_same old mid new (open_with held) (Ok m) input left r = (r.0, subst (λ (x : Option (List ℕ)). Consumes x new.input r.0) input r.1, r.2)
+from_same old mid new (open_with held) (Err fault) input left r =
+    (
+      r.0,
+      subst (λ (x : Option (List ℕ)). Consumes x new.input r.0) input r.1,
+      elim r.2 [
+        | inl none ↦ inl none
+        | inr stops ↦ inr (subst (λ (n : ℕ). Stops fault (held ++ r.0) new.stream new.input n new.left) left stops)
+      ],
+    )
+from_same old mid new shut result input left r = (r.0, r.1, subst (λ (x : Option (List ℕ)). Keeps x new.input) input r.2, r.3 ∙ left)
+
+-- what is received from a connection of which nothing was read since
+pub received_from : (old mid new : Connection) (result : Result Message Fault) → mid.input ≡ old.input → mid.stream ≡ old.stream → mid.left ≡ old.left → ReceivesOne mid new result
+    → ReceivesOne old new result
+received_from old mid new result input stream left r =
+    from_same old mid new old.stream result input left (subst (λ (s : Stream). ReceivesOneFrom s mid new result) stream r)
+
+to_same : (old mid new : Connection) (stream : Stream) (m : Message) → KeepsInput mid new → ReceivesOneFrom stream old mid (Ok m) → ReceivesOneFrom stream old new (Ok m)
+to_same old mid new (open_with held) m kept r =
+    (r.0, subst (λ (x : Option (List ℕ)). Consumes old.input x r.0) (sym kept.0) r.1, (r.2.0, r.2.1, kept.1 ∙ r.2.2))
+to_same old mid new shut m kept r = absurd cc (r.0)
+
+-- and nothing is read after it
+pub received_to : (old mid new : Connection) (m : Message) → KeepsInput mid new → ReceivesOne old mid (Ok m) → ReceivesOne old new (Ok m)
+received_to old mid new m kept r = to_same old mid new old.stream m kept r
+
+shut_from : (old new : Connection) (stream : Stream) (fault : Fault) → is_shut stream ≡ true → fault ≡ Closed → stream ≡ old.stream → new ≡ old → ReceivesOneFrom stream old new (Err fault)
+shut_from old new (open_with held) fault e is same unchanged = absurd cc
+shut_from old new shut fault e is same unchanged =
+    (
+      ap Err is,
+      ap (λ (c : Connection). c.stream) unchanged ∙ sym same,
+      subst (λ (c : Connection). Keeps old.input c.input) (sym unchanged) (Keeps-refl old.input),
+      ap (λ (c : Connection). c.left) unchanged,
+    )
+
+-- a connection that is closed gives nothing
+pub none_starts : (old new : Connection) (fault : Fault) → is_shut old.stream ≡ true → fault ≡ Closed → new ≡ old → ReceivesOne old new (Err fault)
+none_starts old new fault e is unchanged = shut_from old new old.stream fault e is refl unchanged
+
+pub keeps_same : (a b : Option (List ℕ)) → b ≡ a → Keeps a b
+keeps_same a b same = subst (λ (x : Option (List ℕ)). Keeps a x) (sym same) (Keeps-refl a)
