@@ -1,14 +1,16 @@
 -- One message out of a connection, and what is sent before it or after.
 use Rattle.std.proofs.Common.{◌≡◌, ◌++◌, inl, inr, List, ℕ, Option, Some, None, Result, Ok, Err, true, refl, sym, ap, subst, ◌∙◌}
-use Rattle.std.specs.Io.KnownBytes.{Keeps, Consumes}
+use Rattle.std.specs.Io.KnownBytes.{Keeps, Appends, Consumes}
 use Rattle.std.proofs.KnownBytes.{Keeps-refl}
 use Rattle.sb_types.specs.declared.fault.Fault.{Fault}
 use Rattle.sb_types.specs.declared.fault.Fault.TheVariants.{Closed, Truncated}
 use Rattle.sb_codec.specs.declared.message.Message.{Message}
+use Rattle.sb_frames.specs.Frames.{frame}
 use Rattle.sb_frames.specs.Streams.{Stream, open_with, shut}
 use Rattle.sb_frames.specs.Receiving.{Receives, Stops, is_shut}
-use Rattle.sb_frames.specs.Connections.{Connection, KeepsInput}
-use Rattle.sb_run.specs.OneMessage.{ReceivesOneFrom, ReceivesOne}
+use Rattle.sb_frames.specs.Sending.{Sends}
+use Rattle.sb_frames.specs.Connections.{Connection, at_start, KeepsInput, KeepsOutput}
+use Rattle.sb_run.specs.OneMessage.{ReceivesOneFrom, ReceivesOne, Asks}
 
 pub one_came : (old new : Connection) (m : Message) (stream : Stream) → Receives stream new.stream old.input new.input old.left new.left (Ok (Some m))
     → ReceivesOneFrom stream old new (Ok m)
@@ -70,3 +72,21 @@ none_starts old new fault e is unchanged = shut_from old new old.stream fault e 
 
 pub keeps_same : (a b : Option (List ℕ)) → b ≡ a → Keeps a b
 keeps_same a b same = subst (λ (x : Option (List ℕ)). Keeps a x) (sym same) (Keeps-refl a)
+
+pub asks_cut : (old start new : Connection) (request : Message) (fault : Fault) → start ≡ at_start old
+    → Sends {X = Unit {0}} start.output new.output (frame request) (Err fault) → KeepsInput start new → Asks request old new (Err fault)
+asks_cut old start new request fault is sends kept =
+    inr (inl (
+      fault,
+      refl,
+      subst (λ (c : Connection). Sends {X = Unit {0}} c.output new.output (frame request) (Err fault)) is sends,
+      subst (λ (c : Connection). KeepsInput c new) is kept,
+    ))
+
+pub asks_answered : (old start mid new : Connection) (request : Message) (result : Result Message Fault) → start ≡ at_start old → Appends start.output mid.output (frame request)
+    → KeepsInput start mid → KeepsOutput mid new → ReceivesOne mid new result → Asks request old new result
+asks_answered old start mid new request result is sent kept still received =
+    inl (
+      subst (λ (x : Option (List ℕ)). Appends old.output x (frame request)) (sym still.0) (subst (λ (c : Connection). Appends c.output mid.output (frame request)) is sent),
+      received_from old mid new result (kept.0 ∙ ap (λ (c : Connection). c.input) is) (kept.1 ∙ ap (λ (c : Connection). c.stream) is) (kept.2 ∙ ap (λ (c : Connection). c.left) is) received,
+    )

@@ -11,9 +11,9 @@ returns-in-Ok-clause-controls g c =
       c.in-Ok.request,
       received_to c.args.connection.now c.receive_first.new.connection c.send-sent.new.self c.in-Ok.request c.send-sent.ensures.kept heard.receives,
       (
-        c.reply_to.result.1,
-        c.reply_to.ensures.answers,
-        subst (λ (x : Option (List ℕ)). Sends x c.send-sent.new.self.output (frame c.reply_to.result.1) c.send-sent.result) heard.output c.send-sent.ensures.sends,
+        c.reply_to-seat.result.1,
+        c.reply_to-seat.ensures.answers,
+        subst (λ (x : Option (List ℕ)). Sends x c.send-sent.new.self.output (frame c.reply_to-seat.result.1) c.send-sent.result) heard.output c.send-sent.ensures.sends,
       ),
     )
 
