@@ -4,7 +4,7 @@ ghost use Rattle.std.specs.Prelude.{◌≡◌, ◌<◌};
 use crate::counting::Output;
 use crate::failure::{Failure, FaultPlace, Obstacle};
 use sb_codec::{Ask, Message, Rows};
-use sb_frames::Steps;
+use sb_frames::{Connection, Steps};
 use sb_listing::print_json_rows;
 use sb_query::{NoAnswer, Pager, PagingFault, ask_all, goes_on, page_in, print_rows, version_in};
 use sb_run::ask_control;
@@ -59,17 +59,9 @@ fn request_answer<K: Ledger>(
     requires parts { blank.parts ≡ K.parts }
     requires some { 0 < blank.parts }
 {
-    let mut steps = Steps::<K>::new(blank);
-    let (mut reader, mut writer) = (stream, stream);
-    let (answer, _) = ask_control(
-        alloc,
-        &mut reader,
-        &mut writer,
-        request,
-        READS_OF_ONE,
-        &mut steps,
-    );
-    answer
+    let steps = Steps::<K>::new(blank);
+    let mut connection = Connection::new(alloc, stream, stream, READS_OF_ONE, steps);
+    ask_control(&mut connection, request)
 }
 
 /// Returns the answer of the node at a control socket. `ReadFailed` if the node cannot be reached, or is silent for a

@@ -7,7 +7,7 @@ use crate::asking::{READS_OF_ONE, is_silent, limit};
 use crate::failure::{Failure, FaultPlace, Obstacle};
 use sb_codec::{Bye, Message};
 use sb_digest::{Digest, Pair};
-use sb_frames::{Frames, LastRead, Steps, receive_within, send};
+use sb_frames::{Connection, Steps};
 use sb_holdings::Report;
 use sb_session::{Handler, Replies, Session};
 use sb_types::{Delta, Fault, KIND_DIGEST, Name, OWNERS_MOST, REASON_ROUNDS_DONE};
@@ -102,16 +102,16 @@ impl Handler for HeardDigests {
     ghost grows_on = { λ old mid new a b. tt };
 }
 
-/// The next message of a session, taken. The faults of `receive_within` and of `Session::take`; `Truncated` where none comes, and at a Bye.
-fn hear<R: Read, L: Ledger>(
-    reader: &mut R,
+/// The next message of a session, taken. Its faults are those of `Connection::receive` and of `Session::take`; `Truncated` at the
+/// end of the node's bytes, and at a Bye.
+fn hear<R: Read, W: Write, L: Ledger>(
+    connection: &mut Connection<R, W, L>,
     session: &mut Session,
     heard: &mut HeardDigests,
-    frames: &mut Frames,
-    left: &mut u64,
-    steps: &mut Steps<L>,
-) -> Result<Replies, Fault> {
-    let Some(message) = receive_within(reader, frames, left, steps, &mut LastRead::new())? else {
+) -> Result<Replies, Fault>
+    ensures unwritten { connection.new.last_write ≡ connection.old.last_write }
+{
+    let Some(message) = connection.receive()? else {
         return Err(Fault::Truncated);
     };
     match session.take(message, heard)? {
@@ -120,18 +120,17 @@ fn hear<R: Read, L: Ledger>(
     }
 }
 
-/// Hears a session until a digest was told, and gives what answers it. The faults of `hear`; `Malformed` of a digest that asks, or that
-/// begins elsewhere than it was to.
-fn hear_digest<R: Read, L: Ledger>(
-    reader: &mut R,
+/// Hears a session until a digest comes, and gives what answers it. Its faults are those of `hear`; `Malformed` of a digest that asks,
+/// or that begins elsewhere than it was to.
+fn hear_digest<R: Read, W: Write, L: Ledger>(
+    connection: &mut Connection<R, W, L>,
     session: &mut Session,
     heard: &mut HeardDigests,
-    frames: &mut Frames,
-    left: &mut u64,
-    steps: &mut Steps<L>,
-) -> Result<Delta, Fault> {
+) -> Result<Delta, Fault>
+    ensures unwritten { connection.new.last_write ≡ connection.old.last_write }
+{
     for _ in 0..u64::MAX {
-        match hear(reader, session, heard, frames, left, steps)? {
+        match hear(connection, session, heard)? {
             Replies::Answered(delta) if !heard.is_broken => return Ok(delta),
             Replies::Answered(_) | Replies::Exchanged(..) => {
                 return Err(Fault::Malformed(KIND_DIGEST));
@@ -142,33 +141,31 @@ fn hear_digest<R: Read, L: Ledger>(
     Err(Fault::TurnsSpent)
 }
 
-/// A whole session: Hello, as many exchanges as it takes until all owners were told, and Bye. Nothing is asked before the node's Hello
-/// came, since a node ends a session that it refuses. The faults of `hear_digest` and of `send`; `TurnsSpent` where more digests are told
-/// than there may be owners, or where more reads are needed than it may take.
+/// A whole session: Hello, as many exchanges as it takes until the node told of all owners, and Bye. It asks nothing before the node's
+/// Hello came, since a node ends a session that it refuses. Its faults are those of `hear_digest` and of `Connection::send`; `TurnsSpent`
+/// if the node has more digests than there may be owners, or if the session needs more reads than the connection has.
 fn hear_all<R: Read, W: Write, L: Ledger>(
-    reader: &mut R,
-    writer: &mut W,
+    connection: &mut Connection<R, W, L>,
     session: Session,
     heard: &mut HeardDigests,
-    steps: &mut Steps<L>,
 ) -> Result<(), Fault> {
-    let alloc = heard.alloc;
-    let (mut session, mut left, mut frames) = (session, READS_OF_ONE, Frames::new(alloc));
-    send(alloc, writer, &session.hello())?;
-    let _ = hear(reader, &mut session, heard, &mut frames, &mut left, steps)?;
+    let mut session = session;
+    connection.start()?;
+    connection.send(&session.hello())?;
+    let _ = hear(connection, &mut session, heard)?;
     for _ in 0..OWNERS_MOST {
         let asked = session.ask(heard)?;
-        send(alloc, writer, &asked)?;
-        let delta = hear_digest(reader, &mut session, heard, &mut frames, &mut left, steps)?;
-        send(alloc, writer, &Message::Delta(delta))?;
+        connection.send(&asked)?;
+        let delta = hear_digest(connection, &mut session, heard)?;
+        connection.send(&Message::Delta(delta))?;
         if heard.is_whole {
-            return send(alloc, writer, &Message::Bye(Bye::new(REASON_ROUNDS_DONE)?));
+            return connection.send(&Message::Bye(Bye::new(REASON_ROUNDS_DONE)?));
         }
     }
     Err(Fault::TurnsSpent)
 }
 
-/// A session over a connection, in which nothing was read before.
+/// A session over a stream of which nothing was read before.
 fn hear_from<L: Ledger>(
     stream: &UnixStream,
     session: Session,
@@ -179,9 +176,9 @@ fn hear_from<L: Ledger>(
     requires parts { blank.parts ≡ L.parts }
     requires some { 0 < blank.parts }
 {
-    let mut steps = Steps::<L>::new(blank);
-    let (mut reader, mut writer) = (stream, stream);
-    hear_all(&mut reader, &mut writer, session, heard, &mut steps)
+    let steps = Steps::<L>::new(blank);
+    let mut connection = Connection::new(heard.alloc, stream, stream, READS_OF_ONE, steps);
+    hear_all(&mut connection, session, heard)
 }
 
 /// Prints how far each owner is held, a line for each. `NoMemory`; `WriteFailed`.

@@ -6,7 +6,7 @@ use crate::report::{Measured, spent_since};
 use crate::sample::{ME, hear, new_node};
 use sb_codec::Message;
 use sb_digest::Digest;
-use sb_frames::{Frames, send_from};
+use sb_frames::{Frames, send};
 use sb_holdings::Report;
 use sb_node::NodeCore;
 use sb_session::{Replies, Session};
@@ -24,12 +24,12 @@ pub(crate) struct CatchUpFigures {
     pub(crate) content: u64,
 }
 
-/// One end: its session, what it has read, and the buffer of the frames that it sends.
+/// One end: its session, and what it has read.
 #[derive(Drop)]
 struct End {
     session: Session,
     frames: Frames,
-    buffer: Vec<u8>,
+    alloc: Global,
     sent: u64,
     entered: u64,
 }
@@ -39,7 +39,7 @@ impl End {
         End {
             session: Session::new(core.settings().cluster(), *core.name()),
             frames: Frames::new(alloc),
-            buffer: Vec::new(alloc),
+            alloc,
             sent: 0,
             entered: 0,
         }
@@ -47,8 +47,7 @@ impl End {
 
     fn say(&mut self, pipe: &mut Vec<u8>, message: &Message) -> Result<(), Fault> {
         self.sent = self.sent.saturating_add(1);
-        let (sent, _) = send_from(&mut self.buffer, pipe, message);
-        sent
+        send(self.alloc, pipe, message)
     }
 
     fn greet(&mut self, pipe: &mut Vec<u8>) -> Result<(), Fault> {

@@ -3,7 +3,7 @@ ghost use Rattle.std.specs.Prelude.{◌≡◌, ◌<◌};
 
 use crate::got;
 use crate::making::name;
-use sb_frames::Steps;
+use sb_frames::{Connection, Steps};
 use sb_session::{Ended, Handler, Session, serve};
 use sb_testing::streams::{Hearing, Pieces};
 use sb_testing::wire::{SAID_BY_A, SAID_BY_B};
@@ -39,18 +39,11 @@ fn talk_on<L: Ledger, H: Handler>(
     requires parts { blank.parts ≡ L.parts }
     requires some { 0 < blank.parts }
 {
-    let mut steps = Steps::<L>::new(blank);
-    let mut reader = Pieces::new(SAID_BY_A, piece, false);
-    let mut writer = new_hearing(rt, alloc);
-    let (ended, _) = serve(
-        alloc,
-        &mut reader,
-        &mut writer,
-        session(rt),
-        handler,
-        99,
-        &mut steps,
-    );
+    let reader = Pieces::new(SAID_BY_A, piece, false);
+    let writer = new_hearing(rt, alloc);
+    let mut connection = Connection::new(alloc, reader, writer, 99, Steps::<L>::new(blank));
+    let ended = serve(&mut connection, session(rt), handler);
+    let (_, writer) = connection.into_parts();
     (got(rt, ended), writer.bytes.as_slice() == SAID_BY_B)
 }
 

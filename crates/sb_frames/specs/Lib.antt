@@ -3,3 +3,4 @@ pub mod Streams
 pub mod Runs
 pub mod Sending
 pub mod Receiving
+pub mod Connections

@@ -19,7 +19,7 @@ use std::sync::ledger::Ledger;
 /// How many bytes a read asks for.
 pub const READ_LENGTH: usize = 4_096;
 
-/// The message of a whole frame, which is let go of then. `Malformed` and `NoMemory`, with the frame as it was.
+/// The message of a whole frame, which is then let go. `Malformed` and `NoMemory`, with the frame as it was.
 fn take_frame(alloc: Global, frame: &mut Bytes) -> Result<Message, Fault>
     requires { IsLoneFrame frame.old }
     ensures message { IfOk result (λ message. Leads frame.old message []) }
@@ -35,9 +35,9 @@ fn take_frame(alloc: Global, frame: &mut Bytes) -> Result<Message, Fault>
     Ok(message)
 }
 
-/// The message of the first frame, taken out; nothing where less than a frame is held. A frame whose message takes memory
-/// is split off and shared with its reader, and waits by itself until there is memory for its message. Any other is read
-/// where it lies, since its faults are of its bytes alone.
+/// Takes the message of the first frame out; nothing if less than a frame is held. A frame whose message takes memory is split
+/// off and shared with its reader, and waits by itself until there is memory for its message. Any other is read in place, since
+/// its faults are of its bytes alone.
 fn take_first(frame: &mut Bytes, buffer: &mut BytesMut) -> Result<Option<Message>, Fault>
     requires { (frame.old ≡ []) ⊎ IsLoneFrame frame.old }
     ensures alone { (frame.new ≡ []) ⊎ IsLoneFrame frame.new }
@@ -74,9 +74,9 @@ fn take_first(frame: &mut Bytes, buffer: &mut BytesMut) -> Result<Option<Message
 /// The test `the_example_of_frames` runs these lines.
 #[derive(Debug, Drop)]
 pub struct Frames {
-    /// A whole frame whose message found no memory, or nothing.
+    /// A whole frame that found no memory for its message, or nothing.
     frame: Bytes,
-    /// What stands behind it.
+    /// What follows it.
     buffer: BytesMut,
     is_closed: bool,
 }
@@ -118,10 +118,12 @@ impl Frames {
         Ok(())
     }
 
-    /// The next message, taken out; nothing where less than a frame is held. `Closed` after a faulty
-    /// frame; `BadMark`, `BadVersion`, `BadLength`, `UnknownKind` or `Malformed` of the frame that
-    /// comes next, as soon as it can be told, and it is closed from then on; `NoMemory` of a whole
-    /// frame, with nothing changed.
+    /// Takes the next message out; nothing if less than a frame is held. Its faults:
+    ///
+    /// - `Closed` after a faulty frame.
+    /// - `BadMark`, `BadVersion`, `BadLength`, `UnknownKind` or `Malformed` of the next frame, as soon as its bytes show it. The
+    ///   stream is closed from then on.
+    /// - `NoMemory` of a whole frame, with nothing changed.
     pub fn next(&mut self) -> Result<Option<Message>, Fault>
         ensures { TakesNext self.old result self.new }
     {
@@ -147,8 +149,8 @@ impl Frames {
         self.frame.len() + self.buffer.len()
     }
 
-    /// At the end of the stream: `Truncated` where a byte that was fed was not handed out in a message.
-    /// After a faulty frame none is left. It takes no memory.
+    /// At the end of the stream: `Truncated` if a byte that was fed was not handed out in a message. After a faulty frame no byte
+    /// is left. It takes no memory.
     pub fn end(&self) -> Result<(), Fault>
         ensures { result ≡ end_of self.now }
     {
@@ -165,8 +167,8 @@ impl Frames {
         self.is_closed
     }
 
-    /// Makes one read, and says how many bytes it gave; none at the end. `NoMemory` before the read, with
-    /// nothing changed; then `TurnsSpent` and `ReadFailed`, where no byte has come.
+    /// Makes one read, and gives how many bytes came; none at the end. `NoMemory` before the read, with nothing changed; then
+    /// `TurnsSpent` and `ReadFailed`, if no byte has come.
     pub(crate) fn fill<R: Read, L: Ledger>(
         &mut self,
         reader: &mut R,

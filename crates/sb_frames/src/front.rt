@@ -1,11 +1,11 @@
-//! What stands at the front of bytes.
+//! What is at the front of bytes.
 
 ghost use Rattle.std.specs.Prelude.{◌≡◌, ◌+◌, drop, length, IfOk, IfErr, IfNone, IfSome};
 ghost use Rattle.sb_frames.specs.Frames.{short, bad, front_of, IsFramed};
 
 use sb_types::{FRAME_MARK, FRAME_VERSION, Fault, HEADER_LENGTH, PAYLOAD_MOST};
 
-/// The payload of the first frame, where all of it has come.
+/// The payload of the first frame, if all of it has come.
 pub(crate) fn payload_in(bytes: &[u8]) -> Result<Option<&[u8]>, Fault>
     ensures none { IfOk result (λ found. IfNone found (front_of bytes.now ≡ short)) }
     ensures payload { IfOk result (λ found. IfSome found (λ payload.

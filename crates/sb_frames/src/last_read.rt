@@ -10,10 +10,10 @@ use std::io::{self, ErrorKind, Read};
 use std::marker::Model;
 use std::sync::ledger::Ledger;
 
-/// What the last read of a call answered. Each call that reads makes it anew, and only a read changes it: so it tells of no
-/// read that was made before the call.
+/// What the last read of a call answered. Each call that reads sets it back first, and then only a read changes it. So it is of
+/// no read that was made before the call.
 #[derive(Debug, Drop)]
-pub struct LastRead {
+pub(crate) struct LastRead {
     has_failed: bool,
 }
 
@@ -27,20 +27,20 @@ impl Model for LastRead {
 
 impl LastRead {
     /// Nothing was read yet.
-    pub fn new() -> LastRead
+    pub(crate) fn new() -> LastRead
         ensures { result ≡ false }
     {
         LastRead { has_failed: false }
     }
 
-    /// Whether it failed, and was not interrupted; not where nothing was read yet.
-    pub fn has_failed(&self) -> bool
+    /// Whether it failed and was not interrupted; false if nothing was read yet.
+    pub(crate) fn has_failed(&self) -> bool
         ensures { result ≡ self.now }
     {
         self.has_failed
     }
 
-    /// One read, where none failed before. No other function of this crate reads from a reader.
+    /// One read, if none failed before. No other function of this crate reads from a reader.
     pub(crate) fn read<R: Read, L: Ledger>(
         &mut self,
         reader: &mut R,

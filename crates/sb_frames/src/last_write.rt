@@ -33,8 +33,8 @@ fn times_of(outcome: Outcome) -> u32
     }
 }
 
-/// What the last write of a call answered. Each call that writes makes its own, and only a write to a writer changes it: so it
-/// tells of no write that was made before the call. After one that failed no other is made.
+/// What the last write of a call answered. Each call that writes begins with a new one, and then only a write changes it. So it
+/// is of no write that was made before the call. After a write that failed no other is made.
 #[derive(Debug, Drop)]
 pub struct LastWrite {
     outcome: Outcome,
@@ -58,8 +58,7 @@ impl LastWrite {
         }
     }
 
-    /// Whether it failed, took no byte, or was interrupted as more than 1,000 in a row were; not where nothing was
-    /// written yet.
+    /// Whether it failed, took no byte, or was interrupted after 1,000 others in a row. False if nothing was written yet.
     pub fn has_failed(&self) -> bool
         ensures { result ≡ has_failed self.now }
     {
@@ -70,7 +69,7 @@ impl LastWrite {
         }
     }
 
-    /// One write of some bytes, where the last one did not fail. No other function of this crate writes to a writer.
+    /// One write of some bytes, if the last one did not fail. No other function of this crate writes to a writer.
     #[tactic(auto, using(crate::proofs::Outcomes::few_times))]
     pub(crate) fn write<W: Write>(&mut self, writer: &mut W, bytes: &[u8]) -> io::Result<usize>
         requires some { 0 < length bytes.now }

@@ -12,7 +12,7 @@ ghost use Rattle.sb_frames.specs.Runs.{Call, Run, bytes_fed, messages_taken, IsL
 
 use sb_types::{BUDGET_MOST, HEADER_LENGTH};
 
-/// A message's frame is read as that message, whatever stands behind it.
+/// A message's frame is read as that message, whatever follows it.
 pub fn frames_are_read()
     ensures { (message : Message) (rest : List ℕ) → is_message message ≡ true → front_of (frame message ++ rest) ≡ whole message rest }
 {}
@@ -30,7 +30,7 @@ pub fn frames_have_a_length()
         (HEADER_LENGTH < length (frame message)) × (length (frame message) ≤ BUDGET_MOST) }
 {}
 
-/// Once a frame is whole or faulty, no bytes behind it change that.
+/// Once a frame is whole or faulty, no bytes after it change that.
 pub fn verdicts_stand()
     ensures { (bytes more : List ℕ) → Extends (front_of bytes) more (front_of (bytes ++ more)) }
 {}
@@ -53,9 +53,9 @@ pub fn streams_have_one_reading()
         Splits stream messages rest → Splits stream others other → (others ≡ messages) × (other ≡ rest) }
 {}
 
-/// Whatever calls are made, with whatever pieces, the bytes that were fed are the messages that were taken
-/// out and a rest, which is held or begins with a faulty frame. Once no message is left to be taken out,
-/// they are the messages of the one reading of those bytes.
+/// Whatever calls are made, with whatever pieces, the bytes that were fed are the messages that were taken out and a rest. The
+/// rest is held or begins with a faulty frame. Once no message is left to be taken out, they are the messages of the one reading
+/// of those bytes.
 pub fn pieces_do_not_matter()
     ensures accounts { (calls : List Call) (new : Stream) → Run (open_with []) calls new →
         Accounts (bytes_fed calls) (messages_taken calls) new }

@@ -1,7 +1,8 @@
 //! The frames that carry messages: sent whole, and read out of a stream that comes in any pieces.
 //!
-//! `send` writes a message as one frame, and `Frames` gives the messages of a stream, in whatever pieces its bytes come. After
-//! a faulty frame the stream is closed. The crate stands on `sb_codec`; sessions and control sockets talk through it.
+//! A `Connection` is a reader and a writer of messages: sessions and control sockets talk over it. Below it `send` writes a
+//! message as one frame, and `Frames` gives the messages of a stream, in whatever pieces its bytes come. After a faulty frame
+//! the stream is closed. The crate uses `sb_codec`.
 //!
 //! ```rust
 //! /// The frame of the message that ends a session whose rounds are done.
@@ -20,6 +21,7 @@
 //! ```
 #![tactic(auto)]
 
+mod connection;
 mod frames;
 mod front;
 mod last_read;
@@ -29,14 +31,14 @@ mod receiving;
 mod sending;
 mod steps;
 
+pub use connection::Connection;
 pub use frames::{Frames, READ_LENGTH};
-pub use last_read::LastRead;
 pub use last_write::LastWrite;
 pub use laws::{
     a_read_has_this_length, faults_are_of_the_bytes, frames_are_read, frames_have_a_length,
     only_frames_are_read, parts_of_frames_are_short, pieces_do_not_matter,
     streams_have_one_reading, verdicts_stand,
 };
-pub use receiving::{receive, receive_within};
-pub use sending::{frame_of, send, send_from, send_on, send_telling, write_counted, write_on};
-pub use steps::{Steps, read_telling, read_within};
+pub use receiving::receive;
+pub use sending::{frame_of, send, send_telling, write_counted};
+pub use steps::{Steps, read_within};

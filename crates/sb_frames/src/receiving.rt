@@ -12,7 +12,7 @@ use sb_types::Fault;
 use std::io::Read;
 use std::sync::ledger::Ledger;
 
-/// The next message, of frames that are not closed.
+/// The next message of frames that are not closed.
 fn receive_open<R: Read, L: Ledger>(
     reader: &mut R,
     frames: &mut Frames,
@@ -37,15 +37,10 @@ fn receive_open<R: Read, L: Ledger>(
     }
 }
 
-/// The next message of a stream, with as many reads of it as are left; nothing at an end between frames.
-/// What is held is handed out before anything is read. `left` is what is left after the call.
-///
-/// `Closed` after a faulty frame; `BadMark`, `BadVersion`, `BadLength`, `UnknownKind` or `Malformed` of
-/// the frame that comes next, and the frames are closed from then on; `ReadFailed`; `Truncated` at an end
-/// inside a frame; `TurnsSpent` where one more read is needed than were left; `NoMemory`. After the last
-/// four every byte that was read is held, and the call may be made again. `last` tells what the last read of the
-/// call answered.
-pub fn receive_within<R: Read, L: Ledger>(
+/// The next message of a stream, with as many reads of it as are left; nothing at an end between frames. What is held is
+/// handed out before anything is read. `left` is what is left after the call. Its faults are those of `receive`; `last` is
+/// what the last read of the call answered.
+pub(crate) fn receive_within<R: Read, L: Ledger>(
     reader: &mut R,
     frames: &mut Frames,
     left: &mut u64,
@@ -67,8 +62,19 @@ pub fn receive_within<R: Read, L: Ledger>(
     receive_open(reader, frames, left, steps, last)
 }
 
-/// The next message of a stream, with at most `max_reads` reads; nothing at an end between frames. Its
-/// faults are those of `receive_within`.
+/// The next message of a stream, with at most `max_reads` reads; nothing at an end between frames. What is held is handed out
+/// before anything is read.
+///
+/// Its faults:
+///
+/// - `Closed` after a faulty frame.
+/// - `BadMark`, `BadVersion`, `BadLength`, `UnknownKind` or `Malformed` of the next frame. The frames are closed from then on.
+/// - `ReadFailed`.
+/// - `Truncated` at an end inside a frame.
+/// - `TurnsSpent` if the call needs one more read than `max_reads`.
+/// - `NoMemory`.
+///
+/// After the last four faults every byte that was read is held, and the call may be made again.
 pub fn receive<R: Read, L: Ledger>(
     reader: &mut R,
     frames: &mut Frames,

@@ -11,8 +11,8 @@ use sb_types::{FRAME_MARK, FRAME_VERSION, Fault, HEADER_LENGTH};
 use std::alloc::Global;
 use std::io::Write;
 
-/// Puts the message's frame into a buffer, in place of what was in it. It takes memory only where the buffer
-/// has no room for it. `NoMemory` is its only fault.
+/// Puts the message's frame into a buffer, in place of what was in it. It takes memory only if the buffer has no room for the
+/// frame. `NoMemory` is its only fault.
 fn write_frame(buffer: &mut Vec<u8>, message: &Message) -> Result<(), Fault>
     ensures frame { OnOk result (buffer.new.items ≡ frame message.now) }
     ensures limits { OnOk result (is_message message.now ≡ true) }
@@ -38,10 +38,10 @@ pub fn frame_of(alloc: Global, message: &Message) -> Result<Vec<u8>, Fault>
     Ok(frame)
 }
 
-/// Writes all of the bytes, behind a write that did not fail, and tells what the last one answered. `WriteFailed` with how
-/// many were written, always fewer than all. A write that takes no byte has failed, and so has one that was interrupted
-/// 1,001 times in a row; after fewer it is made again.
-pub fn write_on<W: Write>(writer: &mut W, bytes: &[u8], last: &mut LastWrite) -> Result<(), Fault>
+/// Writes all of the bytes after a write that did not fail. `last` is what the last write answered. `WriteFailed` with how
+/// many bytes were written, always fewer than all. A write that takes no byte has failed, and so has one that was
+/// interrupted 1,001 times in a row. After fewer interruptions it is made again.
+fn write_on<W: Write>(writer: &mut W, bytes: &[u8], last: &mut LastWrite) -> Result<(), Fault>
     requires goes_on { has_failed last.old ≡ false }
     ensures sends { Sends (W.contents writer.old) (W.contents writer.new) bytes.now result }
     ensures failed { OnlyWhereFailed result last.new }
@@ -60,7 +60,9 @@ pub fn write_on<W: Write>(writer: &mut W, bytes: &[u8], last: &mut LastWrite) ->
     Ok(())
 }
 
-/// Writes all of the bytes as `write_on` does, and tells what the last write of the call answered.
+/// Writes all of the bytes, and gives what the last write of the call answered. `WriteFailed` with how many bytes were
+/// written, always fewer than all. A write that takes no byte has failed, and so has one that was interrupted 1,001 times in a
+/// row. After fewer interruptions it is made again.
 pub fn write_counted<W: Write>(writer: &mut W, bytes: &[u8]) -> (Result<(), Fault>, LastWrite)
     ensures sends { Sends (W.contents writer.old) (W.contents writer.new) bytes.now result.0 }
     ensures failed { OnlyWhereFailed result.0 result.1 }
@@ -71,10 +73,10 @@ pub fn write_counted<W: Write>(writer: &mut W, bytes: &[u8]) -> (Result<(), Faul
     (answer, last)
 }
 
-/// Writes the message's frame out of a buffer that is kept from one message to the next, behind a write that did not fail,
-/// and tells what the last one answered. It takes memory only where the buffer has no room for the frame. The faults of
-/// `send`.
-pub fn send_on<W: Write>(
+/// Writes the message's frame out of a buffer that is kept from one message to the next. The last write must not have failed,
+/// and `last` is then what the last one answered. It takes memory only if the buffer has no room for the frame. Its faults are
+/// those of `send`.
+pub(crate) fn send_on<W: Write>(
     buffer: &mut Vec<u8>,
     writer: &mut W,
     message: &Message,
@@ -90,22 +92,7 @@ pub fn send_on<W: Write>(
     write_on(writer, buffer, last)
 }
 
-/// Writes the message's frame as `send_on` does, and tells what the last write of the call answered.
-pub fn send_from<W: Write>(
-    buffer: &mut Vec<u8>,
-    writer: &mut W,
-    message: &Message,
-) -> (Result<(), Fault>, LastWrite)
-    ensures sends { Sends (W.contents writer.old) (W.contents writer.new) (frame message.now) result.0 }
-    // A write that did not fail, or that was made before the call, is no reason to stop.
-    ensures failed { OnlyWhereFailed result.0 result.1 }
-{
-    let mut last = LastWrite::new();
-    let sent = send_on(buffer, writer, message, &mut last);
-    (sent, last)
-}
-
-/// Writes the message's frame, and tells what the last write of the call answered. The faults of `send`.
+/// Writes the message's frame, and gives what the last write of the call answered. Its faults are those of `send`.
 pub fn send_telling<W: Write>(
     alloc: Global,
     writer: &mut W,
@@ -114,11 +101,13 @@ pub fn send_telling<W: Write>(
     ensures sends { Sends (W.contents writer.old) (W.contents writer.new) (frame message.now) result.0 }
     ensures failed { OnlyWhereFailed result.0 result.1 }
 {
-    send_from(&mut Vec::new(alloc), writer, message)
+    let mut last = LastWrite::new();
+    let sent = send_on(&mut Vec::new(alloc), writer, message, &mut last);
+    (sent, last)
 }
 
-/// Writes the message's frame. `NoMemory`, with nothing written; `WriteFailed` with how many bytes of
-/// the frame were written, always fewer than all. A write that takes no byte has failed.
+/// Writes the message's frame. `NoMemory`, with nothing written; `WriteFailed` with how many of its bytes were written, always
+/// fewer than all. A write that takes no byte has failed.
 pub fn send<W: Write>(alloc: Global, writer: &mut W, message: &Message) -> Result<(), Fault>
     ensures { Sends (W.contents writer.old) (W.contents writer.new) (frame message.now) result }
 {

@@ -11,7 +11,7 @@ use std::io::{self, Read};
 use std::marker::Model;
 use std::sync::ledger::{Blank, Book, Ledger, Share};
 
-/// How many reads were made. It has no bytes, and only a read changes it.
+/// How many reads were made. It takes no bytes of memory, and only a read changes it.
 #[derive(Drop)]
 pub struct Steps<L: Ledger> {
     book: Book<L>,
@@ -51,10 +51,9 @@ impl<L: Ledger> Steps<L> {
     }
 }
 
-/// Reads some bytes, none at the end, with as many reads as are left, and tells what the last one answered. A read that
-/// was interrupted is made again, and none behind one that failed. `TurnsSpent` where one more read is needed than were
-/// left; `ReadFailed`. `left` is what is left after the call.
-pub fn read_telling<R: Read, L: Ledger>(
+/// Reads some bytes as `read_within` does. `last` is what the last read of the call answered. No read is made after one that
+/// failed.
+pub(crate) fn read_telling<R: Read, L: Ledger>(
     reader: &mut R,
     bytes: &mut [u8],
     left: &mut u64,
@@ -78,7 +77,8 @@ pub fn read_telling<R: Read, L: Ledger>(
     Err(Fault::TurnsSpent)
 }
 
-/// Reads some bytes as `read_telling` does.
+/// Reads some bytes, none at the end, with as many reads as are left. A read that was interrupted is made again. `TurnsSpent`
+/// if it needs one more read than were left; `ReadFailed`. `left` is what is left after the call.
 pub fn read_within<R: Read, L: Ledger>(
     reader: &mut R,
     bytes: &mut [u8],

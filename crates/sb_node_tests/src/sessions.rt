@@ -4,7 +4,7 @@ ghost use Rattle.std.specs.Prelude.{◌≡◌, ◌<◌};
 use crate::node::{applied, log_of, node, write};
 use crate::{got, key, name, one, push, same, same_at, settled, there};
 use sb_codec::Message;
-use sb_frames::Steps;
+use sb_frames::{Connection, Steps};
 use sb_node::NodeCore;
 use sb_session::{Ended, Session, dial, serve};
 use sb_testing::streams::{Hearing, Pieces};
@@ -61,30 +61,13 @@ fn talk_on<L: Ledger>(
     requires parts { blank.parts ≡ L.parts }
     requires some { 0 < blank.parts }
 {
-    let mut steps = Steps::<L>::new(blank);
-    let mut reader = Pieces::new(terms.said, terms.piece, terms.breaks);
-    let (ended, _) = match terms.rounds {
-        None => serve(
-            alloc,
-            &mut reader,
-            writer,
-            session,
-            core,
-            terms.reads,
-            &mut steps,
-        ),
-        Some(rounds) => dial(
-            alloc,
-            &mut reader,
-            writer,
-            session,
-            core,
-            rounds,
-            terms.reads,
-            &mut steps,
-        ),
-    };
-    ended
+    let steps = Steps::<L>::new(blank);
+    let reader = Pieces::new(terms.said, terms.piece, terms.breaks);
+    let mut connection = Connection::new(alloc, reader, writer, terms.reads, steps);
+    match terms.rounds {
+        None => serve(&mut connection, session, core),
+        Some(rounds) => dial(&mut connection, session, core, rounds),
+    }
 }
 
 /// How a talk ended, and whether it wrote just these bytes.

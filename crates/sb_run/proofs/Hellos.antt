@@ -2,17 +2,19 @@
 use Rattle.std.proofs.Common.{◌≡◌, ℕ, true, ◌⊎◌, inl, inr, List, [], ◌∷◌, ◌++◌, length, take, drop, Option, Result, refl, sym, ap, subst, arith, append_assoc, length-append}
 use Rattle.std.specs.List.{flat_map}
 use Rattle.std.specs.Io.KnownBytes.{Appends}
-use Rattle.std.proofs.KnownBytes.{Appends-trans}
+use Rattle.std.proofs.KnownBytes.{Appends-trans, Appends-nil}
 use Rattle.std.proofs.lemmas.List.{take-append-drop}
 use mathlib.Core.List.{IsPrefix}
 use Rattle.sb_types.specs.declared.fault.Fault.{Fault}
 use Rattle.sb_codec.specs.declared.message.Message.{Message}
 use Rattle.sb_frames.specs.Frames.{frame}
+use Rattle.sb_frames.specs.Streams.{Stream, open_with, shut}
+use Rattle.sb_frames.specs.Connections.{Connection}
 use Rattle.sb_session.specs.declared.talk.Ended.{Ended}
 use Rattle.sb_session.specs.Handlers.{Act}
 use Rattle.sb_session.specs.Sessions.{Session, new_session, hello_of}
 use Rattle.sb_session.specs.Telling.{CutShort}
-use Rattle.sb_session.specs.Talks.{Party, party_of, Move, in_hello, in_last, Cuts, Ends, at_end, at_bye, at_rounds, at_reading, at_message, at_speaking, at_writing, Talks}
+use Rattle.sb_session.specs.Talks.{Party, party_of, Move, Course, in_hello, in_last, Cuts, Ends, at_end, at_bye, at_rounds, at_reading, at_message, at_speaking, at_writing, TalksFrom, Talks}
 use Rattle.sb_run.specs.Hellos.{Greets}
 
 -- the frame of this message is put out first, or its front
@@ -39,10 +41,10 @@ one_cut : (m : Message) (old new : Option (List ℕ)) (fault : Fault) → CutSho
 one_cut m old new fault cut =
     (flat_map frame cut.sent ++ take cut.count (frame cut.last), cut.put_out, inr (front_of_one m cut.sent cut.last cut.unsent cut.count cut.all))
 
-cuts_begin : {H : Type 0} (step : H → Act → H → Type 0) (a : Party H) (moves : List Move) (said : List Message) (b : Party H) (old new : Option (List ℕ)) (fault : Fault)
-    → Cuts step a moves said b old new fault → BeginsWith (hello_of a.session) old new
-cuts_begin step a moves said b old new fault (in_hello none cut) = one_cut (hello_of a.session) old new fault cut
-cuts_begin step a moves said b old new fault (in_last front move before more now mid is all run moved out cut) =
+cuts_begin : {H : Type 0} (step : H → Act → H → Type 0) (a : Party H) (course : Course step a) (old new : Option (List ℕ)) (fault : Fault)
+    → Cuts step a course old new fault → BeginsWith (hello_of a.session) old new
+cuts_begin step a course old new fault (in_hello none cut) = one_cut (hello_of a.session) old new fault cut
+cuts_begin step a course old new fault (in_last front move before more now mid is all run moved out cut) =
     let hello = frame (hello_of a.session) in
     let rest = flat_map frame cut.sent ++ take cut.count (frame cut.last) in (
       (hello ++ flat_map frame before) ++ rest,
@@ -50,20 +52,29 @@ cuts_begin step a moves said b old new fault (in_last front move before more now
       inl (flat_map frame before ++ rest, sym (append_assoc hello (flat_map frame before) rest)),
     )
 
-ends_begin : {H : Type 0} (step : H → Act → H → Type 0) (a : Party H) (moves : List Move) (said : List Message) (b : Party H) (h : H) (held : List ℕ)
-    (to old new : Option (List ℕ)) (before left : ℕ) (result : Result Ended Fault)
-    → Ends step a moves said b h held to old new before left result → BeginsWith (hello_of a.session) old new
-ends_begin step a moves said b h held to old new before left result (at_end is speaks done none end same out) = whole_first (hello_of a.session) said old new out
-ends_begin step a moves said b h held to old new before left result (at_bye reason front is moved same out) = whole_first (hello_of a.session) said old new out
-ends_begin step a moves said b h held to old new before left result (at_rounds is speaks done same out) = whole_first (hello_of a.session) said old new out
-ends_begin step a moves said b h held to old new before left result (at_reading fault rest is speaks done stops same out) = whole_first (hello_of a.session) said old new out
-ends_begin step a moves said b h held to old new before left result (at_message fault message rest is front refuses out) = whole_first (hello_of a.session) said old new out
-ends_begin step a moves said b h held to old new before left result (at_speaking fault is refuses out) = whole_first (hello_of a.session) said old new out
-ends_begin step a moves said b h held to old new before left result (at_writing fault is cuts same) = cuts_begin step a moves said b old new fault cuts
+ends_begin : {H : Type 0} (step : H → Act → H → Type 0) (a : Party H) (course : Course step a) (h : H) (held : List ℕ) (old new : Connection) (result : Result Ended Fault)
+    → Ends step a course h held old new result → BeginsWith (hello_of a.session) old.output new.output
+ends_begin step a course h held old new result (at_end is listens none end same stays) = whole_first (hello_of a.session) course.said old.output new.output stays.put_out
+ends_begin step a course h held old new result (at_bye reason front is moved same stays) = whole_first (hello_of a.session) course.said old.output new.output stays.put_out
+ends_begin step a course h held old new result (at_rounds is speaks done same stays) = whole_first (hello_of a.session) course.said old.output new.output stays.put_out
+ends_begin step a course h held old new result (at_reading fault is listens stops same out) = whole_first (hello_of a.session) course.said old.output new.output out
+ends_begin step a course h held old new result (at_message fault message rest is front refuses stays) = whole_first (hello_of a.session) course.said old.output new.output stays.put_out
+ends_begin step a course h held old new result (at_speaking fault is refuses stays) = whole_first (hello_of a.session) course.said old.output new.output stays.put_out
+ends_begin step a course h held old new result (at_writing fault is cuts same held_on) = cuts_begin step a course old.output new.output fault cuts
+
+-- nothing is the front of any frame
+none_first : (m : Message) (output : Option (List ℕ)) → BeginsWith m output output
+none_first m output = ([], Appends-nil output, inr (frame m, refl))
+
+talks_begin : {H : Type 0} (step : H → Act → H → Type 0) (a : Party H) (h : H) (stream : Stream) (old new : Connection) (result : Result Ended Fault)
+    → TalksFrom step a h stream old new result → BeginsWith (hello_of a.session) old.output new.output
+talks_begin step a h (open_with begun) old new result talks = ends_begin step a talks.course h talks.held old new result talks.ends
+talks_begin step a h shut old new result talks =
+    subst (λ (c : Connection). BeginsWith (hello_of a.session) old.output c.output) (sym talks.2) (none_first (hello_of a.session) old.output)
 
 pub talks_greet : {H : Type 0} (step : H → Act → H → Type 0) (rounds : Option ℕ) (cluster me : List ℕ) (session : Session) (first h : H)
-    (from to old new : Option (List ℕ)) (before left : ℕ) (result : Result Ended Fault) → session ≡ new_session cluster me
-    → Talks step (party_of true rounds session first) h from to old new before left result → Greets cluster me old new
-talks_greet step rounds cluster me session first h from to old new before left result is talks =
-    subst (λ (s : Session). BeginsWith (hello_of s) old new) is
-    (ends_begin step (party_of true rounds session first) talks.moves talks.said talks.last h talks.held to old new before left result talks.ends)
+    (old new : Connection) (result : Result Ended Fault) → session ≡ new_session cluster me
+    → Talks step (party_of true rounds session first) h old new result → Greets cluster me old.output new.output
+talks_greet step rounds cluster me session first h old new result is talks =
+    subst (λ (s : Session). BeginsWith (hello_of s) old.output new.output) is
+    (talks_begin step (party_of true rounds session first) h old.stream old new result talks)

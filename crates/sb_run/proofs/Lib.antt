@@ -5,3 +5,4 @@ pub mod Pooling
 pub mod Leaving
 pub mod Enduring
 pub mod Hellos
+pub mod Receiving

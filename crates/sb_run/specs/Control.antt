@@ -13,6 +13,7 @@ use Rattle.sb_codec.specs.declared.message.ask.Ask as asking
 use Rattle.sb_codec.specs.Records.{Rows}
 use Rattle.sb_frames.specs.Frames.{frame}
 use Rattle.sb_frames.specs.Sending.{Sends}
+use Rattle.sb_frames.specs.Connections.{Connection}
 use Rattle.sb_log.specs.Records.{Committed, Log}
 use Rattle.sb_views.specs.declared.event.Event.{Event}
 use Rattle.sb_views.specs.NodeViews.{NodeView}
@@ -79,9 +80,8 @@ abbrev pub AnswersOne : {L : Type 0} → (L → Log) → Node → ℕ → L → 
 AnswersOne seen opening budget old owed before new owes after =
     ((new ≡ old) × (owes ≡ owed) × (after ≡ before)) ⊎ ((request : Message) × ((reply : Message) × Answers seen opening budget old owed before request new owes after reply))
 
--- where no request is received all stays the same and nothing is written; else one answer is written, or its first bytes
-abbrev pub Controls : Type 0 → (Message → Message → Type 0) → Option (List ℕ) → Option (List ℕ) → Option (List ℕ) → Option (List ℕ)
-    → ℕ → ℕ → Result (Unit {0}) Fault → Type 0
-Controls same answers from to old new before left result =
-    ((fault : Fault) × ReceivesOne from to before left (Err fault) × (result ≡ Err fault) × same × Keeps old new)
-    ⊎ ((request : Message) × ReceivesOne from to before left (Ok request) × ((reply : Message) × answers request reply × Sends old new (frame reply) result))
+-- if no request is received all stays the same and nothing is written; else one answer is written, or its first bytes
+abbrev pub Controls : Type 0 → (Message → Message → Type 0) → Connection → Connection → Result (Unit {0}) Fault → Type 0
+Controls same answers old new result =
+    ((fault : Fault) × ReceivesOne old new (Err fault) × (result ≡ Err fault) × same × Keeps old.output new.output)
+    ⊎ ((request : Message) × ReceivesOne old new (Ok request) × ((reply : Message) × answers request reply × Sends old.output new.output (frame reply) result))

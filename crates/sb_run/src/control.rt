@@ -1,5 +1,5 @@
 //! The serving side of a control socket: one request and one answer a connection.
-ghost use Rattle.std.specs.Prelude.{◌≡◌, ◌+◌, ℕ, true, false};
+ghost use Rattle.std.specs.Prelude.{◌≡◌, ◌+◌, true, false};
 ghost use Rattle.sb_types.specs.Faults.{number_of};
 ghost use Rattle.sb_codec.specs.Limits.{is_version};
 ghost use Rattle.sb_frames.specs.Sending.{OnlyWhereFailed};
@@ -7,12 +7,12 @@ ghost use Rattle.sb_codec.specs.declared.message.Message.TheVariants as kinds;
 ghost use Rattle.sb_log.specs.Puts.{IsSettled};
 ghost use Rattle.sb_run.specs.Control.{IsPutReply, IsPageReply, IsLookedUp, Answers, Controls};
 
-use crate::one_message::receive_one;
+use crate::one_message::receive_first;
 use crate::own_writes::OwnWrites;
 use crate::serving::Serving;
 use sb_codec::{Ask, Done, Message, Refused};
 use sb_directory::{DirectoryTag, EnteredSeat, ReaderSeat};
-use sb_frames::{LastWrite, Steps, send_telling};
+use sb_frames::Connection;
 use sb_log::WriteLog;
 use sb_query::answer;
 use sb_types::{
@@ -130,48 +130,46 @@ fn reply_to<L: WriteLog, S: DirectoryTag, H: Wait + Drop, Q: Wait>(
     }
 }
 
-/// Reads one request, with at most `max_reads` reads, and writes one answer: to an Ask its page, to a Put the version
-/// under which the log took the write in this call, also where the directory refused it, and to either the fault that it
-/// met; to any other message the fault `UnknownKind`. It gives the seat back, and says what the last write to the stream
-/// answered.
-///
-/// `BadMark`, `BadVersion`, `BadLength`, `UnknownKind` or `Malformed` of the request; `ReadFailed`; `Truncated` at an
-/// end before or inside it; `TurnsSpent` where one more read is needed; `NoMemory`. Each of these is before anything
-/// is answered, and leaves all as it was. `WriteFailed`, with how many bytes of the answer are out, and a `NoMemory` of
-/// sending it, with none, come after the request was done, and that stands: so after `NoMemory` a Put may have been kept.
-pub fn serve_control<
-    R: Read,
-    W: Write,
-    L: WriteLog,
-    S: DirectoryTag,
-    H: Wait + Drop,
-    Q: Wait,
-    K: Ledger,
->(
-    serving: &Serving<S, H, Q>,
-    reader: &mut R,
-    writer: &mut W,
-    writes: &mut OwnWrites<L>,
-    seat: ReaderSeat<S>,
-    steps: &mut Steps<K>,
-) -> (ReaderSeat<S>, Result<(), Fault>, LastWrite)
-    ensures controls { (left : ℕ)
-        × Controls ((writes.new.log ≡ writes.old.log) × (writes.new.owed ≡ writes.old.owed) × (result.0 ≡ seat))
-        (λ request reply. Answers L.seen S.opening S.settings.budget writes.old.log writes.old.owed seat request writes.new.log writes.new.owed result.0 reply)
-        (R.remaining reader.old) (R.remaining reader.new) (W.contents writer.old) (W.contents writer.new) serving.now.max_reads left result.1
-        × (steps.new + left ≡ steps.old + serving.now.max_reads) }
-    // A write that did not fail, or that was made before the call, is no reason to stop.
-    ensures failed { OnlyWhereFailed result.1 result.2 }
-    // A log that was open and is closed now is told to have failed.
-    ensures closes { (L.seen writes.old.log).is_open ≡ true → (L.seen writes.new.log).is_open ≡ false → writes.new.has_failed ≡ true }
-    ensures settled { IsSettled (L.seen writes.old.log) (L.leaves writes.old.log) → IsSettled (L.seen writes.new.log) (L.leaves writes.new.log) }
-{
-    match receive_one(serving.alloc, reader, serving.max_reads, steps) {
-        Ok(request) => {
-            let (seat, reply) = reply_to(serving, writes, seat, &request);
-            let (sent, last) = send_telling(serving.alloc, writer, &reply);
-            (seat, sent, last)
+impl<S: DirectoryTag, H: Wait + Drop, Q: Wait> Serving<'_, S, H, Q> {
+    /// Reads one request, writes one answer, and gives the seat back. The answer to an Ask is its page. The answer to a Put is the
+    /// version under which the log took the write in this call, also if the directory refused it. The answer to either may be the
+    /// fault that it met, and to any other message it is the fault `UnknownKind`. After the call the connection says whether its
+    /// last write failed.
+    ///
+    /// These faults come before anything is answered, and leave all but the connection as it was:
+    ///
+    /// - `Closed` if the connection is closed after a faulty frame.
+    /// - `BadMark`, `BadVersion`, `BadLength`, `UnknownKind` or `Malformed` of the request.
+    /// - `ReadFailed`.
+    /// - `Truncated` at an end before or inside the request.
+    /// - `TurnsSpent` if the call needs one more read than the connection has left.
+    /// - `NoMemory`.
+    ///
+    /// These come after the request was done, which stays: `WriteFailed`, with how many bytes of the answer are written, and
+    /// `NoMemory`, with none. So after `NoMemory` the log may have taken the write of a Put.
+    pub fn serve_control<R: Read, W: Write, K: Ledger, L: WriteLog>(
+        &self,
+        connection: &mut Connection<R, W, K>,
+        writes: &mut OwnWrites<L>,
+        seat: ReaderSeat<S>,
+    ) -> (ReaderSeat<S>, Result<(), Fault>)
+        ensures controls { Controls ((writes.new.log ≡ writes.old.log) × (writes.new.owed ≡ writes.old.owed) × (result.0 ≡ seat))
+            (λ request reply. Answers L.seen S.opening S.settings.budget writes.old.log writes.old.owed seat request writes.new.log writes.new.owed result.0 reply)
+            connection.old connection.new result.1 }
+        ensures counted { connection.new.steps + connection.new.left ≡ connection.old.steps + connection.old.left }
+        // A write that did not fail, or that was made before the call, is no reason to stop.
+        ensures failed { OnlyWhereFailed result.1 connection.new.last_write }
+        // A log that was open and is closed now is told to have failed.
+        ensures closes { (L.seen writes.old.log).is_open ≡ true → (L.seen writes.new.log).is_open ≡ false → writes.new.has_failed ≡ true }
+        ensures settled { IsSettled (L.seen writes.old.log) (L.leaves writes.old.log) → IsSettled (L.seen writes.new.log) (L.leaves writes.new.log) }
+    {
+        match receive_first(connection) {
+            Ok(request) => {
+                let (seat, reply) = reply_to(self, writes, seat, &request);
+                let sent = connection.send(&reply);
+                (seat, sent)
+            }
+            Err(fault) => (seat, Err(fault)),
         }
-        Err(fault) => (seat, Err(fault), LastWrite::new()),
     }
 }

@@ -9,7 +9,7 @@ use crate::greeting::session_of;
 use crate::rounds::RoundsTag;
 use crate::sockets::{connect, limit};
 use sb_directory::{ReaderSeat, SeatHandler};
-use sb_frames::Steps;
+use sb_frames::{Connection, Steps};
 use sb_session::{Ended, dial};
 use sb_types::{Fault, OWNERS_MOST};
 use std::io::{Read, Write};
@@ -19,7 +19,7 @@ use std::os::unix::net::UnixStream;
 use std::sync::Wait;
 use std::sync::ledger::{Blank, Ledger};
 
-/// How many digests it takes to tell of all owners that the node holds, at least 1; none where memory is wanting.
+/// How many digests it takes to cover all owners that the node holds, at least 1; none if memory runs out.
 pub(crate) fn digests_of_all<S: RoundsTag, H: Wait + Drop, Q: Wait>(
     node: &NodeContext<S, H, Q>,
     seat: &mut ReaderSeat<S>,
@@ -40,37 +40,30 @@ pub(crate) fn digests_of_all<S: RoundsTag, H: Wait + Drop, Q: Wait>(
     Some(most)
 }
 
-/// A session over a connection, of so many exchanges of digests and deltas, and how it ended. It makes at most the node's
-/// `max_reads` reads. What it enters is news.
-fn talk<S: RoundsTag, H: Wait + Drop, Q: Wait, I: Read, O: Write, K: Ledger>(
-    node: &NodeContext<S, H, Q>,
-    input: &mut I,
-    output: &mut O,
-    seat: ReaderSeat<S>,
-    exchanges: u64,
-    steps: &mut Steps<K>,
-) -> (ReaderSeat<S>, Result<Ended, Fault>)
-    ensures later { IsLater seat result.0 }
-    ensures greets { Greets S.settings.cluster S.opening.held.me (O.contents output.old) (O.contents output.new) }
-    ensures reads { steps.new ≤ steps.old + node.now.pace.max_reads }
-{
-    let served = SeatHandler::new(node.rt, node.directory, seat);
-    let mut handler = GatedHandler::new(served, node.bell, 0);
-    let (ended, _) = dial(
-        node.alloc,
-        input,
-        output,
-        session_of(node.directory),
-        &mut handler,
-        exchanges,
-        node.pace.max_reads,
-        steps,
-    );
-    (handler.into_inner().into_seat(), ended)
+impl<S: RoundsTag, H: Wait + Drop, Q: Wait> NodeContext<'_, S, H, Q> {
+    /// A session over a connection, of so many exchanges of digests and deltas, and how it ended. It makes at most the node's
+    /// `max_reads` reads. What it enters is news.
+    fn talk<I: Read, O: Write, K: Ledger>(
+        &self,
+        connection: &mut Connection<I, O, K>,
+        seat: ReaderSeat<S>,
+        exchanges: u64,
+    ) -> (ReaderSeat<S>, Result<Ended, Fault>)
+        requires limit { connection.old.left ≤ self.now.pace.max_reads }
+        ensures later { IsLater seat result.0 }
+        ensures greets { Greets S.settings.cluster S.opening.held.me connection.old.output connection.new.output }
+        ensures reads { connection.new.steps ≤ connection.old.steps + self.now.pace.max_reads }
+    {
+        let served = SeatHandler::new(self.rt, self.directory, seat);
+        let mut handler = GatedHandler::new(served, self.bell, 0);
+        let session = session_of(self.directory);
+        let ended = dial(connection, session, &mut handler, exchanges);
+        (handler.into_inner().into_seat(), ended)
+    }
 }
 
-/// A session over the connection to a peer, which may be idle for the node's `dial_idle`, and how it ended: by `ReadFailed`
-/// also where that limit can't be set. Its reads are the first of a ledger.
+/// A session over the connection to a peer, which may be idle for the node's `dial_idle`, and how it ended. It ends by
+/// `ReadFailed` also if that limit can't be set. Its reads are the first of a ledger.
 fn dial_stream<S: RoundsTag, H: Wait + Drop, Q: Wait, K: Ledger>(
     node: &NodeContext<S, H, Q>,
     stream: UnixStream,
@@ -86,12 +79,13 @@ fn dial_stream<S: RoundsTag, H: Wait + Drop, Q: Wait, K: Ledger>(
     if limit(&stream, node.pace.dial_idle).is_err() {
         return (seat, Err(Fault::ReadFailed));
     }
-    let mut steps = Steps::<K>::new(blank);
-    let (mut input, mut output) = (&stream, &stream);
-    talk(node, &mut input, &mut output, seat, exchanges, &mut steps)
+    let max_reads = node.pace.max_reads;
+    let steps = Steps::<K>::new(blank);
+    let mut connection = Connection::new(node.alloc, &stream, &stream, max_reads, steps);
+    node.talk(&mut connection, seat, exchanges)
 }
 
-/// Dials the peer at a path, for so many exchanges, and how that ended: by `ReadFailed` also where the peer can't be reached.
+/// Dials the peer at a path, for so many exchanges, and how that ended: by `ReadFailed` also if the peer can't be reached.
 pub(crate) fn dial_peer<S: RoundsTag, H: Wait + Drop, Q: Wait + Net>(
     node: &NodeContext<S, H, Q>,
     path: &str,

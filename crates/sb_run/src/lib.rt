@@ -2,8 +2,8 @@
 //!
 //! `run_node` runs the node that owns a log: workers serve the peers that connect, one thread dials the peers in turn and
 //! where there is news, and the calling thread answers clients at the control socket. Each write of a client is in the
-//! log before the directory takes it. Who has connections of their own serves them by `serve_pool` and `serve_control`, and
-//! asks by `ask_control`.
+//! log before the directory takes it. A program with connections of its own serves them by `Serving`, and asks by
+//! `ask_control`.
 //!
 //! ```rust
 //! /// Runs the node of this name over a log in memory, until it has made its rounds.
@@ -56,14 +56,13 @@ mod threads;
 mod timed;
 
 pub use asking::ask_control;
-pub use control::serve_control;
 pub use gate::{Gate, GatePoint, Open};
 pub use laws::{running_nodes_keep_truth, running_nodes_tell_truth};
 pub use node::{NodeConfig, OnLogFault, Pace, Paths, Ran, run_node};
 pub use observer::{Nobody, Observer};
 pub use own_writes::{OwnWrites, Stored};
 pub use peers::{LastRound, Peer};
-pub use pool::{Pooled, Source, serve_pool};
+pub use pool::{Pooled, Source};
 pub use runtime::Runtime;
 pub use serving::Serving;
 pub use status::Status;

@@ -1,33 +1,44 @@
 //! The one message of a connection.
-ghost use Rattle.std.specs.Prelude.{◌≡◌, ◌+◌, ℕ};
+ghost use Rattle.std.specs.Prelude.{◌≡◌, ◌+◌, false, IfOk};
 ghost use Rattle.sb_frames.specs.declared.last_write.Outcome.{Outcome};
-ghost use Rattle.sb_frames.specs.Sending.{OnlyWhereFailed};
+ghost use Rattle.sb_frames.specs.Connections.{KeepsOutput};
+ghost use Rattle.sb_frames.specs.Sending.{has_failed, OnlyWhereFailed};
 ghost use Rattle.sb_run.specs.OneMessage.{ReceivesOne};
 
 use sb_codec::Message;
-use sb_frames::{Frames, Steps, receive};
+use sb_frames::Connection;
 use sb_types::Fault;
-use std::alloc::Global;
-use std::io::Read;
+use std::io::{Read, Write};
 use std::sync::ledger::Ledger;
 
-/// The first message of a stream, with at most `max_reads` reads. `BadMark`, `BadVersion`, `BadLength`, `UnknownKind`
-/// or `Malformed` of its frame; `ReadFailed`; `Truncated` at an end before or inside the frame; `TurnsSpent` where one
-/// more read is needed; `NoMemory`.
-pub(crate) fn receive_one<R: Read, K: Ledger>(
-    alloc: Global,
-    reader: &mut R,
-    max_reads: u64,
-    steps: &mut Steps<K>,
+/// The next message of a connection. Its faults are those of `Connection::receive`, and `Truncated` at an end before the
+/// message.
+pub(crate) fn receive_one<R: Read, W: Write, K: Ledger>(
+    connection: &mut Connection<R, W, K>,
 ) -> Result<Message, Fault>
-    ensures receives { (left : ℕ) × ReceivesOne (R.remaining reader.old) (R.remaining reader.new) max_reads left result × (steps.new + left ≡ steps.old + max_reads) }
+    ensures receives { ReceivesOne connection.old connection.new result }
+    ensures counted { connection.new.steps + connection.new.left ≡ connection.old.steps + connection.old.left }
     // It writes nothing, and no fault of it says that a write failed.
+    ensures kept { KeepsOutput connection.old connection.new }
     ensures unwritten { (last : Outcome) → OnlyWhereFailed result last }
 {
-    let mut frames = Frames::new(alloc);
-    match receive(reader, &mut frames, max_reads, steps) {
+    match connection.receive() {
         Ok(Some(message)) => Ok(message),
         Ok(None) => Err(Fault::Truncated),
         Err(fault) => Err(fault),
     }
+}
+
+/// The message that a talk begins with. Its faults are those of `receive_one`.
+pub(crate) fn receive_first<R: Read, W: Write, K: Ledger>(
+    connection: &mut Connection<R, W, K>,
+) -> Result<Message, Fault>
+    ensures receives { ReceivesOne connection.old connection.new result }
+    ensures counted { connection.new.steps + connection.new.left ≡ connection.old.steps + connection.old.left }
+    ensures output { connection.new.output ≡ connection.old.output }
+    ensures unwritten { (last : Outcome) → OnlyWhereFailed result last }
+    ensures goes_on { IfOk result (λ _. has_failed connection.new.last_write ≡ false) }
+{
+    connection.start()?;
+    receive_one(connection)
 }

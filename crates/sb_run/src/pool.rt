@@ -10,7 +10,7 @@ use crate::greeting::session_of;
 use crate::serving::Serving;
 use core::mem::replace_with;
 use sb_directory::{DirectoryTag, ReaderSeat, SeatHandler};
-use sb_frames::Steps;
+use sb_frames::{Connection, Steps};
 use sb_session::serve;
 use sb_types::Fault;
 use std::io::{Read, Write};
@@ -21,17 +21,17 @@ use std::sync::ledger::{Blank, Ledger};
 use std::thread;
 use std::thread::Threads;
 
-/// Where workers get their connections.
+/// What gives workers their connections.
 pub trait Source {
     type In: Read + Drop + Send;
 
     type Out: Write + Drop + Send;
 
-    /// What holds where there are no more connections: nothing need.
+    /// What holds once there are no more connections; it may be nothing.
     ghost over: { Self → Type 0 };
 
-    /// The next connection, with the number of its session, from 1. `None` where there are no more; a fault where one
-    /// could not be had, after which the next may be asked for.
+    /// The next connection, with the number of its session, from 1. `None` once there are no more; a fault if one could not be
+    /// had, after which the next may be asked for.
     fn next(&self) -> Option<Result<(u64, Self::In, Self::Out), Fault>>
         ensures numbered { IfSome result (λ next. IfOk next (λ taken. 0 < taken.0)) }
         ensures over { IfNone result (over self.now) };
@@ -55,182 +55,170 @@ struct Tally {
     faults: AtomicU64,
 }
 
-/// Serves the session of this number from a seat, with at most `max_reads` reads, and says whether it ended with a fault.
-fn serve_session<S: DirectoryTag, H: Wait + Drop, Q: Wait, I: Read, O: Write, G: Gate, K: Ledger>(
-    serving: &Serving<S, H, Q>,
-    gate: &G,
-    number: u64,
-    streams: &mut (I, O),
-    seat: ReaderSeat<S>,
-    steps: &mut Steps<K>,
-) -> (ReaderSeat<S>, bool)
-    ensures kept { IsKept (IsShut (G.lets gate.now number)) seat result.0 }
-    ensures greets { Greets S.settings.cluster S.opening.held.me (O.contents streams.old.1) (O.contents streams.new.1) }
-    ensures reads { steps.new ≤ steps.old + serving.now.max_reads }
-{
-    let served = SeatHandler::new(serving.rt, serving.directory, seat);
-    let mut handler = GatedHandler::new(served, gate, number);
-    let (ended, _) = serve(
-        serving.alloc,
-        &mut streams.0,
-        &mut streams.1,
-        session_of(serving.directory),
-        &mut handler,
-        serving.max_reads,
-        steps,
-    );
-    (handler.into_inner().into_seat(), ended.is_err())
-}
-
-/// Serves a connection that was taken from the source, and counts it, and whether it ended with a fault. Its reads are the
-/// first of a ledger.
-fn serve_taken<
-    S: DirectoryTag,
-    H: Wait + Drop,
-    Q: Wait,
-    I: Read + Drop,
-    O: Write + Drop,
-    G: Gate,
-    K: Ledger,
->(
-    serving: &Serving<S, H, Q>,
-    gate: &G,
-    tally: &Tally,
-    taken: (u64, I, O),
-    seat: ReaderSeat<S>,
-    blank: Blank,
-) -> ReaderSeat<S>
-    requires name { blank.name ≡ K.name }
-    requires parts { blank.parts ≡ K.parts }
-    requires some { 0 < blank.parts }
-    ensures { IsKept (IsShut (G.lets gate.now taken.0)) seat result }
-{
-    tally.sessions.fetch_add(1, Ordering::SeqCst);
-    let mut steps = Steps::<K>::new(blank);
-    let (number, input, output) = taken;
-    let mut streams = (input, output);
-    let (seat, failed) = serve_session(serving, gate, number, &mut streams, seat, &mut steps);
-    if failed {
-        tally.faults.fetch_add(1, Ordering::SeqCst);
+impl<S: DirectoryTag, H: Wait + Drop, Q: Wait> Serving<'_, S, H, Q> {
+    /// Serves the session of this number from a seat, with at most `max_reads` reads, and says whether it ended with a fault.
+    fn serve_session<I: Read, O: Write, G: Gate, K: Ledger>(
+        &self,
+        gate: &G,
+        number: u64,
+        connection: &mut Connection<I, O, K>,
+        seat: ReaderSeat<S>,
+    ) -> (ReaderSeat<S>, bool)
+        requires limit { connection.old.left ≤ self.now.max_reads }
+        ensures kept { IsKept (IsShut (G.lets gate.now number)) seat result.0 }
+        ensures greets { Greets S.settings.cluster S.opening.held.me connection.old.output connection.new.output }
+        ensures reads { connection.new.steps ≤ connection.old.steps + self.now.max_reads }
+    {
+        let served = SeatHandler::new(self.rt, self.directory, seat);
+        let mut handler = GatedHandler::new(served, gate, number);
+        let session = session_of(self.directory);
+        let ended = serve(connection, session, &mut handler);
+        (handler.into_inner().into_seat(), ended.is_err())
     }
-    seat
-}
 
-/// Serves connections from a seat until the source has no more.
-#[tactic(auto, using(crate::proofs::Pooling::kept_same, crate::proofs::Pooling::kept_on))]
-fn work<S: DirectoryTag, H: Wait + Drop, Q: Wait, X: Source, G: Gate>(
-    serving: &Serving<S, H, Q>,
-    source: &X,
-    gate: &G,
-    tally: &Tally,
-    seat: ReaderSeat<S>,
-) -> (ReaderSeat<S>, ())
-    ensures kept { IsKept (AreShut (G.lets gate.now)) seat result.0 }
-    ensures over { X.over source.now }
-{
-    let mut current = seat;
-    for _ in serving.rt.forever() {
-        match source.next() {
-            None => return (current, ()),
-            Some(Err(_)) => {
-                tally.faults.fetch_add(1, Ordering::SeqCst);
-            }
-            Some(Ok(taken)) => {
-                current = serve_taken::<S, H, Q, X::In, X::Out, G, Brand>(
-                    serving,
-                    gate,
-                    tally,
-                    taken,
-                    current,
-                    Blank::new(1),
-                );
+    /// Serves a connection that was taken from the source, and counts it, and whether it ended with a fault. Its reads are the
+    /// first of a ledger.
+    fn serve_taken<I: Read + Drop, O: Write + Drop, G: Gate, K: Ledger>(
+        &self,
+        gate: &G,
+        tally: &Tally,
+        taken: (u64, I, O),
+        seat: ReaderSeat<S>,
+        blank: Blank,
+    ) -> ReaderSeat<S>
+        requires name { blank.name ≡ K.name }
+        requires parts { blank.parts ≡ K.parts }
+        requires some { 0 < blank.parts }
+        ensures { IsKept (IsShut (G.lets gate.now taken.0)) seat result }
+    {
+        tally.sessions.fetch_add(1, Ordering::SeqCst);
+        let (number, input, output) = taken;
+        let max_reads = self.max_reads;
+        let steps = Steps::<K>::new(blank);
+        let mut connection = Connection::new(self.alloc, input, output, max_reads, steps);
+        let (seat, failed) = self.serve_session(gate, number, &mut connection, seat);
+        if failed {
+            tally.faults.fetch_add(1, Ordering::SeqCst);
+        }
+        seat
+    }
+
+    /// Serves connections from a seat until the source has no more.
+    #[tactic(auto, using(crate::proofs::Pooling::kept_same, crate::proofs::Pooling::kept_on))]
+    fn work<X: Source, G: Gate>(
+        &self,
+        source: &X,
+        gate: &G,
+        tally: &Tally,
+        seat: ReaderSeat<S>,
+    ) -> (ReaderSeat<S>, ())
+        ensures kept { IsKept (AreShut (G.lets gate.now)) seat result.0 }
+        ensures over { X.over source.now }
+    {
+        let mut current = seat;
+        for _ in self.rt.forever() {
+            match source.next() {
+                None => return (current, ()),
+                Some(Err(_)) => {
+                    tally.faults.fetch_add(1, Ordering::SeqCst);
+                }
+                Some(Ok(taken)) => {
+                    current = self.serve_taken::<X::In, X::Out, G, Brand>(
+                        gate,
+                        tally,
+                        taken,
+                        current,
+                        Blank::new(1),
+                    );
+                }
             }
         }
+        unreachable!()
     }
-    unreachable!()
+
+    /// Serves connections from a seat that stays in its place.
+    fn work_in_place<X: Source, G: Gate>(
+        &self,
+        source: &X,
+        gate: &G,
+        tally: &Tally,
+        seat: &mut ReaderSeat<S>,
+    )
+        ensures kept { IsKept (AreShut (G.lets gate.now)) seat.old seat.new }
+        ensures over { X.over source.now }
+    {
+        // `self` is handed in: the prover keeps no clause of a closure that captures a struct with a lifetime.
+        replace_with(
+            seat,
+            self,
+            |seat, serving| -> (ReaderSeat<S>, ())
+                requires { IsSend X.In.row × IsSend X.Out.row }
+                ensures kept { IsKept (AreShut (G.lets gate.entry.now)) seat result.0 }
+                ensures over { X.over source.entry.now }
+            { serving.work(source, gate, tally, seat) },
+        );
+    }
 }
 
-/// Serves connections from a seat that stays in its place.
-fn work_in_place<S: DirectoryTag, H: Wait + Drop, Q: Wait, X: Source, G: Gate>(
-    serving: &Serving<S, H, Q>,
-    source: &X,
-    gate: &G,
-    tally: &Tally,
-    seat: &mut ReaderSeat<S>,
-)
-    ensures kept { IsKept (AreShut (G.lets gate.now)) seat.old seat.new }
-    ensures over { X.over source.now }
-{
-    // `serving` is handed in: the prover keeps no clause of a closure that captures a struct with a lifetime.
-    replace_with(
-        seat,
-        serving,
-        |seat, serving| -> (ReaderSeat<S>, ())
-            requires { IsSend X.In.row × IsSend X.Out.row }
-            ensures kept { IsKept (AreShut (G.lets gate.entry.now)) seat result.0 }
-            ensures over { X.over source.entry.now }
-        { work(serving, source, gate, tally, seat) },
-    );
-}
-
-/// Serves the connections of a source until it has no more, with a worker for each seat, each in a thread of its own. The
-/// caller is one of the workers, and does the work of those whose thread can't be made. A session is of the directory's node,
-/// under its name and of its cluster. One that the gate turns away ends with `TurnsSpent`; each makes at most `max_reads`
-/// reads. The seats come back in their order. Where the gate lets no session apply a delta, none of them made an event or has
-/// seen more. It never refuses.
-pub fn serve_pool<
+impl<S, H, Q> Serving<'_, S, H, Q>
+where
     S: DirectoryTag + Send + Sync,
     H: Wait + Drop + Send + Sync,
     Q: Threads + Wait + Sync,
-    X: Source + Sync,
-    G: Gate + Sync,
->(
-    serving: &Serving<S, H, Q>,
-    seats: Vec<ReaderSeat<S>>,
-    source: &X,
-    gate: &G,
-) -> Result<Pooled<S>, (Fault, Vec<ReaderSeat<S>>)>
-    ensures ok { IsOk result }
-    ensures kept { IfOk result (λ pooled. AreKept (AreShut (G.lets gate.now)) seats.items pooled.seats.items) }
-    // Each worker goes on until the source has no more.
-    ensures over { 0 < length seats.items → X.over source.now }
 {
-    let tally = Tally {
-        sessions: AtomicU64::new(0),
-        faults: AtomicU64::new(0),
-    };
-    let mut seats = seats;
-    work_all(serving, source, gate, &tally, &mut seats);
-    Ok(Pooled {
-        sessions: tally.sessions.load(Ordering::SeqCst),
-        faults: tally.faults.load(Ordering::SeqCst),
-        seats,
-    })
-}
-
-/// Lets a worker serve connections from each seat, until the source has no more.
-fn work_all<
-    S: DirectoryTag + Send + Sync,
-    H: Wait + Drop + Send + Sync,
-    Q: Threads + Wait + Sync,
-    X: Source + Sync,
-    G: Gate + Sync,
->(serving: &Serving<S, H, Q>, source: &X, gate: &G, tally: &Tally, seats: &mut [ReaderSeat<S>])
-    ensures kept { AreKept (AreShut (G.lets gate.now)) seats.old seats.new }
-    ensures over { 0 < length seats.old → X.over source.now }
-{
-    if seats.is_empty() {
-        return;
+    /// Serves the connections of a source until it has no more, with a worker for each seat, each in a thread of its own. The
+    /// caller is one of the workers, and does the work of those whose thread can't be made. A session is of the directory's node,
+    /// under its name and of its cluster. One that the gate turns away ends with `TurnsSpent`; each makes at most `max_reads`
+    /// reads. The seats come back in their order. If the gate lets no session apply a delta, none of them made an event or has
+    /// seen more. It never refuses.
+    pub fn serve_pool<X: Source + Sync, G: Gate + Sync>(
+        &self,
+        seats: Vec<ReaderSeat<S>>,
+        source: &X,
+        gate: &G,
+    ) -> Result<Pooled<S>, (Fault, Vec<ReaderSeat<S>>)>
+        ensures ok { IsOk result }
+        ensures kept { IfOk result (λ pooled. AreKept (AreShut (G.lets gate.now)) seats.items pooled.seats.items) }
+        // Each worker goes on until the source has no more.
+        ensures over { 0 < length seats.items → X.over source.now }
+    {
+        let tally = Tally {
+            sessions: AtomicU64::new(0),
+            faults: AtomicU64::new(0),
+        };
+        let mut seats = seats;
+        self.work_all(source, gate, &tally, &mut seats);
+        Ok(Pooled {
+            sessions: tally.sessions.load(Ordering::SeqCst),
+            faults: tally.faults.load(Ordering::SeqCst),
+            seats,
+        })
     }
-    let workers = seats.len();
-    thread::for_each_mut(
-        serving.rt,
-        seats,
-        workers,
-        &|_, seat| -> ()
-            requires { IsSend X.In.row × IsSend X.Out.row }
-            ensures kept { IsKept (AreShut (G.lets gate.entry.now)) seat.entry.now seat.exit.now }
-            ensures over { X.over source.entry.now }
-        { work_in_place(serving, source, gate, tally, seat) },
-    );
+
+    /// Lets a worker serve connections from each seat, until the source has no more.
+    fn work_all<X: Source + Sync, G: Gate + Sync>(
+        &self,
+        source: &X,
+        gate: &G,
+        tally: &Tally,
+        seats: &mut [ReaderSeat<S>],
+    )
+        ensures kept { AreKept (AreShut (G.lets gate.now)) seats.old seats.new }
+        ensures over { 0 < length seats.old → X.over source.now }
+    {
+        if seats.is_empty() {
+            return;
+        }
+        let workers = seats.len();
+        thread::for_each_mut(
+            self.rt,
+            seats,
+            workers,
+            &|_, seat| -> ()
+                requires { IsSend X.In.row × IsSend X.Out.row }
+                ensures kept { IsKept (AreShut (G.lets gate.entry.now)) seat.entry.now seat.exit.now }
+                ensures over { X.over source.entry.now }
+            { self.work_in_place(source, gate, tally, seat) },
+        );
+    }
 }

@@ -15,7 +15,7 @@ use crate::rounds::{RoundsTag, rounds_channel};
 use crate::runtime::Runtime;
 use crate::seats::{gather_seats, part_seats};
 use crate::sockets::BoundSockets;
-use crate::threads::{ThreadsEnd, run_threads};
+use crate::threads::ThreadsEnd;
 use sb_directory::{Directory, ReaderSeat};
 use sb_log::WriteLog;
 use sb_node::NodeCore;
@@ -88,9 +88,8 @@ pub(crate) fn run_tagged<
         workers: settings.workers(),
         pace,
     };
-    let finished = run_threads(
+    let finished = dialer.run_threads(
         &node,
-        dialer,
         start.writes,
         thread_seats,
         rounds_sender,

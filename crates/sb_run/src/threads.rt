@@ -5,11 +5,11 @@ ghost use Rattle.sb_run.specs.Running.{IsEndFault, IsOpenedFrom};
 
 use crate::accepting::Acceptor;
 use crate::context::NodeContext;
-use crate::control_socket::{ControlEnd, serve_control_socket};
+use crate::control_socket::ControlEnd;
 use crate::dialer::Dialer;
 use crate::observer::Observer;
 use crate::own_writes::OwnWrites;
-use crate::pool::{Pooled, serve_pool};
+use crate::pool::Pooled;
 use crate::rounds::{Rounds, RoundsReceiver, RoundsSender, RoundsTag};
 use crate::runtime::Runtime;
 use crate::seats::ThreadSeats;
@@ -58,7 +58,7 @@ fn serve_sock<
         Some(node.counts),
     );
     let serving = node.serving();
-    match serve_pool(&serving, seats, &source, node.bell) {
+    match serving.serve_pool(seats, &source, node.bell) {
         Ok(pooled) => pooled,
         Err(_) => unreachable!(),
     }
@@ -79,68 +79,72 @@ fn dial_to_the_end<S: RoundsTag, H: Wait + Drop, Q: Wait + Net + Clock, O: Obser
     seat
 }
 
-/// Runs the threads of a node to their end: its workers, the one that dials, and the calling one at the control socket.
-/// `NoMemory` where the thread of the pool, or the one that dials, can't be made; `StoreFailed` where the log failed and the
-/// node is to exit then.
-pub(crate) fn run_threads<
-    S: RoundsTag + Send + Sync,
-    L: WriteLog + Drop,
-    H: Wait + Drop + Send + Sync,
-    Q: Runtime + Net<Listener = TcpListener, Stream = TcpStream>,
-    O: Observer + Sync,
->(
-    node: &NodeContext<S, H, Q>,
-    dialer: Dialer<'_, O>,
-    writes: OwnWrites<L>,
-    thread_seats: ThreadSeats<S>,
-    rounds_sender: RoundsSender<S>,
-    rounds_receiver: RoundsReceiver<S>,
-) -> Result<ThreadsEnd<S>, Fault>
-    requires opened { IsOpenedFrom (L.seen writes.log) S.opening }
-    requires workers { vec_len thread_seats.workers ≡ S.settings.workers }
-    ensures thread_seats { IfOk result (λ finished. vec_len finished.thread_seats.workers ≡ vec_len thread_seats.workers) }
-    ensures fault { IfErr result (IsEndFault node.now.pace.on_log_fault) }
-{
-    let observer = dialer.observer();
-    let ThreadSeats {
-        workers,
-        dialing,
-        control,
-    } = thread_seats;
-    let count = workers.len();
-    thread::scope(
-        thread::scope_env(),
-        node.rt,
-        move |scope| -> Result<ThreadsEnd<S>, Fault>
-            requires { IsSend S.row × IsSync S.row × IsSend H.row × IsSync H.row × IsSend Q.row × IsSync Q.row × IsSync O.row × (vec_len workers ≡ count)
-                × IsOpenedFrom (L.seen writes.log) S.opening }
-            ensures thread_seats { IfOk result (λ finished. vec_len finished.thread_seats.workers ≡ count) }
-            ensures fault { IfErr result (IsEndFault node.entry.now.pace.on_log_fault) }
-        {
-            let Ok(pool_thread) = scope.spawn_with(AsMany(count), move || serve_sock(node, workers))
-            else {
-                return Err(Fault::NoMemory);
-            };
-            let Ok(dialing_thread) = scope.spawn(move || dial_to_the_end(
-                node,
-                dialer,
-                dialing,
-                rounds_sender,
-            )) else {
-                node.end();
-                pool_thread.join(node.rt);
-                return Err(Fault::NoMemory);
-            };
-            let at_control = serve_control_socket(node, writes, control, observer);
-            let rounds = rounds_receiver.receive(node.rt);
-            let (dialing, pooled) = (dialing_thread.join(node.rt), pool_thread.join(node.rt));
-            threads_end(pooled, dialing, at_control, rounds)
-        },
-    )
+impl<O: Observer + Sync> Dialer<'_, O> {
+    /// Runs the threads of a node to their end: its workers, the one that dials, and the calling one at the control socket.
+    /// `NoMemory` if the thread of the pool, or the one that dials, can't be made; `StoreFailed` if the log failed and the node is to
+    /// exit then.
+    pub(crate) fn run_threads<
+        S: RoundsTag + Send + Sync,
+        L: WriteLog + Drop,
+        H: Wait + Drop + Send + Sync,
+        Q: Runtime + Net<Listener = TcpListener, Stream = TcpStream>,
+    >(
+        self,
+        node: &NodeContext<S, H, Q>,
+        writes: OwnWrites<L>,
+        thread_seats: ThreadSeats<S>,
+        rounds_sender: RoundsSender<S>,
+        rounds_receiver: RoundsReceiver<S>,
+    ) -> Result<ThreadsEnd<S>, Fault>
+        requires opened { IsOpenedFrom (L.seen writes.log) S.opening }
+        requires workers { vec_len thread_seats.workers ≡ S.settings.workers }
+        ensures thread_seats { IfOk result (λ finished. vec_len finished.thread_seats.workers ≡ vec_len thread_seats.workers) }
+        ensures fault { IfErr result (IsEndFault node.now.pace.on_log_fault) }
+    {
+        let observer = self.observer();
+        let dialer = self;
+        let ThreadSeats {
+            workers,
+            dialing,
+            control,
+        } = thread_seats;
+        let count = workers.len();
+        thread::scope(
+            thread::scope_env(),
+            node.rt,
+            move |scope| -> Result<ThreadsEnd<S>, Fault>
+                requires { IsSend S.row × IsSync S.row × IsSend H.row × IsSync H.row × IsSend Q.row × IsSync Q.row × IsSync O.row × (vec_len workers ≡ count)
+                    × IsOpenedFrom (L.seen writes.log) S.opening }
+                ensures thread_seats { IfOk result (λ finished. vec_len finished.thread_seats.workers ≡ count) }
+                ensures fault { IfErr result (IsEndFault node.entry.now.pace.on_log_fault) }
+            {
+                let Ok(pool_thread) = scope.spawn_with(
+                    AsMany(count),
+                    move || serve_sock(node, workers),
+                ) else {
+                    return Err(Fault::NoMemory);
+                };
+                let Ok(dialing_thread) = scope.spawn(move || dial_to_the_end(
+                    node,
+                    dialer,
+                    dialing,
+                    rounds_sender,
+                )) else {
+                    node.end();
+                    pool_thread.join(node.rt);
+                    return Err(Fault::NoMemory);
+                };
+                let at_control = node.serve_control_socket(writes, control, observer);
+                let rounds = rounds_receiver.receive(node.rt);
+                let (dialing, pooled) = (dialing_thread.join(node.rt), pool_thread.join(node.rt));
+                threads_end(pooled, dialing, at_control, rounds)
+            },
+        )
+    }
 }
 
-/// Puts together what the threads left. `StoreFailed` where the calling one ended the node since its log had failed; then the fault
-/// of the rounds.
+/// Puts together what the threads left. `StoreFailed` if the calling one ended the node because its log failed; then the fault of
+/// the rounds.
 fn threads_end<S: RoundsTag>(
     pooled: Pooled<S>,
     dialing: ReaderSeat<S>,

@@ -4,7 +4,7 @@ ghost use Rattle.std.specs.Prelude.{◌≡◌, ◌<◌};
 use crate::making::put_of_w;
 use crate::{got, holds, same};
 use sb_codec::{Ask, Message};
-use sb_frames::Steps;
+use sb_frames::{Connection, Steps};
 use sb_query::print_rows;
 use sb_run::ask_control;
 use sb_testing::wire::{ASK, DONE, PUT};
@@ -58,9 +58,9 @@ fn ask_on<K: Ledger, R: io::Read, W: io::Write>(
     requires parts { blank.parts ≡ K.parts }
     requires some { 0 < blank.parts }
 {
-    let mut steps = Steps::<K>::new(blank);
-    let (answer, _) = ask_control(alloc, reader, writer, request, max_reads, &mut steps);
-    answer
+    let steps = Steps::<K>::new(blank);
+    let mut connection = Connection::new(alloc, reader, writer, max_reads, steps);
+    ask_control(&mut connection, request)
 }
 
 pub(crate) fn asked<R: io::Read, W: io::Write>(

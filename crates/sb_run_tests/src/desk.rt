@@ -4,10 +4,10 @@ ghost use Rattle.std.specs.Prelude.{◌≡◌, ◌<◌};
 use crate::making::{key, name, new_log, new_node, weight};
 use crate::{got, there};
 use sb_directory::{Directory, DirectoryTag, EnteredSeat, ReaderSeat};
-use sb_frames::Steps;
+use sb_frames::{Connection, Steps};
 use sb_log::PlainLog;
 use sb_node::NodeCore;
-use sb_run::{OwnWrites, Serving, Stored, serve_control};
+use sb_run::{OwnWrites, Serving, Stored};
 use sb_types::{Delta, Fault};
 use sb_views::NewHistory;
 use std::alloc::Global;
@@ -118,8 +118,7 @@ impl<S: DirectoryTag, H: Wait + Drop> Desk<S, H> {
             &serving,
             &mut self.owner,
             seat,
-            reader,
-            writer,
+            (reader, writer),
             Blank::new(1),
         );
         self.seat = Some(seat);
@@ -153,15 +152,15 @@ fn serve_from<
     serving: &Serving<S, H, Q>,
     owner: &mut OwnWrites<PlainLog>,
     seat: ReaderSeat<S>,
-    reader: &mut R,
-    writer: &mut W,
+    streams: (&mut R, &mut W),
     blank: Blank,
 ) -> (ReaderSeat<S>, Result<(), Fault>)
     requires name { blank.name ≡ K.name }
     requires parts { blank.parts ≡ K.parts }
     requires some { 0 < blank.parts }
 {
-    let mut steps = Steps::<K>::new(blank);
-    let (seat, ended, _) = serve_control(serving, reader, writer, owner, seat, &mut steps);
-    (seat, ended)
+    let (reader, writer) = streams;
+    let steps = Steps::<K>::new(blank);
+    let mut connection = Connection::new(serving.alloc, reader, writer, serving.max_reads, steps);
+    serving.serve_control(&mut connection, owner, seat)
 }

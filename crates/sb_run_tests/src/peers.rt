@@ -3,7 +3,7 @@ ghost use Rattle.std.specs.Prelude.{◌≡◌, ◌<◌};
 
 use crate::got;
 use crate::making::{key, name, new_log, node_of, settings};
-use sb_frames::Steps;
+use sb_frames::{Connection, Steps};
 use sb_log::{PlainLog, WriteLog};
 use sb_node::NodeCore;
 use sb_session::{Ended, Session, dial, serve};
@@ -43,30 +43,11 @@ fn talk_on<K: Ledger>(
     requires parts { blank.parts ≡ K.parts }
     requires some { 0 < blank.parts }
 {
-    let mut steps = Steps::<K>::new(blank);
-    let (mut input, mut output) = (stream, stream);
-    let (ended, _) = match rounds {
-        Some(rounds) => dial(
-            alloc,
-            &mut input,
-            &mut output,
-            session,
-            core,
-            rounds,
-            99,
-            &mut steps,
-        ),
-        None => serve(
-            alloc,
-            &mut input,
-            &mut output,
-            session,
-            core,
-            99,
-            &mut steps,
-        ),
-    };
-    ended
+    let mut connection = Connection::new(alloc, stream, stream, 99, Steps::<K>::new(blank));
+    match rounds {
+        Some(rounds) => dial(&mut connection, session, core, rounds),
+        None => serve(&mut connection, session, core),
+    }
 }
 
 /// How a session of this node ends. It dials for so many rounds, or serves.

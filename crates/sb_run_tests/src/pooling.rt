@@ -5,7 +5,7 @@ use crate::making::new_node;
 use crate::{got, same};
 use sb_directory::{Directory, DirectoryTag, ReaderSeat};
 use sb_node::NodeCore;
-use sb_run::{Gate, GatePoint, Pooled, Serving, Source, serve_pool};
+use sb_run::{Gate, GatePoint, Pooled, Serving, Source};
 use sb_types::Fault;
 use sb_views::NewHistory;
 use std::alloc::Global;
@@ -128,7 +128,7 @@ fn serve_from<S: DirectoryTag + Send + Sync, R: Threads + Wait + Clock + Abort +
         directory,
         max_reads: 99,
     };
-    match serve_pool(&serving, seats, &peers, &gate) {
+    match serving.serve_pool(seats, &peers, &gate) {
         Ok(pooled) => pooled,
         Err((fault, _)) => panic!(rt; "error: {fault:?}"),
     }

@@ -10,6 +10,7 @@ use Rattle.sb_types.specs.declared.fault.Fault.TheVariants.{NoMemory, Closed, Re
 use Rattle.sb_codec.specs.declared.message.Message.{Message}
 use Rattle.sb_frames.specs.Frames.{frame}
 use Rattle.sb_frames.specs.Streams.{Stream, open_with, shut}
+use Rattle.sb_frames.specs.Connections.{Connection, ReceivesOn}
 use Rattle.sb_frames.specs.declared.last_write.Outcome.{Outcome}
 use Rattle.sb_frames.specs.Sending.{Sends, OnlyWhereFailed}
 use Rattle.sb_frames.specs.Receiving.{is_frame_fault, OnlyWhereReadFailed, Receives, Stops, is_bad, no_memory, read_failed, cut_short, turns_spent}
@@ -102,9 +103,10 @@ fault_wrote X shut new from to before left fault last r =
     rw is tt
 
 -- what is received tells of no write
-pub received_wrote : {X : Type 0} (answer : Result X Fault) (frames new : Stream) (from to : Option (List ℕ)) (before left : ℕ) (fault : Fault) (last : Outcome)
-    → answer ≡ Err fault → Receives frames new from to before left (Err fault) → OnlyWhereFailed answer last
-received_wrote {X} answer frames new from to before left fault last is r = rw is (fault_wrote X frames new from to before left fault last r)
+pub received_wrote : {X : Type 0} (answer : Result X Fault) (old new : Connection) (fault : Fault) (last : Outcome) → answer ≡ Err fault → ReceivesOn old new (Err fault)
+    → OnlyWhereFailed answer last
+received_wrote {X} answer old new fault last is r =
+    rw is (fault_wrote X old.stream new.stream old.input new.input old.left new.left fault last r)
 
 -- ---- no read failed
 

@@ -3,11 +3,13 @@ use Rattle.std.specs.Prelude.{◌≡◌, ℕ, ◌-◌, Bool, true, false, not, �
 use Rattle.std.specs.List.{flat_map}
 use Rattle.std.specs.Io.KnownBytes.{Keeps, Appends, Consumes, IsAtEnd}
 use Rattle.sb_types.specs.declared.fault.Fault.{Fault}
+use Rattle.sb_types.specs.declared.fault.Fault.TheVariants.{Closed}
 use Rattle.sb_types.specs.declared.format.TheConstants.{REASON_ROUNDS_DONE}
 use Rattle.sb_codec.specs.declared.message.Message.{Message}
 use Rattle.sb_codec.specs.declared.message.Message.TheVariants as kinds
 use Rattle.sb_frames.specs.Frames.{frame, whole, front_of}
-use Rattle.sb_frames.specs.Streams.{Stream}
+use Rattle.sb_frames.specs.Streams.{Stream, open_with, shut}
+use Rattle.sb_frames.specs.Connections.{Connection}
 use Rattle.sb_frames.specs.Receiving.{Stops}
 use Rattle.sb_session.specs.declared.replies.Replies.{Replies}
 use Rattle.sb_session.specs.declared.talk.Ended.{Ended}
@@ -93,45 +95,64 @@ heard_in [] = []
 heard_in (hears message ∷ moves) = message ∷ heard_in moves
 heard_in (speaks ∷ moves) = heard_in moves
 
--- where a talk is cut short: in its Hello, before any move; or in what its last move says, with the Hello and all that was
--- said before put out
-pub data Cuts {H : Type 0} (step : H → Act → H → Type 0) (a : Party H) (moves : List Move) (said : List Message) (b : Party H)
-    (old new : Option (List ℕ)) (fault : Fault) : Type 0 where
-  in_hello : moves ≡ [] → CutShort old new (hello_of a.session ∷ []) fault → Cuts step a moves said b old new fault
-  in_last : (front : List Move) (move : Move) (before more : List Message) (now : Party H) (mid : Option (List ℕ)) → moves ≡ front ++ (move ∷ []) → said ≡ before ++ more
-      → Run step a front before now → Moves step now move more b → Appends old mid (flat_map frame (hello_of a.session ∷ before)) → CutShort mid new more fault
-      → Cuts step a moves said b old new fault
-
--- how a talk ends, with the Hello and all that its moves say put out, but for what is cut short
-pub data Ends {H : Type 0} (step : H → Act → H → Type 0) (a : Party H) (moves : List Move) (said : List Message) (b : Party H) (h : H) (held : List ℕ)
-    (to old new : Option (List ℕ)) (before left : ℕ) (result : Result Ended Fault) : Type 0 where
-  at_end : result ≡ Ok endings.End → b.speaks ≡ false → are_done b.rounds ≡ false → held ≡ [] → IsAtEnd to → h ≡ b.handler
-      → Appends old new (flat_map frame (hello_of a.session ∷ said)) → Ends step a moves said b h held to old new before left result
-  at_bye : (reason : ℕ) (front : List Move) → result ≡ Ok (endings.Bye reason) → moves ≡ front ++ (hears (kinds.Bye reason) ∷ []) → h ≡ b.handler
-      → Appends old new (flat_map frame (hello_of a.session ∷ said)) → Ends step a moves said b h held to old new before left result
-  at_rounds : result ≡ Ok endings.RoundsDone → b.speaks ≡ false → are_done b.rounds ≡ true → h ≡ b.handler
-      → Appends old new (flat_map frame (hello_of a.session ∷ said)) → Ends step a moves said b h held to old new before left result
-  at_reading : (fault : Fault) (rest : Stream) → result ≡ Err fault → b.speaks ≡ false → are_done b.rounds ≡ false → Stops fault held rest to before left → h ≡ b.handler
-      → Appends old new (flat_map frame (hello_of a.session ∷ said)) → Ends step a moves said b h held to old new before left result
-  at_message : (fault : Fault) (message : Message) (rest : List ℕ) → result ≡ Err fault → front_of held ≡ whole message rest → Refuses step b (hears message) fault h
-      → Appends old new (flat_map frame (hello_of a.session ∷ said)) → Ends step a moves said b h held to old new before left result
-  at_speaking : (fault : Fault) → result ≡ Err fault → Refuses step b speaks fault h
-      → Appends old new (flat_map frame (hello_of a.session ∷ said)) → Ends step a moves said b h held to old new before left result
-  at_writing : (fault : Fault) → result ≡ Err fault → Cuts step a moves said b old new fault → h ≡ b.handler
-      → Ends step a moves said b h held to old new before left result
-
--- the bytes that were read are the frames of the messages that were heard, and then what is held; the moves are a run of
--- the handler's steps; and what was put out is the Hello and what the moves say
-pub record Talks {H : Type 0} (step : H → Act → H → Type 0) (a : Party H) (h : H) (from to old new : Option (List ℕ)) (before left : ℕ) (result : Result Ended Fault) : Type 0 where
-  pub bytes : List ℕ
-  pub held : List ℕ
+-- what one end does in a talk: its moves in turn, all that they say, and the end after them
+pub record Course {H : Type 0} (step : H → Act → H → Type 0) (a : Party H) : Type 0 where
   pub moves : List Move
   pub said : List Message
   pub last : Party H
-  pub consumed : Consumes from to bytes
-  pub heard : bytes ≡ flat_map frame (heard_in moves) ++ held
   pub run : Run step a moves said last
-  pub ends : Ends step a moves said last h held to old new before left result
+
+-- it is the peer's turn to speak
+abbrev pub Listens : {H : Type 0} → Party H → Type 0
+Listens b = (b.speaks ≡ false) × (are_done b.rounds ≡ false)
+
+-- the Hello and all that the moves say is written, and what was not heard is held
+pub record Stays {H : Type 0} (a : Party H) (said : List Message) (held : List ℕ) (old new : Connection) : Type 0 where
+  pub put_out : Appends old.output new.output (flat_map frame (hello_of a.session ∷ said))
+  pub held_on : new.stream ≡ open_with held
+
+-- where a talk is cut short: in its Hello, before any move; or in what its last move says, with the Hello and all that was
+-- said before put out
+pub data Cuts {H : Type 0} (step : H → Act → H → Type 0) (a : Party H) (course : Course step a) (old new : Option (List ℕ)) (fault : Fault) : Type 0 where
+  in_hello : course.moves ≡ [] → CutShort old new (hello_of a.session ∷ []) fault → Cuts step a course old new fault
+  in_last : (front : List Move) (move : Move) (before more : List Message) (now : Party H) (mid : Option (List ℕ)) → course.moves ≡ front ++ (move ∷ []) → course.said ≡ before ++ more
+      → Run step a front before now → Moves step now move more course.last → Appends old mid (flat_map frame (hello_of a.session ∷ before)) → CutShort mid new more fault
+      → Cuts step a course old new fault
+
+-- how a talk ends, with the Hello and all that its moves say put out, but for what is cut short
+pub data Ends {H : Type 0} (step : H → Act → H → Type 0) (a : Party H) (course : Course step a) (h : H) (held : List ℕ) (old new : Connection)
+    (result : Result Ended Fault) : Type 0 where
+  at_end : result ≡ Ok endings.End → Listens course.last → held ≡ [] → IsAtEnd new.input → h ≡ course.last.handler → Stays a course.said held old new
+      → Ends step a course h held old new result
+  at_bye : (reason : ℕ) (front : List Move) → result ≡ Ok (endings.Bye reason) → course.moves ≡ front ++ (hears (kinds.Bye reason) ∷ []) → h ≡ course.last.handler
+      → Stays a course.said held old new → Ends step a course h held old new result
+  at_rounds : result ≡ Ok endings.RoundsDone → course.last.speaks ≡ false → are_done course.last.rounds ≡ true → h ≡ course.last.handler → Stays a course.said held old new
+      → Ends step a course h held old new result
+  at_reading : (fault : Fault) → result ≡ Err fault → Listens course.last → Stops fault held new.stream new.input old.left new.left → h ≡ course.last.handler
+      → Appends old.output new.output (flat_map frame (hello_of a.session ∷ course.said)) → Ends step a course h held old new result
+  at_message : (fault : Fault) (message : Message) (rest : List ℕ) → result ≡ Err fault → front_of held ≡ whole message rest → Refuses step course.last (hears message) fault h
+      → Stays a course.said rest old new → Ends step a course h held old new result
+  at_speaking : (fault : Fault) → result ≡ Err fault → Refuses step course.last speaks fault h → Stays a course.said held old new → Ends step a course h held old new result
+  at_writing : (fault : Fault) → result ≡ Err fault → Cuts step a course old.output new.output fault → h ≡ course.last.handler → new.stream ≡ open_with held
+      → Ends step a course h held old new result
+
+-- what was held and read is the frames of the messages that were heard, and then what is held; the moves are a run of the
+-- handler's steps; and what was put out is the Hello and what the moves say
+pub record TalksOpen {H : Type 0} (step : H → Act → H → Type 0) (a : Party H) (h : H) (begun : List ℕ) (old new : Connection) (result : Result Ended Fault) : Type 0 where
+  pub bytes : List ℕ
+  pub held : List ℕ
+  pub course : Course step a
+  pub consumed : Consumes old.input new.input bytes
+  pub heard : begun ++ bytes ≡ flat_map frame (heard_in course.moves) ++ held
+  pub ends : Ends step a course h held old new result
+
+-- over a connection that is closed after a faulty frame nothing is said or heard
+abbrev pub TalksFrom : {H : Type 0} → (H → Act → H → Type 0) → Party H → H → Stream → Connection → Connection → Result Ended Fault → Type 0
+TalksFrom step a h (open_with begun) old new result = TalksOpen step a h begun old new result
+TalksFrom step a h shut old new result = (result ≡ Err Closed) × (h ≡ a.handler) × (new ≡ old)
+
+abbrev pub Talks : {H : Type 0} → (H → Act → H → Type 0) → Party H → H → Connection → Connection → Result Ended Fault → Type 0
+Talks step a h old new result = TalksFrom step a h old.stream old new result
 
 -- a message is taken and answered, or refused with nothing put out
 abbrev pub Hearing : {H : Type 0} → (H → Act → H → Type 0) → Message → Session → H → Session → H → Option (List ℕ) → Option (List ℕ) → Result (Option ℕ) Fault → Type 0

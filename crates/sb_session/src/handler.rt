@@ -5,8 +5,8 @@ use sb_digest::Digest;
 use sb_holdings::Report;
 use sb_types::{Delta, Fault, Name};
 
-/// What a session asks: a node, or what stands before one. It refuses a call with `NoMemory`, or with
-/// `TurnsSpent` where no more is granted to the session; a call that was refused has entered nothing.
+/// What a session asks: a node, or what guards one. It refuses a call with `NoMemory`, or with `TurnsSpent` if it grants the
+/// session no more. A call that was refused has entered nothing.
 pub trait Handler {
     /// By such a call, with such an answer, it may come from the one state to the other.
     ghost step: { Self → Act → Self → Type 0 };
@@ -17,8 +17,8 @@ pub trait Handler {
     /// What stays true from the one state to the other over any calls, as that nothing goes back.
     ghost grows: { Self → Self → Type 0 };
 
-    /// How far owners are held, from a name on, or from the least where none is given. `want` says
-    /// whether a digest is wanted in answer.
+    /// How far owners are held, from a name on, or from the least if none is given. `want` says whether a digest is wanted in
+    /// answer.
     fn digest(&mut self, from: Option<Name>, want: bool) -> Result<Digest, Fault>
         ensures step { step self.old (tells from want result) self.new }
         ensures fault { IfErr result IsRefusal };

@@ -1,8 +1,8 @@
 //! The rules by which two nodes that talk take each other's messages, and answer them.
 //!
-//! A `Session` takes the messages of a peer and says what to send: a delta for a digest, and an own digest where one is wanted.
-//! `dial` and `serve` run a whole session over a reader and a writer. What a node holds stands behind the trait `Handler`,
-//! which `sb_node` implements.
+//! A `Session` takes the messages of a peer and gives what to send: the delta for a digest, and an own digest if the peer wants
+//! one. `dial` and `serve` run a whole session over a `Connection`. They ask a `Handler` for what a node holds, and `sb_node`
+//! implements that trait.
 //!
 //! ```rust
 //! /// Whether the node `a` is greeted by the Hello of `b`, a node of the same cluster.

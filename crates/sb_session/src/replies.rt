@@ -3,8 +3,7 @@ use sb_digest::Digest;
 use sb_holdings::Report;
 use sb_types::Delta;
 
-/// What comes of a message that was taken: what is to be sent, how the blocks of a delta ended, or that
-/// a Bye ended the session.
+/// What comes of a message that was taken: what to send, how the blocks of a delta ended, or that a Bye ended the session.
 #[derive(Debug, Drop)]
 pub enum Replies {
     /// The peer's Hello was taken.

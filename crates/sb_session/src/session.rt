@@ -27,7 +27,7 @@ pub struct Session {
     cluster: Name,
     me: Name,
     phase: Phase,
-    /// Where the next digest begins; with the least name where there is none.
+    /// The name that the next digest begins with; none for the least.
     cursor: Option<Name>,
 }
 
@@ -64,9 +64,8 @@ impl Session {
         })
     }
 
-    /// The next digest, which wants one in answer. It begins where the last one that was sent ended, so
-    /// that the owners that do not fit one digest come in the next. `Closed`; the handler's `TurnsSpent`
-    /// and `NoMemory`, with the session unchanged.
+    /// The next digest, which wants one in answer. It begins at the end of the last one that was sent. So the owners that do not
+    /// fit one digest come in the next. `Closed`; the handler's `TurnsSpent` and `NoMemory`, with the session unchanged.
     pub fn ask<H: Handler>(&mut self, handler: &mut H) -> Result<Message, Fault>
         ensures asks { Asks H.step self.old handler.old result self.new handler.new }
         ensures fault { IfErr result (λ fault. is_session_fault fault ≡ true) }
@@ -81,10 +80,16 @@ impl Session {
         Ok(Message::Digest(digest))
     }
 
-    /// Takes a message. `Closed`; `UnknownKind` of the kinds 10 to 14 hex, which have no place here; then
-    /// `NoHello` of what comes before the peer's Hello; `SecondHello`; `WrongCluster` and `SameName` of
-    /// the peer's Hello. After these it is closed. Then the handler's `TurnsSpent` and `NoMemory`, with
-    /// the session unchanged and nothing entered; the message is lost.
+    /// Takes a message. Its faults, in their order:
+    ///
+    /// - `Closed`.
+    /// - `UnknownKind` of the kinds 10 to 14 hex, which have no place here.
+    /// - `NoHello` of what comes before the peer's Hello.
+    /// - `SecondHello`.
+    /// - `WrongCluster` and `SameName` of the peer's Hello.
+    /// - `TurnsSpent` and `NoMemory` of the handler, with the session unchanged and nothing entered. The message is lost.
+    ///
+    /// After each of them but the handler's the session is closed.
     pub fn take<H: Handler>(&mut self, message: Message, handler: &mut H) -> Result<Replies, Fault>
         ensures takes { Takes H.step self.old handler.old message result self.new handler.new }
         ensures fault { IfErr result (λ fault. is_session_fault fault ≡ true) }
@@ -134,8 +139,7 @@ impl Session {
         Ok(Replies::Greeted)
     }
 
-    /// The delta for a digest and, where it wants one, the own next digest. Both are made before either
-    /// is sent.
+    /// The delta for a digest and, if it wants one, the own next digest. Both are made before either is sent.
     fn answer<H: Handler>(&mut self, theirs: &Digest, handler: &mut H) -> Result<Replies, Fault>
         ensures answers { AnswersDigest H.step self.old handler.old theirs.now theirs.now.want result self.new handler.new }
         ensures fault { IfErr result (λ fault. is_session_fault fault ≡ true) }

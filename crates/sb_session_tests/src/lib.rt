@@ -3,6 +3,8 @@
 #![tactic(auto)]
 
 #[cfg(test)]
+mod connection;
+#[cfg(test)]
 mod examples;
 #[cfg(test)]
 mod frames;

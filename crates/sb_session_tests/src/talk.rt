@@ -4,7 +4,7 @@ ghost use Rattle.std.specs.Prelude.{◌≡◌, ◌<◌};
 use crate::session::{HELLO_C2, Node, ROWS};
 use crate::wire::{add, greatest_frame, joined};
 use crate::{got, name, same, same_at};
-use sb_frames::{LastWrite, Steps};
+use sb_frames::{Connection, Steps};
 use sb_session::{Ended, Session, dial, serve};
 use sb_testing::streams::Pieces;
 use sb_testing::wire::{
@@ -124,41 +124,26 @@ fn reader_of<'a>(terms: &Terms<'a>) -> Pieces<'a> {
     reader
 }
 
+/// How a talk of this session ends over a reader and a writer, and whether its last write is said to have failed.
 fn talk_on<L: Ledger>(
     node: &mut Node,
-    reader: &mut Pieces<'_>,
-    writer: &mut Room,
+    streams: (&mut Pieces<'_>, &mut Room),
     session: Session,
     terms: Terms<'_>,
     blank: Blank,
-) -> (Result<Ended, Fault>, LastWrite)
+) -> (Result<Ended, Fault>, bool)
     requires name { blank.name ≡ L.name }
     requires parts { blank.parts ≡ L.parts }
     requires some { 0 < blank.parts }
 {
-    let alloc = node.alloc;
-    let mut steps = Steps::<L>::new(blank);
-    match terms.rounds {
-        None => serve(
-            alloc,
-            reader,
-            writer,
-            session,
-            node,
-            terms.reads,
-            &mut steps,
-        ),
-        Some(rounds) => dial(
-            alloc,
-            reader,
-            writer,
-            session,
-            node,
-            rounds,
-            terms.reads,
-            &mut steps,
-        ),
-    }
+    let (reader, writer) = streams;
+    let steps = Steps::<L>::new(blank);
+    let mut connection = Connection::new(node.alloc, reader, writer, terms.reads, steps);
+    let ended = match terms.rounds {
+        None => serve(&mut connection, session, node),
+        Some(rounds) => dial(&mut connection, session, node, rounds),
+    };
+    (ended, connection.has_write_failed())
 }
 
 /// Makes a whole talk of a node of the cluster c1. Returns how it ended, and whether its last write is reported as
@@ -171,8 +156,7 @@ fn talk_telling(
 ) -> (Result<Ended, Fault>, bool) {
     let session = Session::new(name(rt, b"c1"), *node.holdings.me());
     let mut reader = reader_of(&terms);
-    let (ended, last) = talk_on::<Brand>(node, &mut reader, writer, session, terms, Blank::new(1));
-    (ended, last.has_failed())
+    talk_on::<Brand>(node, (&mut reader, writer), session, terms, Blank::new(1))
 }
 
 /// A talk that goes well:
@@ -305,14 +289,8 @@ fn unread(rt: &impl Abort, alloc: Global, course: &Course<'_>, room: usize) -> u
     let mut reader = reader_of(&terms);
     let session = Session::new(name(rt, b"c1"), *node.holdings.me());
     let mut writer = Room::new(room);
-    let (_, _) = talk_on::<Brand>(
-        &mut node,
-        &mut reader,
-        &mut writer,
-        session,
-        terms,
-        Blank::new(1),
-    );
+    let streams = (&mut reader, &mut writer);
+    let _ = talk_on::<Brand>(&mut node, streams, session, terms, Blank::new(1));
     reader.bytes.len()
 }
 

@@ -6,15 +6,14 @@ use Rattle.sb_session.specs.Talks.{party_of, are_done}
 use Rattle.sb_session.proofs.Talking.{Talking}
 use Rattle.sb_session.proofs.talk.talk.Given as goal
 
-abbrev pub invariant-loop-buffer : goal.invariant-loop-buffer
-invariant-loop-buffer g l = record {
-  talking : Talking g.H.Handler.step (party_of true l.fn.all l.fn.first l.fn.handler) (party_of false l.rounds l.session l.handler) [] l.frames
-      (g.R.Read.remaining l.fn.reader) (g.R.Read.remaining l.reader) (g.W.Write.contents l.fn.writer) (g.W.Write.contents l.writer) l.fn.max_reads l.left;
-  unfailed : has_failed l.last ≡ false;
+abbrev pub invariant-loop-message : goal.invariant-loop-message
+invariant-loop-message g l = record {
+  talking : Talking g.H.Handler.step (party_of true l.fn.all l.fn.first l.fn.handler) (party_of false l.rounds l.session l.handler) [] l.fn.connection l.connection;
+  unfailed : has_failed l.connection.last_write ≡ false;
   goes : are_done l.rounds ≡ false;
   grows : g.H.Handler.grows l.fn.handler l.handler;
-  counted : l.steps + l.left ≡ l.fn.steps + l.fn.max_reads;
+  counted : l.connection.steps + l.connection.left ≡ l.fn.connection.steps + l.fn.connection.left;
 }
 
-abbrev pub decreases-loop-buffer : goal.decreases-loop-buffer
-decreases-loop-buffer g l = length (held_of l.frames) + READ_LENGTH * l.left
+abbrev pub decreases-loop-message : goal.decreases-loop-message
+decreases-loop-message g l = length (held_of l.connection.stream) + READ_LENGTH * l.connection.left

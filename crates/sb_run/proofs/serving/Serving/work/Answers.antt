@@ -1,5 +1,5 @@
 use Rattle.sb_run.proofs.Pooling.{kept_on}
-use Rattle.sb_run.proofs.pool.work.Goals as goal
+use Rattle.sb_run.proofs.serving.Serving.work.Goals as goal
 
 pub loop-preserved : goal.loop-preserved
 loop-preserved g c =

@@ -1,6 +1,6 @@
 use Rattle.std.proofs.Common.{rules}
 use Rattle.sb_run.proofs.Leaving.{end_fault}
-use Rattle.sb_run.proofs.threads.fn.run_threads.scope.Goals as goal
+use Rattle.sb_run.proofs.dialer.fn.Dialer.run_threads.scope.Goals as goal
 
 pub returns : goal.returns
 returns g c =
