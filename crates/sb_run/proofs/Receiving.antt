@@ -30,15 +30,14 @@ one_stopped old new fault shut r = (cc (r.0), r.1, r.2, r.3)
 from_same : (old mid new : Connection) (stream : Stream) (result : Result Message Fault) → mid.input ≡ old.input → mid.left ≡ old.left → ReceivesOneFrom stream mid new result
     → ReceivesOneFrom stream old new result
 from_same old mid new (open_with held) (Ok m) input left r = (r.0, subst (λ (x : Option (List ℕ)). Consumes x new.input r.0) input r.1, r.2)
-from_same old mid new (open_with held) (Err fault) input left r =
-    (
-      r.0,
-      subst (λ (x : Option (List ℕ)). Consumes x new.input r.0) input r.1,
-      elim r.2 [
-        | inl none ↦ inl none
-        | inr stops ↦ inr (subst (λ (n : ℕ). Stops fault (held ++ r.0) new.stream new.input n new.left) left stops)
-      ],
-    )
+from_same old mid new (open_with held) (Err fault) input left r = (
+  r.0,
+  subst (λ (x : Option (List ℕ)). Consumes x new.input r.0) input r.1,
+  elim r.2 [
+    | inl none ↦ inl none
+    | inr stops ↦ inr (subst (λ (n : ℕ). Stops fault (held ++ r.0) new.stream new.input n new.left) left stops)
+  ],
+)
 from_same old mid new shut result input left r = (r.0, r.1, subst (λ (x : Option (List ℕ)). Keeps x new.input) input r.2, r.3 ∙ left)
 
 -- what is received from a connection of which nothing was read since
@@ -58,13 +57,12 @@ received_to old mid new m kept r = to_same old mid new old.stream m kept r
 
 shut_from : (old new : Connection) (stream : Stream) (fault : Fault) → is_shut stream ≡ true → fault ≡ Closed → stream ≡ old.stream → new ≡ old → ReceivesOneFrom stream old new (Err fault)
 shut_from old new (open_with held) fault e is same unchanged = absurd cc
-shut_from old new shut fault e is same unchanged =
-    (
-      ap Err is,
-      ap (λ (c : Connection). c.stream) unchanged ∙ sym same,
-      subst (λ (c : Connection). Keeps old.input c.input) (sym unchanged) (Keeps-refl old.input),
-      ap (λ (c : Connection). c.left) unchanged,
-    )
+shut_from old new shut fault e is same unchanged = (
+  ap Err is,
+  ap (λ (c : Connection). c.stream) unchanged ∙ sym same,
+  subst (λ (c : Connection). Keeps old.input c.input) (sym unchanged) (Keeps-refl old.input),
+  ap (λ (c : Connection). c.left) unchanged,
+)
 
 -- a connection that is closed gives nothing
 pub none_starts : (old new : Connection) (fault : Fault) → is_shut old.stream ≡ true → fault ≡ Closed → new ≡ old → ReceivesOne old new (Err fault)

@@ -26,7 +26,13 @@ fn new_connection<'a, L: Ledger>(
     requires parts { blank.parts ≡ L.parts }
     requires some { 0 < blank.parts }
 {
-    Connection::new(alloc, reader, FailingWriter::new(room), 99, Steps::<L>::new(blank))
+    Connection::new(
+        alloc,
+        reader,
+        FailingWriter::new(room),
+        99,
+        Steps::<L>::new(blank),
+    )
 }
 
 fn bye() -> Result<Message, Fault> {
