@@ -59,7 +59,7 @@ fn setting_of<'a>(given: &ServeArguments<'a>) -> FaultPlace<'a> {
     }
 }
 
-/// Whether the program is not permitted to make a socket at a path where no file is.
+/// Whether the program is not permitted to make a socket at a path that no file has.
 fn is_forbidden(rt: &HostRuntime, path: &str) -> bool {
     match UnixListener::bind(rt, path) {
         Ok(_) => {
