@@ -15,7 +15,7 @@ class Option:
 
     def __init__(self, const, docs, fields, numbers):
         self.const, self.name, self.value, self.help = const, fields["name"], fields["value"], fields["help"]
-        self.kind, _, inner = fields["kind"].removeprefix("Kind::").partition("(")
+        self.kind, _, inner = fields["kind"].replace("Kind::", "", 1).partition("(")
         self.words = re.findall(r'"([^"]*)"', inner)
         self.limits = limits_of(inner, numbers)
         # the sentences that pages add to the help, and the parts of PARTS

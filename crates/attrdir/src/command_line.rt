@@ -81,8 +81,7 @@ fn detail_of(given: &ArgMatches<'_>) -> Detail {
     }
 }
 
-/// Prints what is wrong with the options and words of a command, if one that takes a number has another character than
-/// digits, or if a control socket is missing. Returns whether something is wrong.
+/// Returns whether a number has another character than digits, or a control socket is missing. If so, it prints that.
 fn has_wrong_words(rt: &HostRuntime, given: &ArgMatches<'_>, command: &str) -> bool {
     if let Some(part) = wrong_number(given, command) {
         let dashes = if part.value.is_empty() { "" } else { "--" };

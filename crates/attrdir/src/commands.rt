@@ -139,8 +139,8 @@ pub(crate) const MARK: Part = Part {
     help: "Prints a line 'asked' after each asking",
 };
 
-/// After a new start of the node it waits with gone until the node has shown a row of the same owner with the same version
-/// or a later one.
+/// After a new start of the node it waits with gone. It waits until the node has shown a row of the same owner with the
+/// same version or a later one.
 /// Left out: a fault ends it
 pub(crate) const RETRY: Part = Part {
     name: "retry",

@@ -59,7 +59,7 @@ fn setting_of<'a>(given: &ServeArguments<'a>) -> FaultPlace<'a> {
     }
 }
 
-/// Whether the program is not permitted to make a socket at a path where no file is.
+/// Whether the program is not permitted to make a socket at a path that no file has.
 fn is_forbidden(rt: &HostRuntime, path: &str) -> bool {
     match UnixListener::bind(rt, path) {
         Ok(_) => {
@@ -152,6 +152,24 @@ fn purge_first<'a, L: WriteLog>(
     Ok(())
 }
 
+/// What prints the lines of a node, which has printed none yet.
+fn console_of<'r, 'a>(rt: &'r HostRuntime, given: &ServeArguments<'a>) -> Console<'r, 'a> {
+    let metrics = match given.metrics {
+        Some(path) => Some(MetricsFile::new(path)),
+        None => None,
+    };
+    Console {
+        rt,
+        name: given.name,
+        log: given.log,
+        sock: given.sock,
+        control: given.control,
+        has_time: given.has_time,
+        metrics,
+        shortage: Shortage::new(),
+    }
+}
+
 /// Runs a node with a log, and prints what it did. If the log has many tombstones, they are dropped first. The faults
 /// of `purge_removals`, then those of `run_node`, then `WriteFailed`.
 fn run<'a, L: WriteLog + Drop, R: Runtime + Net<Listener = TcpListener, Stream = TcpStream>>(
@@ -167,20 +185,7 @@ fn run<'a, L: WriteLog + Drop, R: Runtime + Net<Listener = TcpListener, Stream =
         control: given.control,
         peers: given.peers.as_slice(),
     };
-    let metrics = match given.metrics {
-        Some(path) => Some(MetricsFile::new(path)),
-        None => None,
-    };
-    let console = Console {
-        rt,
-        name: given.name,
-        log: given.log,
-        sock: given.sock,
-        control: given.control,
-        has_time: given.has_time,
-        metrics,
-        shortage: Shortage::new(),
-    };
+    let console = console_of(rt, given);
     purge_first(rt, &console, given, &mut log)?;
     let config = NodeConfig {
         settings,
