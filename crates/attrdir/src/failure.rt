@@ -159,9 +159,6 @@ impl From<Fault> for Failure<'_> {
 /// The text of `ReadFailed`, if the place has a closer one.
 fn text_of_reading(place: FaultPlace<'_>) -> Option<&'static str> {
     Some(match place {
-        FaultPlace::Unreached(_, obstacle) | FaultPlace::NoPeer(_, obstacle) => {
-            return Some(obstacle.text());
-        }
         FaultPlace::Control(_) | FaultPlace::Session(_) => "the node ended the connection",
         FaultPlace::Peer(_) => "a peer can never be reached: this cannot be the path of a socket",
         FaultPlace::Taken(_) => {
@@ -225,6 +222,8 @@ fn write_text<W: fmt::Write>(
 ) -> fmt::Result {
     match (fault, place) {
         (_, FaultPlace::Node(_)) => write_told(fault, f),
+        (Fault::ReadFailed, FaultPlace::Unreached(_, obstacle) | FaultPlace::NoPeer(_, obstacle)) =>
+            { f.write_str(obstacle.text()) }
         (Fault::ReadFailed, FaultPlace::Silent(_) | FaultPlace::SilentPeer(_)) => {
             write!(f, "the node was silent for {LONGEST_SILENCE} s")
         }
