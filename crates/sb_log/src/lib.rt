@@ -15,6 +15,7 @@
 //! ```
 #![tactic(auto)]
 
+mod cause;
 mod check;
 mod committed;
 mod content;
@@ -27,6 +28,7 @@ mod schema;
 mod sql;
 mod statements;
 
+pub use cause::{LogError, StoreCause};
 pub use committed::Committed;
 pub use log::WriteLog;
 pub use plain::PlainLog;

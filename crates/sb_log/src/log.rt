@@ -1,10 +1,12 @@
 //! What a log promises, wherever it keeps its writes.
-ghost use Rattle.std.specs.Prelude.{◌≡◌, false, Ok, IfErr};
+ghost use Rattle.std.specs.Prelude.{◌≡◌, true, false, Option, None, IsSome, Ok, IfErr};
 ghost use Rattle.sb_types.specs.Records as records;
 ghost use Rattle.sb_types.specs.Text.{is_name};
 ghost use Rattle.sb_log.specs.Records.{Log};
+ghost use Rattle.sb_log.specs.declared.cause.StoreCause.{StoreCause};
 ghost use Rattle.sb_log.specs.Puts.{Puts, Purges, Loads, IsSure, IsSettled, PutSurvives, PurgeSurvives, LoadSurvives};
 
+use crate::cause::StoreCause;
 use crate::committed::Committed;
 use sb_table::Table;
 use sb_types::{Fault, Key, Name, Slot};
@@ -18,6 +20,9 @@ pub trait WriteLog {
     /// What a crash at this moment may leave as its content.
     ghost leaves: { Self → records.Table → Type 0 };
 
+    /// Why its store failed, once that closed it.
+    ghost why: { Self → Option StoreCause };
+
     /// Whose writes they are.
     fn owner(&self) -> &Name
         ensures { result.now ≡ (seen self.now).owner };
@@ -25,6 +30,12 @@ pub trait WriteLog {
     /// Of which cluster the owner is.
     fn cluster(&self) -> &Name
         ensures { result.now ≡ (seen self.now).cluster };
+
+    /// Why it is closed: what its store reported when that failed. None if it is open.
+    fn cause(&self) -> Option<StoreCause>
+        ensures cause { result ≡ why self.now }
+        ensures open { (seen self.now).is_open ≡ true → result ≡ None }
+        ensures closed { (seen self.now).is_open ≡ false → IsSome result };
 
     /// Keeps a write, under the next version, and gives it back with that version. `Closed` after a fault of the
     /// store; `NothingThere` for a removal where the key has no value; `TableFull` where the key is new beside

@@ -3,6 +3,7 @@ ghost use Rattle.std.specs.Prelude.{◌≡◌, ◌≤◌, Ok, true};
 ghost use Rattle.sb_types.specs.Records as records;
 ghost use Rattle.sb_log.specs.Puts as spec;
 
+use crate::cause::StoreCause;
 use crate::check::accept;
 use crate::committed::Committed;
 use crate::log::WriteLog;
@@ -50,11 +51,13 @@ impl PlainLog {
 }
 
 impl WriteLog for PlainLog {
-    ghost use Rattle.std.specs.Prelude.{◌≡◌};
+    ghost use Rattle.std.specs.Prelude.{◌≡◌, None};
 
     ghost seen = { λ l. l };
 
     ghost leaves = { λ l left. left ≡ l.content };
+
+    ghost why = { λ _. None };
 
     fn owner(&self) -> &Name {
         &self.owner
@@ -62,6 +65,10 @@ impl WriteLog for PlainLog {
 
     fn cluster(&self) -> &Name {
         &self.cluster
+    }
+
+    fn cause(&self) -> Option<StoreCause> {
+        None
     }
 
     fn put(&mut self, key: &Key, slot: &Slot) -> Result<Committed, Fault> {

@@ -5,11 +5,13 @@ ghost use Rattle.sqlite_trees.specs.View.{doubt};
 ghost use Rattle.sqlite.specs.Held.{state};
 ghost use Rattle.sqlite.specs.State.{HasCleanDisk};
 ghost use Rattle.sb_types.specs.Records as records;
+ghost use Rattle.sb_log.specs.Cause.{fault_of};
 ghost use Rattle.sb_log.specs.Opening.{Opens, NamesAnother, SaysStill, Completes, Founds, IsWant, IsOpeningFault, IsOpenedAs};
 ghost use Rattle.sb_log.specs.Puts.{Begins, BeginSurvives, Purges, PurgeSurvives, IsSettled, IsSure};
 ghost use Rattle.sb_log.specs.Sql.{log_in};
 ghost use Rattle.sb_log.specs.Standing.{HoldsContent, MayLeave};
 
+use crate::cause::{LogError, StoreCause};
 use crate::check::accept;
 use crate::committed::Committed;
 use crate::content::read_content;
@@ -33,7 +35,7 @@ use std::marker::Model;
 ///     let (owner, cluster) = (Name::read(b"a")?, Name::read(b"c1")?);
 ///     let mut log = match SqlLog::open(alloc, conn, owner, cluster, VERSION_MOST) {
 ///         Ok(log) => log,
-///         Err((fault, _)) => return Err(fault),
+///         Err((error, _)) => return Err(error.fault()),
 ///     };
 ///     let committed = log.put(&Key::read(b"web/up")?, &Slot::Set(Value::flag(true)))?;
 ///     let version = committed.entry().version();
@@ -52,6 +54,8 @@ pub struct SqlLog<S: Alter> {
     // What the rows hold, while the log is open.
     table: Table,
     is_open: bool,
+    // Why the store failed, once that closed the log.
+    cause: Option<StoreCause>,
     alloc: Global,
 }
 
@@ -59,6 +63,7 @@ impl<S: Alter> Model for SqlLog<S> {
     ghost use Rattle.std.specs.Prelude.{◌≤◌};
     ghost use Rattle.sb_types.specs.declared.limits.TheConstants.{VERSION_MOST};
     ghost use Rattle.sb_table.specs.Contents.{IsContent};
+    ghost use Rattle.sb_log.specs.Cause.{IsCausedBy};
     ghost use Rattle.sb_log.specs.Sql.{SqlView, sql_code};
     ghost use Rattle.sb_log.specs.Standing.{IsKept};
 
@@ -66,9 +71,10 @@ impl<S: Alter> Model for SqlLog<S> {
 
     ghost coded = { sql_code S.code };
 
-    ghost view = { λ l. record { owner = l.owner; cluster = l.cluster; most = l.max_version; is_open = l.is_open; conn = l.conn } };
+    ghost view = { λ l. record { owner = l.owner; cluster = l.cluster; most = l.max_version; is_open = l.is_open; cause = l.cause; conn = l.conn } };
 
-    ghost invariant = { λ l. IsKept S.Store l.owner l.cluster l.conn l.table l.is_open × (l.max_version ≤ VERSION_MOST) × IsContent l.table × (l.table.held ≤ VERSION_MOST) };
+    ghost invariant = { λ l. IsKept S.Store l.owner l.cluster l.conn l.table l.is_open × (l.max_version ≤ VERSION_MOST) × IsContent l.table × (l.table.held ≤ VERSION_MOST)
+        × IsCausedBy l.is_open l.cause };
 }
 
 impl<S: Alter + Drop> SqlLog<S> {
@@ -89,7 +95,7 @@ impl<S: Alter + Drop> SqlLog<S> {
         owner: Name,
         cluster: Name,
         max_version: u64,
-    ) -> Result<SqlLog<S>, (Fault, Connection<S>)>
+    ) -> Result<SqlLog<S>, (LogError, Connection<S>)>
         ensures log { IfOk result (λ l. IsOpenedAs owner cluster max_version (log_in S.Store l)) }
         ensures clean { IfOk result (λ l. doubt (state S.Store conn).is_clean ≤ doubt (state S.Store l.conn).is_clean) }
         ensures found { IfOk result (λ l. HasCleanDisk (state S.Store l.conn) → Opens owner cluster (state S.Store conn).now (log_in S.Store l).content) }
@@ -100,11 +106,11 @@ impl<S: Alter + Drop> SqlLog<S> {
         ensures settled { IfOk result (λ l. IsSettled (log_in S.Store l) (MayLeave S.Store owner cluster l.conn)) }
         ensures whole { (t : records.Table) → Opens owner cluster (state S.Store conn).now t
             → IfErr result (λ refused. HasCleanDisk (state S.Store refused.1) → IsWant refused.0) }
-        ensures others { IfErr result (λ refused. HasCleanDisk (state S.Store refused.1) → refused.0 ≡ Fault.WrongOwner
+        ensures others { IfErr result (λ refused. HasCleanDisk (state S.Store refused.1) → fault_of refused.0 ≡ Fault.WrongOwner
             → NamesAnother owner cluster (state S.Store conn).now) }
         ensures theirs { NamesAnother owner cluster (state S.Store conn).now
-            → IfErr result (λ refused. HasCleanDisk (state S.Store refused.1) → (refused.0 ≡ Fault.WrongOwner) ⊎ IsWant refused.0) }
-        ensures refused { IfErr result (λ refused. HasCleanDisk (state S.Store refused.1) → refused.0 ≢ Fault.StoreFailed
+            → IfErr result (λ refused. HasCleanDisk (state S.Store refused.1) → (fault_of refused.0 ≡ Fault.WrongOwner) ⊎ IsWant refused.0) }
+        ensures refused { IfErr result (λ refused. HasCleanDisk (state S.Store refused.1) → fault_of refused.0 ≢ Fault.StoreFailed
             → ((state S.Store refused.1).now ≡ (state S.Store conn).now) ⊎ Completes (state S.Store conn).now (state S.Store refused.1).now) }
         ensures crash { IfErr result (λ refused. HasCleanDisk (state S.Store refused.1) → (db : Trees) → (state S.Store refused.1).may_leave db
             → (state S.Store conn).may_leave db ⊎ Founds owner cluster (state S.Store conn).now db) }
@@ -113,7 +119,7 @@ impl<S: Alter + Drop> SqlLog<S> {
         let mut conn = conn;
         let table = match open_tables(&mut conn, alloc, &owner, &cluster) {
             Ok(table) => table,
-            Err(fault) => return Err((fault, conn)),
+            Err(error) => return Err((error, conn)),
         };
         let max_version = max_version.min(VERSION_MOST);
         Ok(SqlLog {
@@ -123,6 +129,7 @@ impl<S: Alter + Drop> SqlLog<S> {
             conn,
             table,
             is_open: true,
+            cause: None,
             alloc,
         })
     }
@@ -154,9 +161,10 @@ impl<S: Alter + Drop> SqlLog<S> {
                 self.table.raise(after, after);
                 Ok(())
             }
-            Err(fault) => {
+            Err(cause) => {
                 self.is_open = false;
-                Err(fault)
+                self.cause = Some(cause);
+                Err(Fault::StoreFailed)
             }
         }
     }
@@ -167,12 +175,18 @@ impl<S: Alter + Drop> WriteLog for SqlLog<S> {
 
     ghost leaves = { λ l left. MayLeave S.Store l.owner l.cluster l.conn left };
 
+    ghost why = { λ l. l.cause };
+
     fn owner(&self) -> &Name {
         &self.owner
     }
 
     fn cluster(&self) -> &Name {
         &self.cluster
+    }
+
+    fn cause(&self) -> Option<StoreCause> {
+        self.cause
     }
 
     fn put(&mut self, key: &Key, slot: &Slot) -> Result<Committed, Fault> {
@@ -185,10 +199,11 @@ impl<S: Alter + Drop> WriteLog for SqlLog<S> {
         };
         match write_entry(&mut self.conn, &entry) {
             Ok(()) => Ok(Committed::new(self.owner, entry)),
-            Err(fault) => {
+            Err(cause) => {
                 drop(entry);
                 self.is_open = false;
-                Err(fault)
+                self.cause = Some(cause);
+                Err(Fault::StoreFailed)
             }
         }
     }
@@ -217,9 +232,10 @@ impl<S: Alter + Drop> WriteLog for SqlLog<S> {
                 self.table.raise(upto, floor);
                 Ok(())
             }
-            Err(fault) => {
+            Err(cause) => {
                 self.is_open = false;
-                Err(fault)
+                self.cause = Some(cause);
+                Err(Fault::StoreFailed)
             }
         }
     }
@@ -231,15 +247,17 @@ impl<S: Alter + Drop> WriteLog for SqlLog<S> {
         let (last, floor) = (self.table.upto(), self.table.floor());
         match read_content(&mut self.conn, alloc, last, floor) {
             Ok(table) => Ok(table),
-            Err(Fault::NoMemory) => Err(Fault::NoMemory),
-            Err(Fault::LogDamaged) => {
+            Err(LogError::Store(cause)) => {
                 self.is_open = false;
-                Err(Fault::LogDamaged)
-            }
-            Err(_) => {
-                self.is_open = false;
+                self.cause = Some(cause);
                 Err(Fault::StoreFailed)
             }
+            Err(LogError::Fault(Fault::LogDamaged)) => {
+                self.is_open = false;
+                self.cause = Some(StoreCause::Damaged);
+                Err(Fault::LogDamaged)
+            }
+            Err(LogError::Fault(_)) => Err(Fault::NoMemory),
         }
     }
 
