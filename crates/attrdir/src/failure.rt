@@ -1,4 +1,5 @@
 //! What ended a command: the fault, where it was met, and what to do about it.
+use sb_log::StoreCause;
 use sb_types::Fault;
 use std::alloc::AllocError;
 use std::fmt;
@@ -94,6 +95,8 @@ pub(crate) enum FaultPlace<'a> {
 pub(crate) struct Failure<'a> {
     fault: Fault,
     place: FaultPlace<'a>,
+    /// Why the store of a log failed, if that is known.
+    cause: Option<StoreCause>,
     /// At which line of standard input, counted from 1; 0 where it was at none.
     line: u64,
 }
@@ -103,6 +106,17 @@ impl<'a> Failure<'a> {
         Failure {
             fault,
             place,
+            cause: None,
+            line: 0,
+        }
+    }
+
+    /// `StoreFailed` of the log in a file, by this cause.
+    pub(crate) fn of_store(path: &'a str, cause: StoreCause) -> Failure<'a> {
+        Failure {
+            fault: Fault::StoreFailed,
+            place: FaultPlace::Log(path),
+            cause: Some(cause),
             line: 0,
         }
     }
@@ -112,6 +126,7 @@ impl<'a> Failure<'a> {
         Failure {
             fault: self.fault,
             place: self.place,
+            cause: self.cause,
             line,
         }
     }
@@ -224,6 +239,21 @@ once the node answers"
         FaultPlace::Sockets(..) =>
             "see that these are two paths, of 1 to 107 bytes each, that you may write to the folder of each, and that the process may open more files (ulimit -n)",
         _ => "see where standard input comes from",
+    }
+}
+
+/// What to do about the cause by which the store of a log failed.
+pub(crate) fn about_cause(cause: StoreCause) -> &'static str {
+    match cause {
+        StoreCause::NoSpace => "give its disk room",
+        StoreCause::CannotOpen => about_store(FaultPlace::Line),
+        StoreCause::Locked => "end the process that has it open",
+        StoreCause::Io => "see that its disk works, and that files on it may be written and may grow",
+        StoreCause::Damaged => {
+            "see what else wrote to the file; move it and its -wal away, and see `attrdir begin --help`"
+        }
+        StoreCause::NoMemory => "end other programs, or give the process more memory",
+        StoreCause::Other => "see that the file is the log of this node, and that nothing else writes to it",
     }
 }
 
@@ -430,6 +460,9 @@ impl fmt::Display for Failure<'_> {
         if self.line > 0 {
             write!(f, "line {}: ", self.line)?;
         }
-        write!(f, "{}{}", self.place, advice(&self.fault, self.place))
+        match self.cause {
+            Some(cause) => write!(f, "{}{cause}: {}", self.place, about_cause(cause)),
+            None => write!(f, "{}{}", self.place, advice(&self.fault, self.place)),
+        }
     }
 }

@@ -1,10 +1,10 @@
 //! A node that runs.
 use crate::console::{Console, Shortage};
 use crate::failure::{Failure, FaultPlace, Setting};
-use crate::log_file::{has_folder, open_log, purge_removals};
+use crate::log_file::{error_of, has_folder, open_log, purge_removals};
 use crate::metrics_file::{MetricsFile, may_replace, writes_over};
 use crate::words::name_of;
-use sb_log::WriteLog;
+use sb_log::{LogError, WriteLog};
 use sb_run::{NodeConfig, Pace, Paths, Ran, Runtime, run_node};
 use sb_types::{
     BUDGET_LEAST, BUDGET_MOST, Fault, Name, RawSettings, Settings, VERSION_MOST, WORKERS_MOST,
@@ -124,7 +124,10 @@ fn purge_first<'a, L: WriteLog>(
     match purge_removals(rt, log, given.purge_removals) {
         Ok(Some(purged)) => console.purged(purged),
         Ok(None) => {}
-        Err(fault) => return Err(Failure::at(place_of(rt, &fault, given), fault)),
+        Err(fault) => return match error_of(log, fault) {
+            LogError::Store(cause) => Err(Failure::of_store(given.log, cause)),
+            LogError::Fault(fault) => Err(Failure::at(place_of(rt, &fault, given), fault)),
+        },
     }
     Ok(())
 }

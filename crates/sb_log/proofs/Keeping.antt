@@ -12,6 +12,9 @@ use Rattle.sqlite_catalog.specs.Listing.{IsSound}
 use Rattle.sqlite_schema.specs.declared.schema.Schema.{Schema}
 use Rattle.sb_types.specs.declared.entry.Slot.{Slot}
 use Rattle.sb_types.specs.declared.fault.Fault.{Fault}
+use Rattle.sb_log.specs.declared.cause.LogError.{LogError}
+use Rattle.sb_log.specs.declared.cause.LogError.TheVariants as other
+use Rattle.sb_log.specs.Cause.{fault_of, IsReadingFault}
 use Rattle.sb_types.specs.declared.fault.Fault.TheVariants.{NoMemory, TableFull, VersionsSpent, NothingThere, Closed, StoreFailed, LogDamaged}
 use Rattle.sb_types.specs.Records.{Entry, Table}
 use Rattle.sb_table.specs.Plain.{plain_table, with_entry, is_full_for}
@@ -30,9 +33,10 @@ use Rattle.sb_log.proofs.Unique.{one_table}
 pub same_fault : {A : Type 0} {a b : Fault} → ◌≡◌ {A = Result A Fault} (Err a) (Err b) → a ≡ b
 same_fault e = cc
 
-pub read_fault : (fault : Fault) → (fault ≡ NoMemory) ⊎ (fault ≡ LogDamaged) → fault ≢ StoreFailed
-read_fault fault (inl memory) is = cc
-read_fault fault (inr damaged) is = cc
+pub read_fault : (e : LogError) (fault : Fault) → e ≡ other.Fault fault → IsReadingFault e → fault_of e ≢ StoreFailed
+read_fault (other.Store cause) fault is reading stored = absurd (cc)
+read_fault (other.Fault met) fault is (inl memory) stored = cc
+read_fault (other.Fault met) fault is (inr damaged) stored = cc
 
 pub never_closed : {A : Type 0} (a : A) → ◌≡◌ {A = Result A Fault} (Ok a) (Err Closed) → ⊥
 never_closed a e = absurd (cc)

@@ -207,14 +207,6 @@ or_commits f (inr b) = inr (f b)
 
 -- ---- what is said of an answer
 
-pub first_of : {A E P Q : Type 0} (result : Result A E) → OnOk result (P × Q) → OnOk result P
-first_of (Ok a) both = both.0
-first_of (Err e) both = tt
-
-pub second_of : {A E P Q : Type 0} (result : Result A E) → OnOk result (P × Q) → OnOk result Q
-second_of (Ok a) both = both.1
-second_of (Err e) both = tt
-
 pub so_on_ok : {A E P Q : Type 0} (result : Result A E) → OnOk result P → (P → Q) → OnOk result Q
 so_on_ok (Ok a) p f = f p
 so_on_ok (Err e) p f = tt

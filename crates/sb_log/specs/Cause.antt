@@ -1,5 +1,5 @@
 -- Why the store of a log failed, and why a log is not opened.
-use Rattle.std.specs.Prelude.{◌≡◌, ◌≢◌, ◌⊎◌, ⊤, ℕ, ◌==◌, if◌then◌else◌, Bool, true, false, Option, Some, None, IsSome, Result, IfErr, refl}
+use Rattle.std.specs.Prelude.{◌≡◌, ◌≢◌, ◌⊎◌, ⊤, ℕ, ◌==◌, if◌then◌else◌, Bool, true, false, Option, Some, None, IsSome, unwrap_or, Result, IfErr, refl}
 use Rattle.std.specs.Coded.{Coded, code_by, coded_ℕ}
 use Rattle.sqlite.specs.declared.error.Error.{Error}
 use Rattle.sqlite.specs.declared.error.Error.TheVariants.{SqliteFailure}
@@ -31,21 +31,27 @@ abbrev pub cause_in : LogError → Option StoreCause
 cause_in (Store cause) = Some cause
 cause_in (Fault fault) = None
 
--- a cause is stored as a number
+-- a cause has a number
 abbrev pub number_of : StoreCause → ℕ
-number_of NoSpace = 0
-number_of CannotOpen = 1
-number_of Locked = 2
-number_of Io = 3
-number_of Damaged = 4
-number_of NoMemory = 5
-number_of Other = 6
+number_of NoSpace = 1
+number_of CannotOpen = 2
+number_of Locked = 3
+number_of Io = 4
+number_of Damaged = 5
+number_of NoMemory = 6
+number_of Other = 7
 
-abbrev pub cause_at : ℕ → StoreCause
-cause_at n =
-    if n == 0 then NoSpace else (if n == 1 then CannotOpen else (if n == 2 then Locked else (if n == 3 then Io else (if n == 4 then Damaged else (if n == 5 then NoMemory else Other)))))
+abbrev pub cause_numbered : ℕ → Option StoreCause
+cause_numbered n =
+    if n == 1 then Some NoSpace
+    else (if n == 2 then Some CannotOpen
+    else (if n == 3 then Some Locked
+    else (if n == 4 then Some Io
+    else (if n == 5 then Some Damaged
+    else (if n == 6 then Some NoMemory
+    else (if n == 7 then Some Other else None))))))
 
-abbrev pub cause_again : (cause : StoreCause) → cause_at (number_of cause) ≡ cause
+abbrev pub cause_again : (cause : StoreCause) → unwrap_or (cause_numbered (number_of cause)) Other ≡ cause
 cause_again NoSpace = refl
 cause_again CannotOpen = refl
 cause_again Locked = refl
@@ -54,8 +60,9 @@ cause_again Damaged = refl
 cause_again NoMemory = refl
 cause_again Other = refl
 
+-- it is stored as that
 abbrev pub cause_code : Coded StoreCause
-cause_code = code_by ℕ coded_ℕ number_of cause_at cause_again
+cause_code = code_by ℕ coded_ℕ number_of (λ n. unwrap_or (cause_numbered n) Other) cause_again
 
 -- the store failed, memory was missing, or the rows are not those of a table
 abbrev pub IsReadingFault : LogError → Type 0

@@ -31,7 +31,7 @@ pub enum StoreCause {
 impl StoreCause {
     /// The cause that an error of the database gives.
     pub fn of(error: &Error) -> StoreCause
-        ensures { result ≡ spec.cause_of error.now }
+        ensures cause { result ≡ spec.cause_of error.now }
     {
         match error {
             Error::SqliteFailure(ErrorCode::DiskFull) => StoreCause::NoSpace,
@@ -43,6 +43,37 @@ impl StoreCause {
             }
             Error::SqliteFailure(ErrorCode::OutOfMemory) => StoreCause::NoMemory,
             _ => StoreCause::Other,
+        }
+    }
+
+    /// Its number, 1 to 7.
+    pub fn number(self) -> u64
+        ensures number { result ≡ spec.number_of self }
+    {
+        match self {
+            StoreCause::NoSpace => 1,
+            StoreCause::CannotOpen => 2,
+            StoreCause::Locked => 3,
+            StoreCause::Io => 4,
+            StoreCause::Damaged => 5,
+            StoreCause::NoMemory => 6,
+            StoreCause::Other => 7,
+        }
+    }
+
+    /// The cause of this number; none if there is no such cause.
+    pub fn from_number(number: u64) -> Option<StoreCause>
+        ensures cause { result ≡ spec.cause_numbered number }
+    {
+        match number {
+            1 => Some(StoreCause::NoSpace),
+            2 => Some(StoreCause::CannotOpen),
+            3 => Some(StoreCause::Locked),
+            4 => Some(StoreCause::Io),
+            5 => Some(StoreCause::Damaged),
+            6 => Some(StoreCause::NoMemory),
+            7 => Some(StoreCause::Other),
+            _ => None,
         }
     }
 
@@ -86,7 +117,7 @@ pub enum LogError {
 impl LogError {
     /// The fault: `StoreFailed` if the store failed.
     pub fn fault(self) -> Fault
-        ensures { result ≡ spec.fault_of self }
+        ensures fault { result ≡ spec.fault_of self }
     {
         match self {
             LogError::Store(_) => Fault::StoreFailed,
@@ -96,7 +127,7 @@ impl LogError {
 
     /// Why the store failed, if it did.
     pub fn cause(self) -> Option<StoreCause>
-        ensures { result ≡ spec.cause_in self }
+        ensures cause { result ≡ spec.cause_in self }
     {
         match self {
             LogError::Store(cause) => Some(cause),

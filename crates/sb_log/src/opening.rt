@@ -27,10 +27,8 @@ use sqlite::{Alter, Connection, Row};
 use sqlite_value::value::ValueRef;
 use std::alloc::Global;
 
-/// Opens a log's tables, and makes those that are missing: the content that they hold. In this order: `LogDamaged`
-/// where there is no meta row beside rows, a meta row without the table of writes, or an unknown form or schema;
-/// `WrongOwner`; `LogDamaged` where a row breaks a limit or has a text in form 1, or the last version or the floor is none
-/// that can be said. `StoreFailed` and `NoMemory` wherever they come.
+/// Opens a log's tables, makes those that are missing, and returns the content. `SqlLog::open` lists the faults in their order.
+/// Which damage is named is tested by a table of cases. It is not proved.
 pub(crate) fn open_tables<S: Alter>(
     conn: &mut Connection<S>,
     alloc: Global,
@@ -64,7 +62,7 @@ pub(crate) fn open_tables<S: Alter>(
     }
 }
 
-/// Opens tables that say nothing yet of their owner.
+/// Opens tables that do not say yet whose they are. `LogDamaged` if they have rows of writes.
 fn open_new<S: Alter>(
     conn: &mut Connection<S>,
     alloc: Global,
@@ -94,7 +92,7 @@ fn open_new<S: Alter>(
     }
 }
 
-/// Opens tables that say whose they are, in this row: their form is 2 then, and no removal up to the floor has a row.
+/// Opens tables that say in this row whose they are. Then their form is 2, and no removal up to the floor has a row.
 fn open_old<S: Alter>(
     conn: &mut Connection<S>,
     alloc: Global,
@@ -129,7 +127,8 @@ fn open_old<S: Alter>(
     }
 }
 
-/// The table of the rows of a log of this form, removals up to its floor too. `LogDamaged` also where form 1 has a text.
+/// Reads the rows of a log of this form, removals up to its floor too. The faults of `read_table`; then `LogDamaged` if form 1 has
+/// a text.
 fn read_whole<S: Alter>(conn: &mut Connection<S>, alloc: Global, form: u64) -> Result<Table, LogError>
     ensures rows { AfterReady S.Store conn.old conn.new (λ old _. IfOk result (λ t. AreRowsOf t (old.now.trees 1))) }
     ensures plain { IfOk result IsPlainTable }
@@ -148,7 +147,7 @@ fn read_whole<S: Alter>(conn: &mut Connection<S>, alloc: Global, form: u64) -> R
     Ok(table)
 }
 
-/// Whether a log of this form, which is one that is read, has such entries: one of form 1 has no texts.
+/// Whether a log of this form can have such entries. Form 1 has no texts: no release wrote a text in form 1.
 fn is_form_of(form: u64, table: &Table) -> bool
     ensures is { IsTrue result → IsForm form → IsFormOf form table.now }
     ensures whole { IsFormOf form table.now → IsTrue result }
@@ -159,8 +158,7 @@ fn is_form_of(form: u64, table: &Table) -> bool
     !has_texts(table)
 }
 
-/// Brings a log of this form and this floor to form 2, and then, if there are any, takes out the rows of removals up to
-/// the floor. `StoreFailed`.
+/// Raises a log of this form and this floor to form 2. Then it deletes the rows of removals up to the floor, if there are any.
 fn accept_from<S: Alter>(
     conn: &mut Connection<S>,
     form: u64,
@@ -186,7 +184,7 @@ fn accept_from<S: Alter>(
     Ok(())
 }
 
-/// Raises the form of a log from this one to 2. `StoreFailed`, not of one that has it.
+/// Raises the form of a log from this one to 2. It does nothing if the form is 2.
 fn raise_from<S: Alter>(conn: &mut Connection<S>, form: u64) -> Result<(), StoreCause>
     ensures ready { AfterReady S.Store conn.old conn.new (λ old new. (last floor : ℕ) (owner cluster : List ℕ) → IsNamedIn form owner cluster last floor (old.now.trees 0)
         → OnOk result (IsReady new)) }
@@ -204,8 +202,8 @@ fn raise_from<S: Alter>(conn: &mut Connection<S>, form: u64) -> Result<(), Store
     Ok(())
 }
 
-/// Makes those of a log's tables that are missing. `StoreFailed`, also inside a transaction; `LogDamaged` where
-/// there is anything else, or a row that says whose the log is without the table of writes.
+/// Makes those of a log's tables that are missing. In this order: the store fails inside a transaction; `LogDamaged` if there is
+/// anything else, or a row that says whose the log is without the table of writes; the store fails.
 fn make_tables<S: Alter>(conn: &mut Connection<S>) -> Result<(), LogError>
     ensures completes { AfterAny S.Store conn.old conn.new (λ old new. OnOk result (Completes old.now new.now)) }
     ensures prepared { AfterAny S.Store conn.old conn.new (λ _ new. OnOk result (IsPrepared new)) }
@@ -227,8 +225,8 @@ fn make_tables<S: Alter>(conn: &mut Connection<S>) -> Result<(), LogError>
     }
 }
 
-/// Makes the table of writes beside the first, which says nothing yet. `StoreFailed`; `LogDamaged` where it says whose
-/// the log is, which has lost its writes then: nothing is made, so that it is told again.
+/// Makes the table of writes beside the first, which does not say yet whose the log is. `LogDamaged` if it does: then the log has
+/// lost its writes. Nothing is made in that case, so the next opening reports it again.
 fn make_second<S: Alter>(conn: &mut Connection<S>) -> Result<(), LogError>
     ensures makes { Makes S.Store conn.old conn.new meta_schema log_schema result (λ old new. (old 0 ≡ []) × (new 0 ≡ old 0) × (new 1 ≡ [])) }
     ensures refused { AfterSchema S.Store conn.old conn.new meta_schema (λ old new. OnRefusal result (new.now ≡ old.now)) }
@@ -254,7 +252,7 @@ fn make_both<S: Alter>(conn: &mut Connection<S>) -> Result<(), StoreCause>
     make_writes(conn)
 }
 
-/// What the row that says whose a log is says beside it.
+/// What the row that says whose a log is says besides.
 #[derive(Clone, Copy)]
 struct Meta {
     form: u64,
@@ -262,8 +260,8 @@ struct Meta {
     floor: u64,
 }
 
-/// Tests the row that says whose log it is. `LogDamaged` where its number is not 1 or its form is unknown; `WrongOwner`
-/// of another owner or cluster; `LogDamaged` where its last version or its floor is no number.
+/// Tests the row that says whose the log is. In this order: `LogDamaged` if its number is not 1 or its form is unknown;
+/// `WrongOwner` if it names another owner or cluster; `LogDamaged` if its last version or its floor is no number.
 #[tactic(auto, using(crate::proofs::Cells::of_six))]
 fn test_meta(row: &Row, owner: &Name, cluster: &Name) -> Result<Meta, Fault>
     ensures row { IfOk result (λ meta. row.now ≡ meta_row meta.form owner.now cluster.now meta.last meta.floor) }
@@ -295,7 +293,7 @@ fn test_meta(row: &Row, owner: &Name, cluster: &Name) -> Result<Meta, Fault>
     Ok(Meta { form, last, floor })
 }
 
-/// The form that a row numbered 1 says, where it is one that is read.
+/// The form that a row numbered 1 says, if it is a form that is read.
 fn form_of(row: &Row) -> Option<u64>
     ensures is { IfSome result (λ form. IsForm form × (column row.now 0 ≡ Int (pos 1)) × (column row.now 1 ≡ Int (pos form))) }
     ensures whole { (form : ℕ) → IsForm form → column row.now 0 ≡ Int (pos 1) → column row.now 1 ≡ Int (pos form) → result ≡ Some form }
@@ -307,7 +305,7 @@ fn form_of(row: &Row) -> Option<u64>
     }
 }
 
-/// The number that a column has, which is not below 0.
+/// The number in a column, if it is not below 0.
 fn number_in(row: &Row, at: usize) -> Option<u64>
     ensures is { IfSome result (λ number. column row.now at ≡ Int (pos number)) }
     ensures whole { (number : ℕ) → column row.now at ≡ Int (pos number) → result ≡ Some number }

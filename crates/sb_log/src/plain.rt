@@ -12,8 +12,8 @@ use sb_types::{Fault, Key, Name, Slot};
 use std::alloc::Global;
 use std::marker::Model;
 
-/// A log in memory, which ends with the process. It has no store that could fail: beside what a log refuses, only memory
-/// may be wanting.
+/// A log in memory, which ends with the process. It has no store that could fail. It keeps a table, so that it tests a write by a
+/// search, and `load` copies the table. Besides what a log refuses, it reports only `NoMemory`.
 #[derive(Debug, Drop)]
 pub struct PlainLog {
     owner: Name,
@@ -68,6 +68,8 @@ impl WriteLog for PlainLog {
     }
 
     fn cause(&self) -> Option<StoreCause> {
+        // Does nothing: it shows the prover that the log is open.
+        let _ = self.table.upto();
         None
     }
 

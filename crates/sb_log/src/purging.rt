@@ -1,4 +1,4 @@
-//! The statements that raise a log's floor, and the one by which a log begins behind a version; each commits by itself.
+//! The statements that raise a log's floor, and the one by which a log begins after a version. Each commits by itself.
 ghost use Rattle.std.specs.Prelude.{◌≡◌, ℕ, List, ◌<◌, ◌≤◌, ◌^◌, [], ◌∷◌, pos, OnOk};
 ghost use Rattle.sqlite_value.specs.declared.value.Value.TheVariants.{Int};
 ghost use Rattle.sqlite.specs.Held.{state};

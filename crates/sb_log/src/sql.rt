@@ -25,9 +25,12 @@ use sqlite::{Alter, Connection};
 use std::alloc::Global;
 use std::marker::Model;
 
-/// A log in a database: each key's last write is a row of it, and a write is one statement that commits by itself. A floor
-/// is raised by two: one says it, and the other takes the rows of removals out. Beside the database it keeps the same
-/// writes in memory, so that a write or a floor is tested without reading.
+/// A log in a database: each key's last write is a row of it, and a write is one statement that commits by itself. A purge runs
+/// two: one writes the floor, and the other deletes the rows of removals. The log keeps the same writes in memory too, so it tests
+/// a write or a floor without reading.
+///
+/// What is proved of it is proved of what the connection shows. That a file holds this is the promise of `sqlite`. What a crash
+/// leaves is what an opening finds afterwards: the tables, the row of `meta` and the rows of writes, not the rows alone.
 ///
 /// ```rust
 /// /// Writes a flag in the log that a database keeps, and gives the version of the write. An empty database gets a new log.
@@ -78,17 +81,29 @@ impl<S: Alter> Model for SqlLog<S> {
 }
 
 impl<S: Alter + Drop> SqlLog<S> {
-    /// Opens a log of an owner of a cluster, and makes one where the database has no tables, or completes one that has the
-    /// first of them or both and no rows. It gives versions up to `max_version`, and none above 2^40 - 1. In this order:
-    /// `LogDamaged` where rows stand without the row that says whose they are, where that row stands without the table of
-    /// writes, where its form is unknown, or where there are other tables than a log's; `WrongOwner` where the log is
-    /// another owner's or of another cluster; `LogDamaged` where a row breaks a limit or two have one rowid, key or
-    /// version, where a log of form 1 has a text, where there are more than 4,096, or where it says a floor above its last
-    /// version, or a last version above 2^40 - 1, or above both its floor and its last row's. `NoMemory` and `StoreFailed`
-    /// wherever they come, the latter also inside a transaction. After all of these a log of form 1 becomes one of form 2,
-    /// and rows of removals up to the floor go, which a crash may have left: they are none of the content. A refusal hands
-    /// the connection back, and the database is as it was, but that tables which were missing may have been made. However
-    /// it ends, nothing else of what was there is lost.
+    /// Opens the log of an owner of a cluster. If the database has no tables, it makes a log. If the database has the first table
+    /// or both, and no rows, it completes the log. The log gives versions up to `max_version`, and none above 2^40 - 1: an opening
+    /// takes a later version for damage.
+    ///
+    /// The faults, in this order:
+    ///
+    /// - `StoreFailed` inside a transaction.
+    /// - `LogDamaged` if there are other tables than a log's, or if the row that says whose the log is has no table of writes
+    ///   beside it.
+    /// - `LogDamaged` if there are two such rows, or if there is none beside rows of writes, or if its form is unknown.
+    /// - `WrongOwner` if the log is another owner's, or of another cluster.
+    /// - `LogDamaged` if the last version or the floor is no number.
+    /// - `LogDamaged` if a row breaks a limit, if two rows have one rowid, key or version, or if there are more than 4,096 rows.
+    /// - `LogDamaged` if a log of form 1 has a text.
+    /// - `LogDamaged` if the floor is above the last version, or if the last version is above 2^40 - 1, or above both the floor and
+    ///   the version of the last row.
+    ///
+    /// `StoreFailed` also comes, with its cause, at the first statement that fails, and `NoMemory` where memory is missing. After
+    /// these tests a log of form 1 becomes one of form 2. Then the rows of removals up to the floor are deleted, which a crash may
+    /// have left: they are not part of the content.
+    ///
+    /// A refusal returns the connection. The database is then as it was, except that missing tables may have been made. However the
+    /// opening ends, nothing else that was there is lost.
     pub fn open(
         alloc: Global,
         conn: Connection<S>,
@@ -134,12 +149,16 @@ impl<S: Alter + Drop> SqlLog<S> {
         })
     }
 
-    /// Has a log of nothing begin behind a version, 1 to 2^40 - 1: it holds nothing up to there, as that of an owner who wrote so
-    /// often, removed each key and purged to that version. So the name of an owner whose log is lost goes on, or ends. The next
-    /// write has the version after it. In this order: `Closed` after a fault of the store; `BadSetting` of another version;
-    /// `OutOfTurn` where the log has writes or began so before, with the version of its next write. Each of these leaves
-    /// everything as it was. `StoreFailed`, for whatever cause: the log begins so or holds nothing still, and is closed until it
-    /// is opened again.
+    /// Makes an empty log begin after a version, 1 to 2^40 - 1. It then holds nothing up to there, like the log of an owner who
+    /// wrote that often, removed each key and purged up to that version. So a name whose log is lost goes on, or ends. The next
+    /// write has the version after it. The faults, in this order:
+    ///
+    /// - `Closed` after a fault of the store.
+    /// - `BadSetting` for any other version.
+    /// - `OutOfTurn`, with the version of the next write, if the log has writes or began so before.
+    /// - `StoreFailed`: the log begins there or is still empty, and it is closed until it is opened again.
+    ///
+    /// All but the last leave everything as it was.
     pub fn begin(&mut self, after: u64) -> Result<(), Fault>
         ensures begins { Begins (log_in S.Store self.old) after result (log_in S.Store self.new) }
         ensures closed { self.old.is_open ≡ false → self.new ≡ self.old }

@@ -14,7 +14,7 @@ use crate::rounds::RoundsTag;
 use crate::timed::Timed;
 use sb_directory::ReaderSeat;
 use sb_frames::Steps;
-use sb_log::WriteLog;
+use sb_log::{StoreCause, WriteLog};
 use sb_types::Fault;
 use std::marker::Brand;
 use std::net::Net;
@@ -96,8 +96,10 @@ fn report_writes<L: WriteLog, S: RoundsTag, H: Wait + Drop, Q, O: Observer>(
     if !writes.take_failure() {
         return false;
     }
-    node.counts.fail_log();
-    observer.log_failed();
+    // A log that failed is closed, so it has a cause.
+    let cause = writes.cause().unwrap_or(StoreCause::Other);
+    node.counts.fail_log(cause);
+    observer.log_failed(cause);
     match node.pace.on_log_fault {
         OnLogFault::Exit => true,
         OnLogFault::Serve => false,

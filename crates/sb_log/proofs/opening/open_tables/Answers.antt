@@ -262,7 +262,7 @@ returns-in-len1-clause-refused g c clean =
     so_refused c.open_old.result (c.open_old.ensures.refused clean ready.0) (λ same. inr (subst (Completes old.now) (sym (same ∙ ready.1)) completes))
 
 pub returns-in-empty-clause-others : goal.returns-in-empty-clause-others
-returns-in-empty-clause-others g c clean = reading_spares c.open_new.result c.open_new.ensures.fault
+returns-in-empty-clause-others g c clean = reading_spares _ c.open_new.result c.open_new.ensures.fault
 
 pub returns-in-empty-clause-fault : goal.returns-in-empty-clause-fault
 returns-in-empty-clause-fault g c = reading_opens c.open_new.result c.open_new.ensures.fault

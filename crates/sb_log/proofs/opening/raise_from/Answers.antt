@@ -1,4 +1,4 @@
-use Rattle.sb_log.proofs.Writing.{or_commits, first_of, second_of}
+use Rattle.sb_log.proofs.Writing.{or_commits, so_on_ok}
 use Rattle.sb_log.proofs.opening.raise_from.Goals as goal
 
 pub returns-then-form-eq1-clause-ready : goal.returns-then-form-eq1-clause-ready
@@ -6,11 +6,11 @@ returns-then-form-eq1-clause-ready g c clean ready last floor owner cluster name
 
 pub returns-then-form-eq1-clause-rows : goal.returns-then-form-eq1-clause-rows
 returns-then-form-eq1-clause-rows g c clean ready last floor owner cluster named =
-    first_of c.raise_form.result ((c.raise_form.ensures.commits c.args.form last floor owner cluster named).changes clean ready)
+    so_on_ok c.raise_form.result ((c.raise_form.ensures.commits c.args.form last floor owner cluster named).changes clean ready) (λ did. did.0)
 
 pub returns-then-form-eq1-clause-meta : goal.returns-then-form-eq1-clause-meta
 returns-then-form-eq1-clause-meta g c clean ready is last floor owner cluster named =
-    second_of c.raise_form.result ((c.raise_form.ensures.commits c.args.form last floor owner cluster named).changes clean ready)
+    so_on_ok c.raise_form.result ((c.raise_form.ensures.commits c.args.form last floor owner cluster named).changes clean ready) (λ did. did.1)
 
 pub returns-then-form-eq1-clause-crash : goal.returns-then-form-eq1-clause-crash
 returns-then-form-eq1-clause-crash g c clean ready last floor owner cluster named db left =
