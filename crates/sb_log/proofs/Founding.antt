@@ -265,12 +265,12 @@ making_spares (Fault fault) is called = cc
 pub reading_opens : (result : Result Table LogError) → IfErr result IsReadingFault → IfErr result IsOpeningFault
 reading_opens (Ok t) is = tt
 reading_opens (Err (Store cause)) is = tt
-reading_opens (Err (Fault fault)) is = elim is [ | inl memory ↦ inl memory | inr damaged ↦ inr (inl damaged) ]
+reading_opens (Err (Fault fault)) is = elim is [ inl memory ↦ inl memory | inr damaged ↦ inr (inl damaged) ]
 
 pub reading_spares : (P : Type 0) (result : Result Table LogError) → IfErr result IsReadingFault → IfErr result (λ e. fault_of e ≡ WrongOwner → P)
 reading_spares P (Ok t) is = tt
 reading_spares P (Err (Store cause)) is = λ called. absurd (cc)
-reading_spares P (Err (Fault fault)) is = λ called. absurd (elim is [ | inl memory ↦ cc | inr damaged ↦ cc ])
+reading_spares P (Err (Fault fault)) is = λ called. absurd (elim is [ inl memory ↦ cc | inr damaged ↦ cc ])
 
 pub so_refused : {A P Q : Type 0} (result : Result A LogError) → OnRefusal result P → (P → Q) → OnRefusal result Q
 so_refused (Ok a) was so = tt

@@ -8,8 +8,7 @@ use std::fmt;
 
 /// Why the store of a log failed, as far as its database can tell.
 ///
-/// While a log is open, its database cannot tell that its file was removed, or that its disk became read-only: the first is no
-/// error, and the second is `Io`.
+/// While a log is open, its database does not notice that the file was removed. A disk that became read-only is `Io`.
 #[derive(Clone, Copy, Debug, PartialEq, Eq)]
 pub enum StoreCause {
     /// The disk has no space left, or the user has used all that is allowed.

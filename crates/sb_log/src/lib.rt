@@ -1,8 +1,8 @@
-//! An owner's log: its own writes, each of which is kept before anybody hears of it.
+//! An owner's log: its own writes. Each is kept before anybody hears of it.
 //!
 //! The trait `WriteLog` says what every log promises. A `PlainLog` keeps its writes in memory. A `SqlLog` keeps them in a
-//! database, where they outlast a crash. `put` gives a write the next version, and a node tells nobody of a write that is not in
-//! its log. If the store of a log fails, the log is closed, and `cause` says why.
+//! database, and there they outlast a crash. `put` gives a write the next version. No other node gets a write that is not in its
+//! owner's log. If the store of a log fails, the log is closed, and `cause` says why.
 //!
 //! What no contract refuses, and what does:
 //!

@@ -56,8 +56,8 @@ pub trait WriteLog {
         ensures settled { IsSettled (seen self.new) (leaves self.new) };
 
     /// Raises the floor. The removals up to it are dropped, and their keys are free again. The last version stays, and the next
-    /// write has the version after it. A floor that is not above the present one changes nothing, and is no fault. The faults, in
-    /// this order:
+    /// write has the version after it. A floor that is not above the present one changes nothing, and is not refused. The faults,
+    /// in this order:
     ///
     /// - `Closed` after a fault of the store.
     /// - `FloorTooHigh` if the floor would be above the last version.

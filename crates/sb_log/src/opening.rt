@@ -129,7 +129,11 @@ fn open_old<S: Alter>(
 
 /// Reads the rows of a log of this form, removals up to its floor too. The faults of `read_table`; then `LogDamaged` if form 1 has
 /// a text.
-fn read_whole<S: Alter>(conn: &mut Connection<S>, alloc: Global, form: u64) -> Result<Table, LogError>
+fn read_whole<S: Alter>(
+    conn: &mut Connection<S>,
+    alloc: Global,
+    form: u64,
+) -> Result<Table, LogError>
     ensures rows { AfterReady S.Store conn.old conn.new (λ old _. IfOk result (λ t. AreRowsOf t (old.now.trees 1))) }
     ensures plain { IfOk result IsPlainTable }
     ensures most { IfOk result (λ t. t.held ≤ VERSION_MOST) }
@@ -202,8 +206,11 @@ fn raise_from<S: Alter>(conn: &mut Connection<S>, form: u64) -> Result<(), Store
     Ok(())
 }
 
-/// Makes those of a log's tables that are missing. In this order: the store fails inside a transaction; `LogDamaged` if there is
-/// anything else, or a row that says whose the log is without the table of writes; the store fails.
+/// Makes those of a log's tables that are missing. The faults, in this order:
+///
+/// - The store fails inside a transaction.
+/// - `LogDamaged` if there is anything else, or if only the table of writes is missing and the other one has a row.
+/// - The store fails.
 fn make_tables<S: Alter>(conn: &mut Connection<S>) -> Result<(), LogError>
     ensures completes { AfterAny S.Store conn.old conn.new (λ old new. OnOk result (Completes old.now new.now)) }
     ensures prepared { AfterAny S.Store conn.old conn.new (λ _ new. OnOk result (IsPrepared new)) }
@@ -260,8 +267,11 @@ struct Meta {
     floor: u64,
 }
 
-/// Tests the row that says whose the log is. In this order: `LogDamaged` if its number is not 1 or its form is unknown;
-/// `WrongOwner` if it names another owner or cluster; `LogDamaged` if its last version or its floor is no number.
+/// Tests the row that says whose the log is. The faults, in this order:
+///
+/// - `LogDamaged` if its number is not 1, or if its form is unknown.
+/// - `WrongOwner` if it names another owner or cluster.
+/// - `LogDamaged` if its last version or its floor is no number.
 #[tactic(auto, using(crate::proofs::Cells::of_six))]
 fn test_meta(row: &Row, owner: &Name, cluster: &Name) -> Result<Meta, Fault>
     ensures row { IfOk result (λ meta. row.now ≡ meta_row meta.form owner.now cluster.now meta.last meta.floor) }

@@ -72,7 +72,10 @@ fn write_floor<S: Alter>(conn: &mut Connection<S>, last: u64, floor: u64) -> Res
 }
 
 /// Deletes the rows of the removals up to a version.
-pub(crate) fn drop_removals<S: Alter>(conn: &mut Connection<S>, floor: u64) -> Result<(), StoreCause>
+pub(crate) fn drop_removals<S: Alter>(
+    conn: &mut Connection<S>,
+    floor: u64,
+) -> Result<(), StoreCause>
     requires { floor < 2 ^ 63 }
     // Whose log it is stays, with its last version and its floor.
     ensures commits { Commits S.Store conn.old conn.new result (λ old new. Drops floor (old 1) (new 1) × (new 0 ≡ old 0)) }

@@ -234,7 +234,7 @@ fn sets_text(slot: &Slot) -> bool
     }
 }
 
-/// Enters an entry of a new key and a later version. `LogDamaged` if it is no such entry, or if there is no room; `NoMemory`.
+/// Enters an entry of a new key and a later version. `LogDamaged` for any other entry, or if there is no room; `NoMemory`.
 #[tactic(auto, using(crate::proofs::Cells::not_found, crate::proofs::Cells::added, crate::proofs::Whole::none_there))]
 fn add(table: &mut Table, entry: Entry) -> Result<(), Fault>
     ensures added { OnOk result (table.new.entries ≡ table.old.entries ++ entry ∷ []) }

@@ -88,15 +88,14 @@ impl<S: Alter + Drop> SqlLog<S> {
     /// The faults, in this order:
     ///
     /// - `StoreFailed` inside a transaction.
-    /// - `LogDamaged` if there are other tables than a log's, or if the row that says whose the log is has no table of writes
-    ///   beside it.
+    /// - `LogDamaged` if there are other tables than a log's, or if a row says whose the log is and the table of writes is missing.
     /// - `LogDamaged` if there are two such rows, or if there is none beside rows of writes, or if its form is unknown.
     /// - `WrongOwner` if the log is another owner's, or of another cluster.
     /// - `LogDamaged` if the last version or the floor is no number.
     /// - `LogDamaged` if a row breaks a limit, if two rows have one rowid, key or version, or if there are more than 4,096 rows.
     /// - `LogDamaged` if a log of form 1 has a text.
-    /// - `LogDamaged` if the floor is above the last version, or if the last version is above 2^40 - 1, or above both the floor and
-    ///   the version of the last row.
+    /// - `LogDamaged` if the floor is above the last version.
+    /// - `LogDamaged` if the last version is above 2^40 - 1, or above both the floor and the version of the last row.
     ///
     /// `StoreFailed` also comes, with its cause, at the first statement that fails, and `NoMemory` where memory is missing. After
     /// these tests a log of form 1 becomes one of form 2. Then the rows of removals up to the floor are deleted, which a crash may
@@ -149,8 +148,8 @@ impl<S: Alter + Drop> SqlLog<S> {
         })
     }
 
-    /// Makes an empty log begin after a version, 1 to 2^40 - 1. It then holds nothing up to there, like the log of an owner who
-    /// wrote that often, removed each key and purged up to that version. So a name whose log is lost goes on, or ends. The next
+    /// Makes an empty log begin after a version, 1 to 2^40 - 1. It then holds nothing up to there. So does the log of an owner
+    /// who wrote that often, removed each key and purged up to that version. So a name whose log is lost goes on, or ends. The next
     /// write has the version after it. The faults, in this order:
     ///
     /// - `Closed` after a fault of the store.

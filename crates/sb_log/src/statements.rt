@@ -1,4 +1,4 @@
-//! The statements of a log, each of which commits by itself.
+//! The statements of a log. Each commits by itself.
 ghost use Rattle.std.specs.Prelude.{◌≡◌, ℕ, List, ◌<◌, ◌≤◌, ◌^◌, true, [], map, drop, IsPermutation, IfOk, IfErr, OnOk};
 ghost use Rattle.sqlite.specs.Held.{state};
 ghost use Rattle.sqlite_catalog.specs.Listing.{IsSound};
@@ -124,7 +124,10 @@ pub(crate) fn read_rows<S: Alter>(conn: &mut Connection<S>) -> Result<Vec<Row>, 
 }
 
 /// Writes an entry, which replaces the row of its key.
-pub(crate) fn write_entry<S: Alter>(conn: &mut Connection<S>, entry: &Entry) -> Result<(), StoreCause>
+pub(crate) fn write_entry<S: Alter>(
+    conn: &mut Connection<S>,
+    entry: &Entry,
+) -> Result<(), StoreCause>
     requires kept { is_kept entry.now ≡ true }
     requires short { entry.now.version < 2 ^ 63 }
     // Whose log it is stays.
@@ -142,7 +145,10 @@ ON CONFLICT (k) DO UPDATE SET version = excluded.version, tag = excluded.tag, nu
 }
 
 /// Reads the table of the writes. In this order: the store fails; `NoMemory`, or `LogDamaged` if the rows are not those of a table.
-pub(crate) fn read_table<S: Alter>(conn: &mut Connection<S>, alloc: Global) -> Result<Table, LogError>
+pub(crate) fn read_table<S: Alter>(
+    conn: &mut Connection<S>,
+    alloc: Global,
+) -> Result<Table, LogError>
     ensures rows { AfterReady S.Store conn.old conn.new (λ old _. IfOk result (λ t. AreRowsOf t (old.now.trees 1))) }
     ensures plain { IfOk result IsPlainTable }
     ensures most { IfOk result (λ t. t.held ≤ VERSION_MOST) }

@@ -1,10 +1,9 @@
-use Rattle.std.proofs.Common.{sym, ap, refl, inl, inr, ◌≡◌, ◌∙◌}
+use Rattle.std.proofs.Common.{sym, ap, ◌∙◌}
 use Rattle.std.proofs.lemmas.Result.{err_from_is_err_and}
 use Rattle.sqlite.specs.Effect.{Database}
 use Rattle.sqlite.specs.Held.{state}
 use Rattle.sqlite.specs.State.{HasCleanDisk}
 use Rattle.sb_log.proofs.Founding.{was_clean, no_rows, none_mapped, nothing_there, never_some}
-use Rattle.sb_log.proofs.Writing.{or_commits}
 use Rattle.sb_log.proofs.opening.make_second.Goals as goal
 
 pub returns-clause-makes : goal.returns-clause-makes
