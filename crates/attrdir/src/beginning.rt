@@ -87,7 +87,7 @@ pub(crate) fn begin_log<'a>(
     let version = version_of(rt, start, owner, cluster)?;
     let mut log = make_log(rt, path, owner, cluster)?;
     if let Err(fault) = log.begin(version) {
-        return Err(failure(path, error_of(&log, fault)));
+        return Err(failure(path, error_of(fault, log.cause())));
     }
     match log.close() {
         Ok(()) => print_begun(rt, path, version),

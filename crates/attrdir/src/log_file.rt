@@ -36,14 +36,14 @@ pub(crate) struct DroppedRemovals {
 pub(crate) fn failure(path: &str, error: LogError) -> Failure<'_> {
     match error {
         LogError::Store(cause) => Failure::of_store(path, cause),
-        LogError::Fault(fault @ Fault::WriteFailed(_)) => Failure::from(fault),
+        LogError::Fault(Fault::WriteFailed(count)) => Failure::from(Fault::WriteFailed(count)),
         LogError::Fault(fault) => Failure::at(FaultPlace::Log(path), fault),
     }
 }
 
-/// The fault of a call, with the cause if the store of the log failed at it.
-pub(crate) fn error_of<L: WriteLog>(log: &L, fault: Fault) -> LogError {
-    match (fault, log.cause()) {
+/// The fault of a call of a log, with the cause by which the log is closed, if it is.
+pub(crate) fn error_of(fault: Fault, cause: Option<StoreCause>) -> LogError {
+    match (fault, cause) {
         (Fault::StoreFailed, Some(cause)) => LogError::Store(cause),
         (fault, _) => LogError::Fault(fault),
     }
@@ -134,7 +134,7 @@ fn print_lines<L: WriteLog>(rt: &HostRuntime, log: L) -> Result<(), LogError> {
     let mut log = log;
     let (printed, _) = log_run(rt.alloc(), &mut log, &mut rt.stdout());
     if let Err(fault) = printed {
-        return Err(error_of(&log, fault));
+        return Err(error_of(fault, log.cause()));
     }
     Ok(log.close()?)
 }
@@ -180,7 +180,7 @@ fn purge_to<L: WriteLog, W: Write>(
 fn purge_lines<L: WriteLog>(rt: &HostRuntime, log: L, floor: Floor) -> Result<(), LogError> {
     let mut log = log;
     if let Err(fault) = purge_to(rt.alloc(), &mut log, floor, &mut rt.stdout()) {
-        return Err(error_of(&log, fault));
+        return Err(error_of(fault, log.cause()));
     }
     Ok(log.close()?)
 }

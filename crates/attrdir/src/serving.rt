@@ -124,9 +124,9 @@ fn purge_first<'a, L: WriteLog>(
     match purge_removals(rt, log, given.purge_removals) {
         Ok(Some(purged)) => console.purged(purged),
         Ok(None) => {}
-        Err(fault) => return match error_of(log, fault) {
-            LogError::Store(cause) => Err(Failure::of_store(given.log, cause)),
-            LogError::Fault(fault) => Err(Failure::at(place_of(rt, &fault, given), fault)),
+        Err(fault) => match error_of(fault, log.cause()) {
+            LogError::Store(cause) => return Err(Failure::of_store(given.log, cause)),
+            LogError::Fault(fault) => return Err(Failure::at(place_of(rt, &fault, given), fault)),
         },
     }
     Ok(())
