@@ -133,10 +133,11 @@ pub(crate) fn make_log<'a>(
 fn print_lines<L: WriteLog>(rt: &HostRuntime, log: L) -> Result<(), LogError> {
     let mut log = log;
     let (printed, _) = log_run(rt.alloc(), &mut log, &mut rt.stdout());
-    if let Err(fault) = printed {
-        return Err(error_of(fault, log.cause()));
+    let cause = log.cause();
+    match printed.and(log.close()) {
+        Ok(()) => Ok(()),
+        Err(fault) => Err(error_of(fault, cause)),
     }
-    Ok(log.close()?)
 }
 
 /// Prints what the log of an owner of a cluster holds. `BadName` of either name, before the file is looked for; then the
@@ -179,10 +180,12 @@ fn purge_to<L: WriteLog, W: Write>(
 /// The same, and ends the log. The faults of `purge_to`, then those of `close`.
 fn purge_lines<L: WriteLog>(rt: &HostRuntime, log: L, floor: Floor) -> Result<(), LogError> {
     let mut log = log;
-    if let Err(fault) = purge_to(rt.alloc(), &mut log, floor, &mut rt.stdout()) {
-        return Err(error_of(fault, log.cause()));
+    let purged = purge_to(rt.alloc(), &mut log, floor, &mut rt.stdout());
+    let cause = log.cause();
+    match purged.and(log.close()) {
+        Ok(()) => Ok(()),
+        Err(fault) => Err(error_of(fault, cause)),
     }
-    Ok(log.close()?)
 }
 
 /// Drops the removals of the log of an owner of a cluster, and prints up to which version. `BadName` of either name, before the
