@@ -15,6 +15,7 @@ METRICS = {
     "attrdir_round_faults_total": ("counter", ()),
     "attrdir_sessions_total": ("counter", ()),
     "attrdir_log_open": ("gauge", ()),
+    "attrdir_log_fault": ("gauge", ("cause",)),
     "attrdir_name_conflict": ("gauge", ()),
     "attrdir_keys": ("gauge", ()),
     "attrdir_keys_limit": ("gauge", ()),

@@ -10,7 +10,8 @@ import time
 
 from check_metrics import awaits
 from check_serving import Peer
-from nodes import SECONDS, Difference, ask, connect, exchange, hello, number, put, read_frame, text, version_of, want, weight
+from nodes import SECONDS, Difference, ask, connect, exchange, hello, number, put, read_frame, run, text, version_of, want, weight
+from small_disk import SmallDisk, disk_in
 
 
 def seconds_until(node, owner, version):
@@ -178,6 +179,42 @@ def full_disks(check):
         want("its sockets", (node.sock.exists(), node.control.exists()), (False, False))
 
 
+def small_disks(check):
+    """A log whose disk is full closes, and the node names that cause on standard error and in its metrics. With room again it goes on."""
+    folder = check.folder()
+    path = folder / "a.prom"
+    with disk_in(folder / "disk") as disk:
+        if not isinstance(disk, SmallDisk):
+            check.lacking.add("a disk can be mounted, so no log was on a full one")
+            return
+        node = check.node("a", "--pause", "10", "--metrics", str(path), folder=folder)
+        disk.place(Place(node))
+        node.start()
+        found = awaits(path, "a", {("attrdir_log_open",): 1})
+        want("a cause of an open log", [it for it in found if it[0] == "attrdir_log_fault"], [])
+        want("a write", node.put("k", 5), 1)
+        disk.fill(None)
+        want("the write that had no room", fill(node), (3, "fault 18"))
+        awaits(path, "a", {("attrdir_log_open",): 0, ("attrdir_log_fault", "no_space"): 1})
+        said = f"attrdir: error log {node.log}: fault 18: no space is left; no more writes are taken: give its disk room, and start the node again"
+        want("what it says", node.lines()[1:], [said])
+        node.kill()
+        status, _, said = run(*map(str, (check.program, "log", "--log", node.log, "--name", "a", "--cluster", "c")))
+        if status and said.splitlines()[:1] != ["fault 18"]:
+            raise Difference(f"a log on a full disk is refused by {said!r}")
+        disk.free(None)
+        node.start()
+        want("a row", node.get()[:1], ["a k 1 weight 5"])
+        node.kill()
+
+
+class Place:
+    """A node as a disk places it."""
+
+    def __init__(self, node):
+        self.node = node
+
+
 def no_descriptors(check):
     """A node that has no descriptor left for a while goes on with all its workers, and at its control socket."""
     node = check.node("a", "--workers", "3").start()
@@ -219,4 +256,4 @@ def times(check):
     want("how its lines begin", [bool(re.match(moment, it)) for it in said], [True, True])
 
 
-PARTS = (news, faulty_peers, silent_peers, silent_callers, full_disks, no_descriptors, left_sockets, times)
+PARTS = (news, faulty_peers, silent_peers, silent_callers, full_disks, small_disks, no_descriptors, left_sockets, times)

@@ -5,7 +5,7 @@ ghost use Rattle.attrdir.specs.Beginning as spec;
 
 use crate::commands::AFTER;
 use crate::failure::{Failure, FaultPlace};
-use crate::log_file::make_log;
+use crate::log_file::{error_of, failure, make_log};
 use crate::owners::ask_greatest;
 use crate::words::name_of;
 use sb_log::WriteLog;
@@ -92,8 +92,10 @@ pub(crate) fn begin_log<'a>(
     let cluster = name_of("--cluster", cluster)?;
     let version = version_of(rt, start, owner, cluster)?;
     let mut log = make_log(rt, path, owner, cluster)?;
-    let begun = log.begin(version);
-    match begun.and(log.close()) {
+    if let Err(fault) = log.begin(version) {
+        return Err(failure(path, error_of(fault, log.cause())));
+    }
+    match log.close() {
         Ok(()) => print_begun(rt, path, version),
         Err(fault) => Err(Failure::at(FaultPlace::Log(path), fault)),
     }

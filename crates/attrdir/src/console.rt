@@ -1,8 +1,10 @@
 //! What a node that runs says on standard error.
+use crate::failure::about_cause;
 use crate::log_file::DroppedRemovals;
 use crate::metrics::Metrics;
 use crate::metrics_file::MetricsFile;
 use jiff::Timestamp;
+use sb_log::StoreCause;
 use sb_run::{Observer, Status};
 use sb_session::Ended;
 use sb_types::{Fault, KEYS_MOST, OWNERS_MOST};
@@ -181,13 +183,13 @@ impl Observer for Console<'_, '_> {
         );
     }
 
-    fn log_failed(&self) {
+    fn log_failed(&self, cause: StoreCause) {
         let (rt, head) = (self.rt, self.head(Level::Error));
-        let fault = Fault::StoreFailed;
         let _ = eprintln!(rt;
-            "{head} log {}: fault {}: {fault}: no more writes are taken; see that its disk has room and works, and start the node again",
+            "{head} log {}: fault {}: {cause}; no more writes are taken: {}, and start the node again",
             self.log,
-            fault.number()
+            Fault::StoreFailed.number(),
+            about_cause(cause)
         );
     }
 

@@ -1,7 +1,8 @@
 //! What ended a command: the fault, and the place at which it was met.
-use crate::advice::advice;
+use crate::advice::{about_cause, advice};
 use crate::asking::LONGEST_SILENCE;
 use crate::part::Range;
+use sb_log::StoreCause;
 use sb_types::Fault;
 use std::alloc::AllocError;
 use std::{fmt, io};
@@ -109,6 +110,8 @@ pub(crate) enum FaultPlace<'a> {
 pub(crate) struct Failure<'a> {
     fault: Fault,
     place: FaultPlace<'a>,
+    /// Why the store of a log failed, if that is known.
+    cause: Option<StoreCause>,
     /// The line of standard input, counted from 1. 0 if it was met at no line.
     line: u64,
 }
@@ -118,6 +121,17 @@ impl<'a> Failure<'a> {
         Failure {
             fault,
             place,
+            cause: None,
+            line: 0,
+        }
+    }
+
+    /// `StoreFailed` of the log in a file, by this cause.
+    pub(crate) fn of_store(path: &'a str, cause: StoreCause) -> Failure<'a> {
+        Failure {
+            fault: Fault::StoreFailed,
+            place: FaultPlace::Log(path),
+            cause: Some(cause),
             line: 0,
         }
     }
@@ -127,6 +141,7 @@ impl<'a> Failure<'a> {
         Failure {
             fault: self.fault,
             place: self.place,
+            cause: self.cause,
             line,
         }
     }
@@ -309,6 +324,9 @@ impl fmt::Display for Failure<'_> {
             write!(f, "line {}: ", self.line)?;
         }
         write!(f, "{}", self.place)?;
-        write_advice(&self.fault, self.place, f)
+        match self.cause {
+            Some(cause) => write!(f, "{cause}: {}", about_cause(cause)),
+            None => write_advice(&self.fault, self.place, f),
+        }
     }
 }

@@ -6,10 +6,10 @@ ghost use Rattle.attrdir.specs.Removals as spec;
 use crate::failure::{Failure, FaultPlace};
 use crate::words::name_of;
 use sb_lines::{log_run, purge_run};
-use sb_log::{SqlLog, WriteLog};
+use sb_log::{LogError, SqlLog, StoreCause, WriteLog};
 use sb_table::Table;
 use sb_types::{Fault, Name, Slot, VERSION_MOST};
-use sqlite::{Connection, Error, ErrorCode, File, FileStore};
+use sqlite::{Connection, Error, File, FileStore};
 use std::alloc::Global;
 use std::fs;
 use std::io::{ErrorKind, Write};
@@ -33,10 +33,19 @@ pub(crate) struct DroppedRemovals {
 }
 
 /// A fault of a log, or of printing its lines.
-fn failure(path: &str, fault: Fault) -> Failure<'_> {
-    match fault {
-        Fault::WriteFailed(_) => Failure::from(fault),
-        _ => Failure::at(FaultPlace::Log(path), fault),
+pub(crate) fn failure(path: &str, error: LogError) -> Failure<'_> {
+    match error {
+        LogError::Store(cause) => Failure::of_store(path, cause),
+        LogError::Fault(Fault::WriteFailed(count)) => Failure::from(Fault::WriteFailed(count)),
+        LogError::Fault(fault) => Failure::at(FaultPlace::Log(path), fault),
+    }
+}
+
+/// The fault of a call of a log, with the cause by which the log is closed, if it is.
+pub(crate) fn error_of(fault: Fault, cause: Option<StoreCause>) -> LogError {
+    match (fault, cause) {
+        (Fault::StoreFailed, Some(cause)) => LogError::Store(cause),
+        (fault, _) => LogError::Fault(fault),
     }
 }
 
@@ -50,19 +59,15 @@ pub(crate) fn has_folder(rt: &HostRuntime, path: &str) -> bool {
 
 /// Why a file was not opened.
 fn failure_of<'a>(rt: &HostRuntime, path: &'a str, error: &Error) -> Failure<'a> {
-    match error {
-        Error::SqliteFailure(ErrorCode::OutOfMemory) => failure(path, Fault::NoMemory),
-        Error::SqliteFailure(ErrorCode::NotADatabase | ErrorCode::DatabaseCorrupt) => {
-            failure(path, Fault::LogDamaged)
-        }
-        Error::SqliteFailure(ErrorCode::DatabaseBusy) => {
-            Failure::at(FaultPlace::LockedLog(path), Fault::StoreFailed)
-        }
+    match StoreCause::of(error) {
+        StoreCause::NoMemory => Failure::at(FaultPlace::Log(path), Fault::NoMemory),
+        StoreCause::Damaged => Failure::at(FaultPlace::Log(path), Fault::LogDamaged),
+        StoreCause::Locked => Failure::at(FaultPlace::LockedLog(path), Fault::StoreFailed),
         _ if !has_folder(rt, path) => Failure::at(
             FaultPlace::NoLogFolder(path),
             Fault::StoreFailed,
         ),
-        _ => failure(path, Fault::StoreFailed),
+        cause => Failure::of_store(path, cause),
     }
 }
 
@@ -90,7 +95,7 @@ fn log_in<'a>(
     let conn = connect(rt, path)?;
     match SqlLog::open(rt.alloc(), conn, owner, cluster, max_version) {
         Ok(log) => Ok(log),
-        Err((fault, _)) => Err(failure(path, fault)),
+        Err((error, _)) => Err(failure(path, error)),
     }
 }
 
@@ -125,10 +130,14 @@ pub(crate) fn make_log<'a>(
 }
 
 /// Prints what a log holds, and ends it. The faults of `log_run`, then those of `close`.
-fn print_lines<L: WriteLog>(rt: &HostRuntime, log: L) -> Result<(), Fault> {
+fn print_lines<L: WriteLog>(rt: &HostRuntime, log: L) -> Result<(), LogError> {
     let mut log = log;
     let (printed, _) = log_run(rt.alloc(), &mut log, &mut rt.stdout());
-    printed.and(log.close())
+    let cause = log.cause();
+    match printed.and(log.close()) {
+        Ok(()) => Ok(()),
+        Err(fault) => Err(error_of(fault, cause)),
+    }
 }
 
 /// Prints what the log of an owner of a cluster holds. `BadName` of either name, before the file is looked for; then the
@@ -144,7 +153,7 @@ pub(crate) fn print_log<'a>(
     let log = open_log(rt, path, owner, cluster, VERSION_MOST)?;
     match print_lines(rt, log) {
         Ok(()) => Ok(()),
-        Err(fault) => Err(failure(path, fault)),
+        Err(error) => Err(failure(path, error)),
     }
 }
 
@@ -169,10 +178,14 @@ fn purge_to<L: WriteLog, W: Write>(
 }
 
 /// The same, and ends the log. The faults of `purge_to`, then those of `close`.
-fn purge_lines<L: WriteLog>(rt: &HostRuntime, log: L, floor: Floor) -> Result<(), Fault> {
+fn purge_lines<L: WriteLog>(rt: &HostRuntime, log: L, floor: Floor) -> Result<(), LogError> {
     let mut log = log;
     let purged = purge_to(rt.alloc(), &mut log, floor, &mut rt.stdout());
-    purged.and(log.close())
+    let cause = log.cause();
+    match purged.and(log.close()) {
+        Ok(()) => Ok(()),
+        Err(fault) => Err(error_of(fault, cause)),
+    }
 }
 
 /// Drops the removals of the log of an owner of a cluster, and prints up to which version. `BadName` of either name, before the
@@ -189,7 +202,7 @@ pub(crate) fn purge_log<'a>(
     let log = open_log(rt, path, owner, cluster, VERSION_MOST)?;
     match purge_lines(rt, log, floor) {
         Ok(()) => Ok(()),
-        Err(fault) => Err(failure(path, fault)),
+        Err(error) => Err(failure(path, error)),
     }
 }
 

@@ -49,6 +49,12 @@ const LOG_OPEN: Metric = Metric {
     help: "1 where its log takes writes, else 0.",
 };
 
+const LOG_FAULT: Metric = Metric {
+    name: "attrdir_log_fault",
+    kind: "gauge",
+    help: "1, with the cause, once the store of its log failed.",
+};
+
 const NAME_CONFLICT: Metric = Metric {
     name: "attrdir_name_conflict",
     kind: "gauge",
@@ -207,13 +213,24 @@ impl Metrics<'_, '_> {
         writeln!(f, "frames=\"{FRAMES}\",logs=\"{LOGS}\"}} 1")
     }
 
+    /// Why its log takes no writes, once that is so.
+    fn write_log_fault<W: fmt::Write>(&self, f: &mut fmt::Formatter<W>) -> fmt::Result {
+        write_head(f, &LOG_FAULT)?;
+        let Some(cause) = self.status.log_cause else {
+            return Ok(());
+        };
+        let (name, node, cause) = (LOG_FAULT.name, self.name, cause.name());
+        writeln!(f, "{name}{{node=\"{node}\",cause=\"{cause}\"}} 1")
+    }
+
     /// What the node has done since it started, and whether it takes writes.
     fn write_course<W: fmt::Write>(&self, f: &mut fmt::Formatter<W>) -> fmt::Result {
         let status = self.status;
         self.write_one(f, &ROUNDS, status.rounds)?;
         self.write_one(f, &FAULTS, status.faults)?;
         self.write_one(f, &SESSIONS, status.sessions)?;
-        self.write_one(f, &LOG_OPEN, u64::from(status.is_log_open))?;
+        self.write_one(f, &LOG_OPEN, u64::from(status.log_cause.is_none()))?;
+        self.write_log_fault(f)?;
         self.write_one(f, &NAME_CONFLICT, u64::from(status.conflict.is_some()))
     }
 

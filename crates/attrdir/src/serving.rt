@@ -2,10 +2,10 @@
 use crate::commands::SEATS;
 use crate::console::{Console, Shortage};
 use crate::failure::{Failure, FaultPlace};
-use crate::log_file::{has_folder, open_log, purge_removals};
+use crate::log_file::{error_of, has_folder, open_log, purge_removals};
 use crate::metrics_file::{MetricsFile, may_replace, writes_over};
 use crate::words::name_of;
-use sb_log::WriteLog;
+use sb_log::{LogError, WriteLog};
 use sb_run::{NodeConfig, Pace, Paths, Ran, Runtime, run_node};
 use sb_types::{Fault, RawSettings, Settings};
 use std::fs::{remove_file, symlink_metadata};
@@ -147,7 +147,10 @@ fn purge_first<'a, L: WriteLog>(
     match purge_removals(rt, log, given.purge_removals) {
         Ok(Some(purged)) => console.purged(purged),
         Ok(None) => {}
-        Err(fault) => return Err(Failure::at(place_of(rt, &fault, given), fault)),
+        Err(fault) => match error_of(fault, log.cause()) {
+            LogError::Store(cause) => return Err(Failure::of_store(given.log, cause)),
+            LogError::Fault(fault) => return Err(Failure::at(place_of(rt, &fault, given), fault)),
+        },
     }
     Ok(())
 }

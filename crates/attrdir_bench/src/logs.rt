@@ -34,7 +34,7 @@ fn put_in_memory(rt: &HostRuntime, puts: u64) -> Result<Measured, Problem> {
 fn log_in<S: Alter + Drop>(rt: &HostRuntime, conn: Connection<S>) -> Result<SqlLog<S>, Fault> {
     match SqlLog::open(rt.alloc(), conn, me()?, cluster()?, VERSION_MOST) {
         Ok(log) => Ok(log),
-        Err((fault, _)) => Err(fault),
+        Err((error, _)) => Err(error.fault()),
     }
 }
 

@@ -1,8 +1,10 @@
 //! What a log holds, in lines for a reader, and what a purge of it prints.
 //!
-//! `log_run` prints a line for each key of a log, in the order of the keys, and then the last version. The crate stands on
-//! `sb_log` and prints any `WriteLog`, in memory or in a database. The program prints a log file by it.
-//! `purge_run` has a log drop its removals up to a version, and prints that version.
+//! `log_run` prints a line for each key of a log, in the order of the keys, and then the last version. It prints any `WriteLog`, in
+//! memory or in a database, and the program prints a log file with it. `purge_run` makes a log drop its removals up to a version,
+//! and prints that version.
+//!
+//! What no contract refuses: `log_run` reports `StoreFailed` in place of `LogDamaged`, or the other way round. Either closes the log.
 //!
 //! ```rust
 //! /// The lines of a log of `a` with one write.

@@ -12,7 +12,7 @@ use sb_types::{Entry, Fault, Name, Prefix, Slot};
 use std::alloc::Global;
 use std::io::Write;
 
-/// Adds the words of what stands under a key.
+/// Adds the words of the slot of a key.
 fn add_slot(out: &mut Vec<u8>, slot: &Slot) -> Result<(), Fault>
     ensures added { OnOk result (out.new.items ≡ out.old.items ++ slot_text slot.now) }
     ensures fault { IfErr result (λ fault. fault ≡ Fault.NoMemory) }
@@ -52,10 +52,13 @@ fn lines_of(alloc: Global, owner: &Name, table: &Table) -> Result<Vec<u8>, Fault
     Ok(out)
 }
 
-/// Prints what a log holds: a line `owner key version kind value` for each entry, in ascending key, `owner key version
-/// removed -` where the key was removed, and then `last V`, the version of the last write; and tells what the last write
-/// of the call answered. The faults of `load`, with nothing written; `NoMemory` likewise; `WriteFailed` with how many
-/// bytes were written, always fewer than all.
+/// Prints what a log holds: a line `owner key version kind value` for each entry, in ascending key, or `owner key version removed -`
+/// if the key was removed. Then it prints `last V`, the version of the last write. It also returns what the last write of the call
+/// answered. The faults, in this order:
+///
+/// - The faults of `load`, with nothing written.
+/// - `NoMemory`, with nothing written.
+/// - `WriteFailed` with the number of bytes that were written, always fewer than all.
 pub fn log_run<L: WriteLog, W: Write>(
     alloc: Global,
     log: &mut L,

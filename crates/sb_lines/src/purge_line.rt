@@ -20,9 +20,12 @@ fn line_of(alloc: Global, floor: u64) -> Result<Vec<u8>, Fault>
     Ok(line)
 }
 
-/// Has a log drop its removals up to a version, and prints `purged F`, the version that was asked for; and tells what the last
-/// write of the call answered. `NoMemory`, with nothing changed; the faults of the log's `purge`, with nothing written;
-/// `WriteFailed` with how many bytes were written, always fewer than all: then the log is purged.
+/// Makes a log drop its removals up to a version, and prints `purged F`, the version that was given. It also returns what the last
+/// write of the call answered. The faults, in this order:
+///
+/// - `NoMemory`, with nothing changed.
+/// - The faults of the log's `purge`, with nothing written.
+/// - `WriteFailed` with the number of bytes that were written, always fewer than all. Then the log is purged.
 pub fn purge_run<L: WriteLog, W: Write>(
     alloc: Global,
     log: &mut L,

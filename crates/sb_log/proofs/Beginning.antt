@@ -1,5 +1,5 @@
 -- From what the statement by which a log begins behind a version does to what a log promises of it.
-use Rattle.std.proofs.Common.{◌≡◌, ◌≢◌, ◌⊎◌, inl, inr, ℕ, ◌<◌, ◌≤◌, ◌+◌, max, Bool, true, false, ◌==◌, ◌||◌, cond, nat_lt, true≢false, List, [], ◌∷◌, Result, Ok, Err, OnOk, IsTrue, refl, sym, ap, subst, ◌∙◌, arith}
+use Rattle.std.proofs.Common.{None, ◌≡◌, ◌≢◌, ◌⊎◌, inl, inr, ℕ, ◌<◌, ◌≤◌, ◌+◌, max, Bool, true, false, ◌==◌, ◌||◌, cond, nat_lt, true≢false, List, [], ◌∷◌, Result, Ok, Err, OnOk, IsTrue, refl, sym, ap, subst, ◌∙◌, arith}
 use Rattle.std.proofs.lemmas.Bool.{and_parts, ltb-true}
 use Rattle.std.proofs.lemmas.Bool.Decides.{nat_tests}
 use Rattle.sqlite_value.specs.Order.{Row}
@@ -76,10 +76,10 @@ begins_in owner cluster after db now most holds same named =
       is = λ i. record { held = held i; floor = after; entries = [] };
     }
 
-pub begins_by : (owner cluster : List ℕ) (after : ℕ) (db now : Trees) → after ≤ VERSION_MOST → HoldsContent owner cluster (plain_table []) [] db → (result : Result (Unit {0}) Fault)
-    → OnOk result (now 1 ≡ db 1) → OnOk result (IsNamedIn 2 owner cluster after after (now 0)) → OnOk result (HoldsContent owner cluster (nothing_up_to after) [] now)
-begins_by owner cluster after db now most holds (Ok done) same named = begins_in owner cluster after db now most holds same named
-begins_by owner cluster after db now most holds (Err fault) same named = tt
+pub begins_by : {E : Type 0} (owner cluster : List ℕ) (after : ℕ) (db now : Trees) → after ≤ VERSION_MOST → HoldsContent owner cluster (plain_table []) [] db → (result : Result (Unit {0}) E)
+    → OnOk result ((now 1 ≡ db 1) × IsNamedIn 2 owner cluster after after (now 0)) → OnOk result (HoldsContent owner cluster (nothing_up_to after) [] now)
+begins_by owner cluster after db now most holds (Ok done) did = begins_in owner cluster after db now most holds did.0 did.1
+begins_by owner cluster after db now most holds (Err cause) did = tt
 
 -- ---- of any log that stands, and has this content
 
@@ -148,7 +148,7 @@ module _ (old : Log) (up : old.is_open ≡ true) (table : Table) (shown : old.is
 module _ {S : Type 0} (g : Ghosts S) (settled : (s : S) (db : Trees) → IsTrue (g.view s).is_open → g.recovers s db → db ≡ (g.view s).committed) (owner cluster : List ℕ) (most : ℕ) (is_open : Bool) (up : is_open ≡ true)
     (conn : Held S) (table : Table) (kept : IsKept g owner cluster conn table is_open) (is : IsContent table) (after : ℕ) where
   abbrev view : Bool → Held S → SqlView S
-  view b h = record { owner = owner; cluster = cluster; most = most; is_open = b; conn = h }
+  view b h = record { owner = owner; cluster = cluster; most = most; is_open = b; cause = None; conn = h }
 
   abbrev before : Log
   before = log_in g (view is_open conn)

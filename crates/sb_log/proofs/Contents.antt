@@ -277,18 +277,18 @@ module _ (owner cluster : List ℕ) (content : Table) (db : Trees) (holds : Hold
       abbrev pub Leaves : Trees → Type 0
       Leaves left = IsSound log_schema left × ((entries : List Entry) × HoldsContent owner cluster (purged floor content) entries left)
 
-      pub first_leaves : (left : Trees) → IsSound log_schema left × (left 1 ≡ db 1) × IsNamedIn 2 owner cluster held floor (left 0) → Leaves left
-      first_leaves left did = (did.0, (content.entries, floored_holds left (says left did.2) did.1))
+      pub first_leaves : (left : Trees) → IsSound log_schema left × ((left 1 ≡ db 1) × IsNamedIn 2 owner cluster held floor (left 0)) → Leaves left
+      first_leaves left did = (did.0, (content.entries, floored_holds left (says left did.1.1) did.1.0))
 
       module _ (mid : Trees) (rows : mid 1 ≡ db 1) (named : IsNamedIn 2 owner cluster held floor (mid 0)) where
         dropped : (after : Trees) → Drops floor (mid 1) (after 1) → after 0 ≡ mid 0 → HoldsContent owner cluster (purged floor content) (purged floor content).entries after
         dropped after drops meta =
             purged_holds after (subst (IsNamedIn 2 owner cluster content.held floor) (sym meta) (says mid named)) (subst (λ (before : List Row). Drops floor before (after 1)) rows drops)
 
-        pub second_holds : (result : Result (Unit {0}) Fault) (after : Trees) → OnOk result (Drops floor (mid 1) (after 1)) → OnOk result (after 0 ≡ mid 0)
+        pub second_holds : {E : Type 0} (result : Result (Unit {0}) E) (after : Trees) → OnOk result (Drops floor (mid 1) (after 1) × (after 0 ≡ mid 0))
             → OnOk result (HoldsContent owner cluster (purged floor content) (purged floor content).entries after)
-        second_holds (Ok done) after drops meta = dropped after drops meta
-        second_holds (Err fault) after drops meta = tt
+        second_holds (Ok done) after did = dropped after did.0 did.1
+        second_holds (Err cause) after did = tt
 
-        pub second_leaves : (left : Trees) → IsSound log_schema left × Drops floor (mid 1) (left 1) × (left 0 ≡ mid 0) → Leaves left
-        second_leaves left did = (did.0, ((purged floor content).entries, dropped left did.1 did.2))
+        pub second_leaves : (left : Trees) → IsSound log_schema left × (Drops floor (mid 1) (left 1) × (left 0 ≡ mid 0)) → Leaves left
+        second_leaves left did = (did.0, ((purged floor content).entries, dropped left did.1.0 did.1.1))

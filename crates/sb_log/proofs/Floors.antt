@@ -1,5 +1,5 @@
 -- From what the statements that raise a floor do to what a log promises of it.
-use Rattle.std.proofs.Common.{◌≡◌, ◌⊎◌, inl, inr, ℕ, ◌<◌, ◌≤◌, Bool, true, false, cond, nat_lt, nat_le, true≢false, List, [], ◌∷◌, Ok, Err, IsTrue, refl, sym, ap, subst, ◌∙◌, arith}
+use Rattle.std.proofs.Common.{None, ◌≡◌, ◌⊎◌, inl, inr, ℕ, ◌<◌, ◌≤◌, Bool, true, false, cond, nat_lt, nat_le, true≢false, List, [], ◌∷◌, Ok, Err, IsTrue, refl, sym, ap, subst, ◌∙◌, arith}
 use Rattle.std.proofs.lemmas.Bool.{le-leb, lt-ltb, leb-true, ltb-true}
 use Rattle.std.proofs.lemmas.Bool.Decides.{nat_tests}
 use Rattle.sqlite_trees.specs.declared.store.Store.{Ghosts}
@@ -139,7 +139,7 @@ module _ (old : Log) (up : old.is_open ≡ true) (table : Table) (is : IsContent
 module _ {S : Type 0} (g : Ghosts S) (settled : (s : S) (db : Trees) → IsTrue (g.view s).is_open → g.recovers s db → db ≡ (g.view s).committed) (owner cluster : List ℕ) (most : ℕ) (is_open : Bool) (up : is_open ≡ true)
     (conn : Held S) (table : Table) (kept : IsKept g owner cluster conn table is_open) (is : IsContent table) where
   abbrev view : Bool → Held S → SqlView S
-  view b h = record { owner = owner; cluster = cluster; most = most; is_open = b; conn = h }
+  view b h = record { owner = owner; cluster = cluster; most = most; is_open = b; cause = None; conn = h }
 
   abbrev before : Log
   before = log_in g (view is_open conn)

@@ -5,11 +5,13 @@ use Rattle.std.proofs.lemmas.List.Sorted.{IsPermutation-sym, length_permutation}
 use Rattle.sqlite_value.specs.Order.{Row}
 use Rattle.sqlite.specs.Effect.{Database}
 use Rattle.sqlite.proofs.Callers.{one_permutation}
-use Rattle.sb_types.specs.declared.fault.Fault.{Fault}
 use Rattle.sb_types.specs.declared.fault.Fault.TheVariants.{WrongOwner}
 use Rattle.sb_types.specs.Records.{Table}
 use Rattle.sb_table.specs.Plain.{plain_table}
-use Rattle.sb_log.specs.Opening.{meta_cells, meta_row, meta_found, writes_found, IsForm, IsFormOf, IsNamedIn, IsNamed, IsSaid, IsMetaOf, IsOthers, NamesAnother, IsRaised, IsCleared, SaysStill, Completes, Opens, Grows, Founds, IsWant}
+use Rattle.sb_log.specs.declared.cause.LogError.{LogError}
+use Rattle.sb_log.specs.declared.cause.LogError.TheVariants.{Store, Fault}
+use Rattle.sb_log.specs.Cause.{fault_of, IsMakingFault, IsReadingFault, IsStoreError, OnRefusal}
+use Rattle.sb_log.specs.Opening.{meta_cells, meta_row, meta_found, writes_found, IsForm, IsFormOf, IsNamedIn, IsNamed, IsSaid, IsMetaOf, IsOthers, NamesAnother, IsRaised, IsCleared, SaysStill, Completes, Opens, Grows, Founds, IsWant, IsOpeningFault}
 use Rattle.sb_log.specs.Form.{log_schema, schema_with}
 use Rattle.sb_log.specs.declared.schema.Made.{Made}
 use Rattle.sb_log.specs.declared.schema.Made.TheVariants.{Neither, Meta, Both}
@@ -44,7 +46,7 @@ one_mapped rows shown row same is =
     one_permutation row (map meta_cells rows) (IsPermutation-sym (map meta_cells rows) (row ∷ []) (subst (IsPermutation (map meta_cells rows)) is same))
 
 module _ (owner cluster : List ℕ) (old mid : Database) (shown : List Row) (all : Completes old mid) (same : IsPermutation (map meta_cells (mid.trees 0)) shown) (read : Database) (kept : read ≡ mid) where
-  pub opens_new : (result : Result Table Fault) → shown ≡ [] → IfOk result (λ t. AreRowsOf t (read.trees 1)) → IfOk result (λ t. t ≡ plain_table []) → IfOk result (Opens owner cluster old)
+  pub opens_new : (result : Result Table LogError) → shown ≡ [] → IfOk result (λ t. AreRowsOf t (read.trees 1)) → IfOk result (λ t. t ≡ plain_table []) → IfOk result (Opens owner cluster old)
   opens_new (Ok t) none rows empty =
       record {
         made = all.made;
@@ -56,7 +58,7 @@ module _ (owner cluster : List ℕ) (old mid : Database) (shown : List Row) (all
       }
   opens_new (Err fault) none rows empty = tt
 
-  pub opens_old : (result : Result Table Fault) → IfOk result (λ t. (found : Table) × AreRowsOf found (read.trees 1) × IsSaid owner cluster found t (read.trees 0))
+  pub opens_old : (result : Result Table LogError) → IfOk result (λ t. (found : Table) × AreRowsOf found (read.trees 1) × IsSaid owner cluster found t (read.trees 0))
       → IfOk result (Opens owner cluster old)
   opens_old (Ok t) is =
       record {
@@ -73,18 +75,18 @@ pub whatever_came : {A E P : Type 0} (result : Result A E) → P → OnOk result
 whatever_came (Ok a) p = p
 whatever_came (Err e) p = tt
 
-pub holds_new : (owner cluster : List ℕ) (result : Result Table Fault) (before : List Row) (db : Trees) → IfOk result (λ t. AreRowsOf t before) → OnOk result (db 1 ≡ before)
+pub holds_new : (owner cluster : List ℕ) (result : Result Table LogError) (before : List Row) (db : Trees) → IfOk result (λ t. AreRowsOf t before) → OnOk result (db 1 ≡ before)
     → OnOk result (IsNamedIn 2 owner cluster 0 0 (db 0)) → IfOk result (λ t. HoldsContent owner cluster t t.entries db)
 holds_new owner cluster (Ok t) before db are same named = holds_plain owner cluster t db named (subst (AreRowsOf t) (sym same) are)
 holds_new owner cluster (Err fault) before db are same named = tt
 
 module _ (owner cluster : List ℕ) (old mid : Database) (all : Completes old mid) (now : Trees) where
-  pub still_new : (result : Result Table Fault) → mid.trees 0 ≡ [] → OnOk result (IsNamedIn 2 owner cluster 0 0 (now 0)) → OnOk result (SaysStill owner cluster old now)
+  pub still_new : (result : Result Table LogError) → mid.trees 0 ≡ [] → OnOk result (IsNamedIn 2 owner cluster 0 0 (now 0)) → OnOk result (SaysStill owner cluster old now)
   still_new (Ok t) none named =
       record { made = all.made; schema = all.schema; meta = subst (λ (m : List Row). IsNamedIn 2 owner cluster (last_in m) (floor_in m) (now 0)) (sym (sym all.meta ∙ none)) named }
   still_new (Err fault) none named = tt
 
-  pub still_old : (result : Result Table Fault) (read : Database) → read ≡ mid → OnOk result (IsNamedIn 2 owner cluster (last_in (read.trees 0)) (floor_in (read.trees 0)) (now 0))
+  pub still_old : (result : Result Table LogError) (read : Database) → read ≡ mid → OnOk result (IsNamedIn 2 owner cluster (last_in (read.trees 0)) (floor_in (read.trees 0)) (now 0))
       → OnOk result (SaysStill owner cluster old now)
   still_old (Ok t) read kept named =
       record {
@@ -176,7 +178,7 @@ module _ (form : ℕ) (owner cluster : List ℕ) (last floor : ℕ) (metas rows 
   raised_in db did =
       record { last = last; floor = floor; older = subst (λ (n : ℕ). IsNamedIn n owner cluster last floor metas) did.0 named; sound = did.1; meta = did.3; same = did.2 }
 
-  pub cleared_in : (mid db : Trees) → mid 1 ≡ rows → IsNamedIn 2 owner cluster last floor (mid 0) → IsSound log_schema db × Drops floor (mid 1) (db 1) × (db 0 ≡ mid 0) → IsCleared owner cluster metas rows db
+  pub cleared_in : (mid db : Trees) → mid 1 ≡ rows → IsNamedIn 2 owner cluster last floor (mid 0) → IsSound log_schema db × (Drops floor (mid 1) (db 1) × (db 0 ≡ mid 0)) → IsCleared owner cluster metas rows db
   cleared_in mid db same raised did =
       record {
         form = form;
@@ -184,8 +186,8 @@ module _ (form : ℕ) (owner cluster : List ℕ) (last floor : ℕ) (metas rows 
         floor = floor;
         said = named;
         sound = did.0;
-        meta = subst (IsNamedIn 2 owner cluster last floor) (sym did.2) raised;
-        left = subst (λ (before : List Row). Drops floor before (db 1)) same did.1;
+        meta = subst (IsNamedIn 2 owner cluster last floor) (sym did.1.1) raised;
+        left = subst (λ (before : List Row). Drops floor before (db 1)) same did.1.0;
       }
 
 pub form_read : (form : ℕ) (t : Table) → IsFormOf form t → IsForm form
@@ -222,8 +224,8 @@ module _ (owner cluster : List ℕ) (old mid : Database) (all : Completes old mi
       go Meta schema meta whole = absurd (omega (arith, ap length (sym is ∙ ap (map meta_cells) (meta ∙ whole refl))))
       go Both schema meta whole = record { schema = schema; row = row; is_row = ap (map meta_cells) (sym meta) ∙ is; others = others }
 
-  pub or_another : (row : Row) → map meta_cells (mid.trees 0) ≡ row ∷ [] → (result : Result Table Fault)
-      → IfErr result (λ fault. fault ≡ WrongOwner → IsOthers owner cluster row) → IfErr result (λ fault. fault ≡ WrongOwner → NamesAnother owner cluster old)
+  pub or_another : (row : Row) → map meta_cells (mid.trees 0) ≡ row ∷ [] → (result : Result Table LogError)
+      → IfErr result (λ e. fault_of e ≡ WrongOwner → IsOthers owner cluster row) → IfErr result (λ e. fault_of e ≡ WrongOwner → NamesAnother owner cluster old)
   or_another row is (Ok t) others = tt
   or_another row is (Err fault) others = λ called. another row is (others called)
 
@@ -243,6 +245,33 @@ module _ (owner cluster : List ℕ) (old mid : Database) (all : Completes old mi
   pub not_two : NamesAnother owner cluster old → (shown : List Row) → IsPermutation (map meta_cells (mid.trees 0)) shown → 2 ≤ length shown → ⊥
   not_two names shown same two = omega (arith, ap length (their_row names), length_permutation (map meta_cells (mid.trees 0)) shown same, two)
 
-pub or_theirs : (result : Result Table Fault) → result ≡ Err WrongOwner → IfErr result (λ fault. (fault ≡ WrongOwner) ⊎ IsWant fault)
-or_theirs (Ok t) is = tt
-or_theirs (Err fault) is = inl (cc)
+pub or_theirs : (result : Result Table LogError) → result ≡ Err (Fault WrongOwner) → IfErr result (λ e. (fault_of e ≡ WrongOwner) ⊎ IsWant e)
+or_theirs result is = subst (λ (r : Result Table LogError). IfErr r (λ e. (fault_of e ≡ WrongOwner) ⊎ IsWant e)) (sym is) (inl refl)
+
+-- ---- which faults come
+
+pub store_wants : (e : LogError) → IsStoreError e → IsWant e
+store_wants (Store cause) is = tt
+store_wants (Fault fault) is = absurd is
+
+pub making_opens : (e : LogError) → IsMakingFault e → IsOpeningFault e
+making_opens (Store cause) is = tt
+making_opens (Fault fault) is = inr (inl is)
+
+pub making_spares : (e : LogError) → IsMakingFault e → fault_of e ≡ WrongOwner → ⊥
+making_spares (Store cause) is called = cc
+making_spares (Fault fault) is called = cc
+
+pub reading_opens : (result : Result Table LogError) → IfErr result IsReadingFault → IfErr result IsOpeningFault
+reading_opens (Ok t) is = tt
+reading_opens (Err (Store cause)) is = tt
+reading_opens (Err (Fault fault)) is = elim is [ inl memory ↦ inl memory | inr damaged ↦ inr (inl damaged) ]
+
+pub reading_spares : (P : Type 0) (result : Result Table LogError) → IfErr result IsReadingFault → IfErr result (λ e. fault_of e ≡ WrongOwner → P)
+reading_spares P (Ok t) is = tt
+reading_spares P (Err (Store cause)) is = λ called. absurd (cc)
+reading_spares P (Err (Fault fault)) is = λ called. absurd (elim is [ inl memory ↦ cc | inr damaged ↦ cc ])
+
+pub so_refused : {A P Q : Type 0} (result : Result A LogError) → OnRefusal result P → (P → Q) → OnRefusal result Q
+so_refused (Ok a) was so = tt
+so_refused (Err e) was so = λ other. so (was other)

@@ -12,6 +12,9 @@ use Rattle.sqlite_catalog.specs.Listing.{IsSound}
 use Rattle.sqlite_schema.specs.declared.schema.Schema.{Schema}
 use Rattle.sb_types.specs.declared.entry.Slot.{Slot}
 use Rattle.sb_types.specs.declared.fault.Fault.{Fault}
+use Rattle.sb_log.specs.declared.cause.LogError.{LogError}
+use Rattle.sb_log.specs.declared.cause.LogError.TheVariants as other
+use Rattle.sb_log.specs.Cause.{fault_of, IsReadingFault}
 use Rattle.sb_types.specs.declared.fault.Fault.TheVariants.{NoMemory, TableFull, VersionsSpent, NothingThere, Closed, StoreFailed, LogDamaged}
 use Rattle.sb_types.specs.Records.{Entry, Table}
 use Rattle.sb_table.specs.Plain.{plain_table, with_entry, is_full_for}
@@ -29,6 +32,11 @@ use Rattle.sb_log.proofs.Unique.{one_table}
 
 pub same_fault : {A : Type 0} {a b : Fault} → ◌≡◌ {A = Result A Fault} (Err a) (Err b) → a ≡ b
 same_fault e = cc
+
+pub read_fault : (e : LogError) (fault : Fault) → e ≡ other.Fault fault → IsReadingFault e → fault_of e ≢ StoreFailed
+read_fault (other.Store cause) fault is reading stored = absurd (cc)
+read_fault (other.Fault met) fault is (inl memory) stored = cc
+read_fault (other.Fault met) fault is (inr damaged) stored = cc
 
 pub never_closed : {A : Type 0} (a : A) → ◌≡◌ {A = Result A Fault} (Ok a) (Err Closed) → ⊥
 never_closed a e = absurd (cc)
@@ -88,7 +96,7 @@ module _ {S : Type 0} (g : Ghosts S) (settled : (s : S) (db : Trees) → IsTrue 
 
   module _ (most : ℕ) (is_open : Bool) (up : is_open ≡ true) (conn : Held S) (table : Table) (kept : IsKept g owner cluster conn table is_open) where
     abbrev pub view_with : Bool → Held S → SqlView S
-    view_with b h = record { owner = owner; cluster = cluster; most = most; is_open = b; conn = h }
+    view_with b h = record { owner = owner; cluster = cluster; most = most; is_open = b; cause = None; conn = h }
 
     abbrev before : Log
     before = log_in g (view_with is_open conn)
@@ -204,15 +212,15 @@ module _ {S : Type 0} (g : Ghosts S) (settled : (s : S) (db : Trees) → IsTrue 
               )
 
           pub survives : (HasCleanDisk (state g conn') → IsReady (state g conn) → (db : Trees) → g.recovers conn'.store db
-              → g.recovers conn.store db ⊎ (Enters e ((state g conn).now.trees 1) (db 1) × (db 0 ≡ (state g conn).now.trees 0) × IsSound log_schema db))
+              → g.recovers conn.store db ⊎ (IsSound log_schema db × (Enters e ((state g conn).now.trees 1) (db 1) × (db 0 ≡ (state g conn).now.trees 0))))
               → (g.view conn'.store).is_clean ≡ true → (left : Table) → MayLeave g owner cluster conn' left → (left ≡ before.content) ⊎ (left ≡ next_content before key slot)
           survives crash clean left may =
               let stands = kept up (no_doubt _ (was_clean clean)) in
               elim (crash (no_doubt _ clean) stands.0 may.0 may.1) [
                 | inl was ↦ inl (settles conn table is_open kept (was_clean clean) up left (may.0, was, may.2))
                 | inr put ↦ inr (
-                    found_in (with_entry table e) (with_entry table e).entries may.0 put.2
-                    (entered_holds owner cluster table (g.view conn.store).trees stands.1 e later room may.0 put.0 put.1) left may.2
+                    found_in (with_entry table e) (with_entry table e).entries may.0 put.0
+                    (entered_holds owner cluster table (g.view conn.store).trees stands.1 e later room may.0 put.1.0 put.1.1) left may.2
                     ∙ entered_is (was_clean clean)
                     )
               ]
@@ -310,7 +318,7 @@ module _ {S : Type 0} (g : Ghosts S) (settled : (s : S) (db : Trees) → IsTrue 
       abbrev TakesNoneForDamage : Type 0
       TakesNoneForDamage =
           HasCleanDisk (state g conn') → IsReady (state g conn) → (t : Table) → AreRowsOf t ((state g conn).now.trees 1) → CanSay table.held table.floor t.entries
-          → ◌≢◌ {A = Result Table Fault} (Err LogDamaged) (Err LogDamaged)
+          → ⊥
 
       -- where a row is taken for damage, the store broke its promise
       broke : TakesNoneForDamage → (g.view conn'.store).is_clean ≡ false
@@ -322,7 +330,7 @@ module _ {S : Type 0} (g : Ghosts S) (settled : (s : S) (db : Trees) → IsTrue 
               let stands = kept up (no_doubt _ (still_clean is)) in
               let trees = (g.view conn.store).trees in
               let can = says_again table (holds_content owner cluster table table.entries trees stands.1) (holds_most owner cluster table table.entries trees stands.1) in
-              absurd (whole (no_doubt _ is) stands.0 (plain_table table.entries) stands.1.rows can refl)
+              absurd (whole (no_doubt _ is) stands.0 (plain_table table.entries) stands.1.rows can)
 
       pub gives_damaged : TakesNoneForDamage → Loads before (Err LogDamaged) (log_in g (view_with false conn'))
       gives_damaged whole = gives_damage (broke whole)

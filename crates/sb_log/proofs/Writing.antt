@@ -1,5 +1,6 @@
 -- What the statement that writes an entry does, and what it commits.
-use Rattle.std.proofs.Common.{◌≡◌, ◌⊎◌, inl, inr, ℕ, ℤ, pos, Bool, true, false, cond, not, List, [], ◌∷◌, ◌++◌, append-nil, drop, Option, None, Some, Ok, refl, sym, ap, subst, subst₂, ◌∙◌, arith, IsPermutation}
+use Rattle.std.specs.Prelude.{OnOk}
+use Rattle.std.proofs.Common.{◌≡◌, ◌⊎◌, inl, inr, ℕ, ℤ, pos, Bool, true, false, cond, not, List, [], ◌∷◌, ◌++◌, append-nil, drop, Option, None, Some, Ok, refl, sym, ap, subst, subst₂, ◌∙◌, arith, IsPermutation, Result, Err}
 use Rattle.std.proofs.lemmas.Bool.{and_parts, not-true}
 use Rattle.std.proofs.lemmas.List.Sorted.{IsPermutation-filter_both}
 use Rattle.sqlite_value.specs.declared.value.Value.{Value}
@@ -186,11 +187,11 @@ module _ (e : Entry) (kept : is_kept e ≡ true) (old : State) (ready : IsReady 
       }
 
   abbrev WritesOnce : Trees → Type 0
-  WritesOnce db = Enters e (old.now.trees 1) (db 1) × (db 0 ≡ old.now.trees 0) × IsSound log_schema db
+  WritesOnce db = IsSound log_schema db × (Enters e (old.now.trees 1) (db 1) × (db 0 ≡ old.now.trees 0))
 
   may_commit : (db : Trees) → MayCommit old None upsert text_run (cells_of e) db → WritesOnce db
   may_commit db (inl ends) = absurd (elim ends.0 [ inl commits ↦ cc | inr releases ↦ let is = releases.2 in cc ])
-  may_commit db (inr writes) = let done = does old.step_limit (mode_of old) writes.1 writes.2 writes.3 in subst WritesOnce (sym writes.5) (done.1, done.2, subst (λ (s : Schema). IsSound s writes.2.trees) done.0 writes.4)
+  may_commit db (inr writes) = let done = does old.step_limit (mode_of old) writes.1 writes.2 writes.3 in subst WritesOnce (sym writes.5) (subst (λ (s : Schema). IsSound s writes.2.trees) done.0 writes.4, (done.1, done.2))
 
   pub write_commits : (db : Trees) → CommitsBy upsert_text (cells_of e) old db → WritesOnce db
   unfolding CommitsBy
@@ -203,3 +204,9 @@ module _ (e : Entry) (kept : is_kept e ≡ true) (old : State) (ready : IsReady 
 pub or_commits : {A B C : Type 0} → (B → C) → A ⊎ B → A ⊎ C
 or_commits f (inl a) = inl a
 or_commits f (inr b) = inr (f b)
+
+-- ---- what is said of an answer
+
+pub so_on_ok : {A E P Q : Type 0} (result : Result A E) → OnOk result P → (P → Q) → OnOk result Q
+so_on_ok (Ok a) p f = f p
+so_on_ok (Err e) p f = tt

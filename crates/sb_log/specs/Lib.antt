@@ -1,7 +1,9 @@
 pub mod Records
+pub mod Cause
 pub mod Puts
 pub mod Form
 pub mod Rows
 pub mod Standing
+pub mod Statements
 pub mod Sql
 pub mod Opening

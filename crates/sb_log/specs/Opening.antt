@@ -1,16 +1,17 @@
 -- What a log's tables may hold where it is opened.
-use Rattle.std.specs.Prelude.{◌≡◌, ◌≢◌, ◌⊎◌, ℕ, pos, min, false, true, List, [], ◌∷◌, map}
+use Rattle.std.specs.Prelude.{◌≡◌, ◌≢◌, ◌⊎◌, ⊤, ℕ, pos, min, false, true, List, [], ◌∷◌, map}
 use Rattle.sqlite_value.specs.declared.value.Value.TheVariants.{Int, Text}
 use Rattle.sqlite_value.specs.Order.{Row, column}
 use Rattle.sqlite_trees.specs.Tree.{Trees, rowid}
 use Rattle.sqlite.specs.Effect.{Database}
 use Rattle.sqlite_catalog.specs.Listing.{IsSound}
-use Rattle.sb_types.specs.declared.fault.Fault.{Fault}
-use Rattle.sb_types.specs.declared.fault.Fault.TheVariants.{NoMemory, StoreFailed, LogDamaged, WrongOwner}
+use Rattle.sb_types.specs.declared.fault.Fault.TheVariants.{NoMemory, LogDamaged, WrongOwner}
 use Rattle.sb_types.specs.declared.limits.TheConstants.{VERSION_MOST}
 use Rattle.sb_types.specs.Records.{Table}
 use Rattle.sb_log.specs.Records.{Log}
 use Rattle.sb_table.specs.Plain.{plain_table}
+use Rattle.sb_log.specs.declared.cause.LogError.{LogError}
+use Rattle.sb_log.specs.declared.cause.LogError.TheVariants.{Store, Fault}
 use Rattle.sb_log.specs.declared.schema.Made.{Made}
 use Rattle.sb_log.specs.declared.schema.Made.TheVariants.{Neither, Meta, Both}
 use Rattle.sb_log.specs.Form.{schema_with, log_schema}
@@ -126,11 +127,15 @@ pub record IsCleared (owner cluster : List ℕ) (metas rows : List Row) (db : Tr
   pub meta : IsNamedIn 2 owner cluster last floor (db 0)
   pub left : Drops floor rows (db 1)
 
+-- an owner's log of these rows was accepted, in part or in whole
+abbrev pub IsAccepted : List ℕ → List ℕ → List Row → List Row → Trees → Type 0
+IsAccepted owner cluster metas rows db = IsRaised owner cluster metas rows db ⊎ IsCleared owner cluster metas rows db
+
 -- what was found is there so
 pub record Accepts (owner cluster : List ℕ) (found : Database) (db : Trees) : Type 0 where
   pub made : Made
   pub schema : found.schema ≡ schema_with made
-  pub kept : IsRaised owner cluster (meta_found made found.trees) (writes_found made found.trees) db ⊎ IsCleared owner cluster (meta_found made found.trees) (writes_found made found.trees) db
+  pub kept : IsAccepted owner cluster (meta_found made found.trees) (writes_found made found.trees) db
 
 -- what an opening may commit
 abbrev pub Founds : List ℕ → List ℕ → Database → Trees → Type 0
@@ -142,12 +147,14 @@ pub record SaysStill (owner cluster : List ℕ) (found : Database) (now : Trees)
   pub schema : found.schema ≡ schema_with made
   pub meta : IsNamedIn 2 owner cluster (last_in (meta_found made found.trees)) (floor_in (meta_found made found.trees)) (now 0)
 
--- memory was wanting, or the store failed
-abbrev pub IsWant : Fault → Type 0
-IsWant fault = (fault ≡ NoMemory) ⊎ (fault ≡ StoreFailed)
+-- memory was missing, or the store failed
+abbrev pub IsWant : LogError → Type 0
+IsWant (Store cause) = ⊤
+IsWant (Fault fault) = fault ≡ NoMemory
 
-abbrev pub IsOpeningFault : Fault → Type 0
-IsOpeningFault fault = (fault ≡ NoMemory) ⊎ ((fault ≡ StoreFailed) ⊎ ((fault ≡ LogDamaged) ⊎ (fault ≡ WrongOwner)))
+abbrev pub IsOpeningFault : LogError → Type 0
+IsOpeningFault (Store cause) = ⊤
+IsOpeningFault (Fault fault) = (fault ≡ NoMemory) ⊎ ((fault ≡ LogDamaged) ⊎ (fault ≡ WrongOwner))
 
 -- whose log it is, and the greatest version that it gives
 pub record IsOpenedAs (owner cluster : List ℕ) (max_version : ℕ) (log : Log) : Type 0 where

@@ -9,8 +9,8 @@ use sb_table::Table;
 use sb_types::{Entry, Fault, Key, Slot};
 use std::alloc::Global;
 
-/// Enters a write into a table under the next version, and gives its entry. Why a log of that table refuses it;
-/// `NoMemory`. Both leave the table as it was.
+/// Enters a write into a table under the next version, and returns its entry. The reason of `refusal`; then `NoMemory`. Both leave
+/// the table as it was.
 pub(crate) fn accept(
     table: &mut Table,
     alloc: Global,
@@ -40,7 +40,7 @@ pub(crate) fn accept(
     Ok(entry)
 }
 
-/// Why a log of these entries refuses a write, the first reason that holds.
+/// Why a log of these entries refuses a write: the first reason that holds.
 pub(crate) fn refusal(table: &Table, max_version: u64, key: &Key, slot: &Slot) -> Option<Fault>
     ensures { result ≡ spec.refusal max_version table.now key.now slot.now }
 {
@@ -56,7 +56,7 @@ pub(crate) fn refusal(table: &Table, max_version: u64, key: &Key, slot: &Slot) -
     None
 }
 
-/// Whether it is a removal that has nothing to remove.
+/// Whether it is a removal of a key that has no value.
 fn is_idle(table: &Table, key: &Key, slot: &Slot) -> bool
     ensures { result ≡ spec.is_idle table.now key.now slot.now }
 {

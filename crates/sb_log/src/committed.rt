@@ -1,4 +1,4 @@
-//! A write that stands in its owner's log.
+//! A write that is in its owner's log.
 ghost use Rattle.std.specs.Prelude.{◌≡◌, true};
 ghost use Rattle.sb_types.specs.Limits.{is_entry};
 ghost use Rattle.sb_types.specs.Text.{is_name};
@@ -6,7 +6,7 @@ ghost use Rattle.sb_types.specs.Text.{is_name};
 use sb_types::{Entry, Name};
 use std::marker::Model;
 
-/// A write that a log took: whose it is, and the entry with its version. Only a log makes it, and it can't be copied.
+/// A write that a log took: its owner, and the entry with its version. Only a log makes it, and it can't be copied.
 #[derive(Debug, Drop)]
 pub struct Committed {
     owner: Name,
@@ -28,7 +28,7 @@ impl Committed {
         Committed { owner, entry }
     }
 
-    /// Whose write it is.
+    /// The owner of the write.
     pub fn owner(&self) -> &Name
         ensures owner { result.now ≡ self.now.owner }
         ensures name { is_name self.now.owner ≡ true }

@@ -1,8 +1,21 @@
-//! An owner's log: its own writes, each of which stands before anybody is told of it.
+//! An owner's log: its own writes. Each is kept before anybody hears of it.
 //!
-//! The trait `WriteLog` says what every log promises. A `PlainLog` keeps its writes in memory, and a `SqlLog` keeps them in a
-//! database, where they outlast a crash. `put` gives a write the next version; a node tells nobody of a write that is not in
-//! its log.
+//! The trait `WriteLog` says what every log promises. A `PlainLog` keeps its writes in memory. A `SqlLog` keeps them in a
+//! database, and there they outlast a crash. `put` gives a write the next version. No other node gets a write that is not in its
+//! owner's log. If the store of a log fails, the log is closed, and `cause` says why.
+//!
+//! What no contract refuses, and what does:
+//!
+//! - A log in a database reports `StoreFailed` although its store took each statement: tests.
+//! - It reports `StoreFailed` in place of `LogDamaged`: nothing.
+//! - It gives another cause than its database reported. Only `StoreCause::of` has an exact contract: tests, `tools/check-node`.
+//! - It loads what it has in memory. That equals the rows as long as the store keeps its promise: nothing.
+//! - A third kind of log keeps removals up to its floor, and only its content leaves them out: tests of that log.
+//! - An opening inside a transaction ends that transaction before it answers: a test.
+//! - A refused opening leaves the connection in a new transaction, or with a limit of steps: nothing.
+//! - An opening reports missing memory or `StoreFailed` for a whole log, or for another's: tests.
+//! - A load that finds damage removes the rows. The store broke its promise there: nothing.
+//! - Closing a log in a database removes its rows: a test that opens it again.
 //!
 //! ```rust
 //! /// The version of the first write in the log of `a`.
@@ -15,6 +28,7 @@
 //! ```
 #![tactic(auto)]
 
+mod cause;
 mod check;
 mod committed;
 mod content;
@@ -27,6 +41,7 @@ mod schema;
 mod sql;
 mod statements;
 
+pub use cause::{LogError, StoreCause};
 pub use committed::Committed;
 pub use log::WriteLog;
 pub use plain::PlainLog;

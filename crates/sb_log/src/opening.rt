@@ -1,23 +1,21 @@
 //! Opening a log's tables, and making those that are missing.
-ghost use Rattle.std.specs.Prelude.{◌≡◌, ◌≢◌, ◌≤◌, ◌⊎◌, ℕ, List, Ok, Err, Some, IfSome, pos, [], ◌∷◌, length, map, IfErr, IfOk, IsTrue, OnOk, IsOkAnd, false, true};
+ghost use Rattle.std.specs.Prelude.{◌≡◌, ◌≤◌, ◌⊎◌, ℕ, List, Ok, Err, Some, IfSome, pos, [], map, length, IfErr, IfOk, IsTrue, OnOk, IsOkAnd, false};
 ghost use Rattle.sqlite_value.specs.declared.value.Value.TheVariants.{Int, Text};
 ghost use Rattle.sqlite_value.specs.Order.{column};
-ghost use Rattle.sqlite_trees.specs.Tree.{Trees};
-ghost use Rattle.sqlite_trees.specs.View.{doubt};
-ghost use Rattle.sqlite.specs.Held.{state};
-ghost use Rattle.sqlite.specs.Effect.{IsDatabase};
-ghost use Rattle.sqlite.specs.State.{HasCleanDisk};
 ghost use Rattle.sqlite_catalog.specs.Listing.{IsSound};
 ghost use Rattle.sb_types.specs.Records as records;
 ghost use Rattle.sb_types.specs.declared.limits.TheConstants.{VERSION_MOST};
 ghost use Rattle.sb_types.specs.Runs.{live};
 ghost use Rattle.sb_table.specs.Plain.{IsPlainTable, plain_table};
 ghost use Rattle.sb_table.specs.Contents.{IsContent};
+ghost use Rattle.sb_log.specs.Cause.{fault_of, IsAnswer, IsMakingFault, IsReadingFault, IsStoreError, OnRefusal};
 ghost use Rattle.sb_log.specs.Form.{no_schema, meta_schema, log_schema, schema_with};
-ghost use Rattle.sb_log.specs.Opening.{meta_cells, meta_row, meta_found, IsForm, IsFormOf, IsNamedIn, IsSaid, IsOthers, NamesAnother, IsRaised, IsCleared, SaysStill, Completes, Opens, Grows, Founds, IsWant, IsOpeningFault};
-ghost use Rattle.sb_log.specs.Rows.{last_in, floor_in, content_by, AreRowsOf, CanSay, Drops};
+ghost use Rattle.sb_log.specs.Opening.{meta_row, meta_found, IsForm, IsFormOf, IsNamedIn, IsSaid, IsOthers, NamesAnother, IsAccepted, SaysStill, Completes, Opens, Grows, Founds, IsWant, IsOpeningFault};
+ghost use Rattle.sb_log.specs.Rows.{last_in, floor_in, AreRowsOf, CanSay};
 ghost use Rattle.sb_log.specs.Standing.{HoldsContent, IsPrepared, IsReady};
+ghost use Rattle.sb_log.specs.Statements.{AfterAny, AfterReady, AfterRow, AfterSchema, Leaves, LeavesSame, StaysReady, KeepsDoubt, Makes};
 
+use crate::cause::{LogError, StoreCause};
 use crate::content::content_of;
 use crate::purging::drop_removals;
 use crate::rows::has_texts;
@@ -29,38 +27,30 @@ use sqlite::{Alter, Connection, Row};
 use sqlite_value::value::ValueRef;
 use std::alloc::Global;
 
-/// Opens a log's tables, and makes those that are missing: the content that they hold. In this order: `LogDamaged`
-/// where there is no meta row beside rows, a meta row without the table of writes, or an unknown form or schema;
-/// `WrongOwner`; `LogDamaged` where a row breaks a limit or has a text in form 1, or the last version or the floor is none
-/// that can be said. `StoreFailed` and `NoMemory` wherever they come.
+/// Opens a log's tables, makes those that are missing, and returns the content. `SqlLog::open` lists the faults in their order.
+/// Which damage is named is tested by a table of cases. It is not proved.
 pub(crate) fn open_tables<S: Alter>(
     conn: &mut Connection<S>,
     alloc: Global,
     owner: &Name,
     cluster: &Name,
-) -> Result<Table, Fault>
-    ensures opens { HasCleanDisk (state S.Store conn.new) → IfOk result (Opens owner.now cluster.now (state S.Store conn.old).now) }
-    ensures ready { HasCleanDisk (state S.Store conn.new) → OnOk result (IsReady (state S.Store conn.new)) }
-    ensures holds { HasCleanDisk (state S.Store conn.new)
-        → IfOk result (λ t. HoldsContent owner.now cluster.now t t.entries (state S.Store conn.new).now.trees) }
-    ensures still { HasCleanDisk (state S.Store conn.new)
-        → OnOk result (SaysStill owner.now cluster.now (state S.Store conn.old).now (state S.Store conn.new).now.trees) }
+) -> Result<Table, LogError>
+    ensures opens { AfterAny S.Store conn.old conn.new (λ old _. IfOk result (Opens owner.now cluster.now old.now)) }
+    ensures ready { AfterAny S.Store conn.old conn.new (λ _ new. OnOk result (IsReady new)) }
+    ensures holds { AfterAny S.Store conn.old conn.new (λ _ new. IfOk result (λ t. HoldsContent owner.now cluster.now t t.entries new.now.trees)) }
+    ensures still { AfterAny S.Store conn.old conn.new (λ old new. OnOk result (SaysStill owner.now cluster.now old.now new.now.trees)) }
     ensures table { IfOk result IsContent }
     ensures most { IfOk result (λ t. t.held ≤ VERSION_MOST) }
     // What is refused is refused again: at most the tables that were missing are made.
-    ensures refused { HasCleanDisk (state S.Store conn.new) → IfErr result (λ fault. fault ≢ Fault.StoreFailed
-        → ((state S.Store conn.new).now ≡ (state S.Store conn.old).now) ⊎ Completes (state S.Store conn.old).now (state S.Store conn.new).now) }
+    ensures refused { AfterAny S.Store conn.old conn.new (λ old new. OnRefusal result ((new.now ≡ old.now) ⊎ Completes old.now new.now)) }
     // However it ends, a crash loses nothing of what was found.
-    ensures crash { HasCleanDisk (state S.Store conn.new) → (db : Trees) → (state S.Store conn.new).may_leave db
-        → (state S.Store conn.old).may_leave db ⊎ Founds owner.now cluster.now (state S.Store conn.old).now db }
+    ensures crash { AfterAny S.Store conn.old conn.new (λ old new. Leaves old new (Founds owner.now cluster.now old.now)) }
     // A log that is whole and the owner's is not refused.
-    ensures whole { HasCleanDisk (state S.Store conn.new) → (t : records.Table) → Opens owner.now cluster.now (state S.Store conn.old).now t → IfErr result IsWant }
-    // It is called another's just where its row says so.
-    ensures others { HasCleanDisk (state S.Store conn.new)
-        → IfErr result (λ fault. fault ≡ Fault.WrongOwner → NamesAnother owner.now cluster.now (state S.Store conn.old).now) }
-    ensures theirs { HasCleanDisk (state S.Store conn.new) → NamesAnother owner.now cluster.now (state S.Store conn.old).now
-        → IfErr result (λ fault. (fault ≡ Fault.WrongOwner) ⊎ IsWant fault) }
-    ensures clean { doubt (state S.Store conn.old).is_clean ≤ doubt (state S.Store conn.new).is_clean }
+    ensures whole { AfterAny S.Store conn.old conn.new (λ old _. (t : records.Table) → Opens owner.now cluster.now old.now t → IfErr result IsWant) }
+    // It is called another's just if its row says so.
+    ensures others { AfterAny S.Store conn.old conn.new (λ old _. IfErr result (λ e. fault_of e ≡ Fault.WrongOwner → NamesAnother owner.now cluster.now old.now)) }
+    ensures theirs { AfterAny S.Store conn.old conn.new (λ old _. NamesAnother owner.now cluster.now old.now → IfErr result (λ e. (fault_of e ≡ Fault.WrongOwner) ⊎ IsWant e)) }
+    ensures clean { KeepsDoubt S.Store conn.old conn.new }
     ensures fault { IfErr result IsOpeningFault }
 {
     make_tables(conn)?;
@@ -68,77 +58,63 @@ pub(crate) fn open_tables<S: Alter>(
     match found.as_slice() {
         [] => open_new(conn, alloc, owner, cluster),
         [row] => open_old(conn, alloc, row, owner, cluster),
-        _ => Err(Fault::LogDamaged),
+        _ => Err(LogError::Fault(Fault::LogDamaged)),
     }
 }
 
-/// Opens tables that say nothing yet of their owner.
+/// Opens tables that do not say yet whose they are. `LogDamaged` if they have rows of writes.
 fn open_new<S: Alter>(
     conn: &mut Connection<S>,
     alloc: Global,
     owner: &Name,
     cluster: &Name,
-) -> Result<Table, Fault>
-    ensures rows { HasCleanDisk (state S.Store conn.new) → IsReady (state S.Store conn.old)
-        → IfOk result (λ t. AreRowsOf t ((state S.Store conn.old).now.trees 1)) }
+) -> Result<Table, LogError>
+    ensures rows { AfterReady S.Store conn.old conn.new (λ old _. IfOk result (λ t. AreRowsOf t (old.now.trees 1))) }
     ensures empty { IfOk result (λ t. t ≡ plain_table []) }
-    ensures ready { HasCleanDisk (state S.Store conn.new) → IsReady (state S.Store conn.old) → OnOk result (IsReady (state S.Store conn.new)) }
-    ensures same { HasCleanDisk (state S.Store conn.new) → IsReady (state S.Store conn.old)
-        → OnOk result ((state S.Store conn.new).now.trees 1 ≡ (state S.Store conn.old).now.trees 1) }
-    ensures meta { HasCleanDisk (state S.Store conn.new) → IsReady (state S.Store conn.old) → (state S.Store conn.old).now.trees 0 ≡ []
-        → OnOk result (IsNamedIn 2 owner.now cluster.now 0 0 ((state S.Store conn.new).now.trees 0)) }
-    ensures refused { HasCleanDisk (state S.Store conn.new) → IsReady (state S.Store conn.old)
-        → IfErr result (λ fault. fault ≢ Fault.StoreFailed → (state S.Store conn.new).now ≡ (state S.Store conn.old).now) }
-    ensures crash { HasCleanDisk (state S.Store conn.new) → IsReady (state S.Store conn.old) → (state S.Store conn.old).now.trees 0 ≡ []
-        → (db : Trees) → (state S.Store conn.new).may_leave db
-        → (state S.Store conn.old).may_leave db ⊎ (IsSound log_schema db × (db 1 ≡ (state S.Store conn.old).now.trees 1) × IsNamedIn 2 owner.now cluster.now 0 0 (db 0)) }
-    ensures whole { HasCleanDisk (state S.Store conn.new) → IsReady (state S.Store conn.old)
-        → (t : records.Table) → AreRowsOf t ((state S.Store conn.old).now.trees 1) → t ≡ plain_table [] → IfErr result IsWant }
-    ensures clean { doubt (state S.Store conn.old).is_clean ≤ doubt (state S.Store conn.new).is_clean }
-    ensures fault { IfErr result (λ fault. (fault ≡ Fault.NoMemory) ⊎ ((fault ≡ Fault.StoreFailed) ⊎ (fault ≡ Fault.LogDamaged))) }
+    ensures ready { AfterReady S.Store conn.old conn.new (λ _ new. OnOk result (IsReady new)) }
+    ensures same { AfterReady S.Store conn.old conn.new (λ old new. OnOk result (new.now.trees 1 ≡ old.now.trees 1)) }
+    ensures meta { AfterReady S.Store conn.old conn.new (λ old new. old.now.trees 0 ≡ [] → OnOk result (IsNamedIn 2 owner.now cluster.now 0 0 (new.now.trees 0))) }
+    ensures refused { AfterReady S.Store conn.old conn.new (λ old new. OnRefusal result (new.now ≡ old.now)) }
+    ensures crash { AfterReady S.Store conn.old conn.new (λ old new. old.now.trees 0 ≡ []
+        → Leaves old new (λ db. IsSound log_schema db × (db 1 ≡ old.now.trees 1) × IsNamedIn 2 owner.now cluster.now 0 0 (db 0))) }
+    ensures whole { AfterReady S.Store conn.old conn.new (λ old _. (t : records.Table) → AreRowsOf t (old.now.trees 1) → t ≡ plain_table [] → IfErr result IsWant) }
+    ensures clean { KeepsDoubt S.Store conn.old conn.new }
+    ensures fault { IfErr result IsReadingFault }
 {
     let table = read_table(conn, alloc)?;
     if !table.is_empty() {
-        return Err(Fault::LogDamaged);
+        return Err(LogError::Fault(Fault::LogDamaged));
     }
     // An empty table takes no memory.
     match write_meta(conn, owner, cluster) {
         Ok(()) => Ok(table),
-        Err(fault) => Err(fault),
+        Err(cause) => Err(LogError::Store(cause)),
     }
 }
 
-/// Opens tables that say whose they are, in this row: their form is 2 then, and no removal up to the floor has a row.
+/// Opens tables that say in this row whose they are. Then their form is 2, and no removal up to the floor has a row.
 fn open_old<S: Alter>(
     conn: &mut Connection<S>,
     alloc: Global,
     row: &Row,
     owner: &Name,
     cluster: &Name,
-) -> Result<Table, Fault>
-    ensures found { HasCleanDisk (state S.Store conn.new) → IsReady (state S.Store conn.old) → map meta_cells ((state S.Store conn.old).now.trees 0) ≡ row.now ∷ []
-        → IfOk result (λ t. (found : records.Table) × AreRowsOf found ((state S.Store conn.old).now.trees 1)
-        × IsSaid owner.now cluster.now found t ((state S.Store conn.old).now.trees 0)) }
+) -> Result<Table, LogError>
+    ensures found { AfterRow S.Store conn.old conn.new row.now (λ old _. IfOk result (λ t. (found : records.Table) × AreRowsOf found (old.now.trees 1)
+        × IsSaid owner.now cluster.now found t (old.now.trees 0))) }
     ensures table { IfOk result IsContent }
     ensures most { IfOk result (λ t. t.held ≤ VERSION_MOST) }
-    ensures ready { HasCleanDisk (state S.Store conn.new) → IsReady (state S.Store conn.old) → map meta_cells ((state S.Store conn.old).now.trees 0) ≡ row.now ∷ []
-        → OnOk result (IsReady (state S.Store conn.new)) }
-    ensures holds { HasCleanDisk (state S.Store conn.new) → IsReady (state S.Store conn.old) → map meta_cells ((state S.Store conn.old).now.trees 0) ≡ row.now ∷ []
-        → IfOk result (λ t. HoldsContent owner.now cluster.now t t.entries (state S.Store conn.new).now.trees) }
-    ensures still { HasCleanDisk (state S.Store conn.new) → IsReady (state S.Store conn.old) → map meta_cells ((state S.Store conn.old).now.trees 0) ≡ row.now ∷ []
-        → OnOk result (IsNamedIn 2 owner.now cluster.now (last_in ((state S.Store conn.old).now.trees 0)) (floor_in ((state S.Store conn.old).now.trees 0))
-        ((state S.Store conn.new).now.trees 0)) }
-    ensures refused { HasCleanDisk (state S.Store conn.new) → IsReady (state S.Store conn.old)
-        → IfErr result (λ fault. fault ≢ Fault.StoreFailed → (state S.Store conn.new).now ≡ (state S.Store conn.old).now) }
-    ensures crash { HasCleanDisk (state S.Store conn.new) → IsReady (state S.Store conn.old) → map meta_cells ((state S.Store conn.old).now.trees 0) ≡ row.now ∷ []
-        → (db : Trees) → (state S.Store conn.new).may_leave db → (state S.Store conn.old).may_leave db
-        ⊎ (IsRaised owner.now cluster.now ((state S.Store conn.old).now.trees 0) ((state S.Store conn.old).now.trees 1) db
-        ⊎ IsCleared owner.now cluster.now ((state S.Store conn.old).now.trees 0) ((state S.Store conn.old).now.trees 1) db) }
-    ensures whole { HasCleanDisk (state S.Store conn.new) → IsReady (state S.Store conn.old) → (form last floor : ℕ) → row.now ≡ meta_row form owner.now cluster.now last floor
-        → (t : records.Table) → IsFormOf form t → CanSay last floor t.entries → AreRowsOf t ((state S.Store conn.old).now.trees 1) → IfErr result IsWant }
-    ensures others { IfErr result (λ fault. fault ≡ Fault.WrongOwner → IsOthers owner.now cluster.now row.now) }
-    ensures theirs { length row.now ≡ 6 → IsOthers owner.now cluster.now row.now → result ≡ Err Fault.WrongOwner }
-    ensures clean { doubt (state S.Store conn.old).is_clean ≤ doubt (state S.Store conn.new).is_clean }
+    ensures ready { AfterRow S.Store conn.old conn.new row.now (λ _ new. OnOk result (IsReady new)) }
+    ensures holds { AfterRow S.Store conn.old conn.new row.now (λ _ new. IfOk result (λ t. HoldsContent owner.now cluster.now t t.entries new.now.trees)) }
+    ensures still { AfterRow S.Store conn.old conn.new row.now (λ old new. OnOk result
+        (IsNamedIn 2 owner.now cluster.now (last_in (old.now.trees 0)) (floor_in (old.now.trees 0)) (new.now.trees 0))) }
+    ensures refused { AfterReady S.Store conn.old conn.new (λ old new. OnRefusal result (new.now ≡ old.now)) }
+    ensures crash { AfterRow S.Store conn.old conn.new row.now (λ old new. Leaves old new (IsAccepted owner.now cluster.now (old.now.trees 0) (old.now.trees 1))) }
+    ensures whole { AfterReady S.Store conn.old conn.new (λ old _. (form last floor : ℕ) → row.now ≡ meta_row form owner.now cluster.now last floor
+        → (t : records.Table) → IsFormOf form t → CanSay last floor t.entries → AreRowsOf t (old.now.trees 1) → IfErr result IsWant) }
+    ensures others { IfErr result (λ e. fault_of e ≡ Fault.WrongOwner → IsOthers owner.now cluster.now row.now) }
+    ensures theirs { length row.now ≡ 6 → IsOthers owner.now cluster.now row.now → result ≡ Err (LogError.Fault Fault.WrongOwner) }
+    ensures clean { KeepsDoubt S.Store conn.old conn.new }
     ensures fault { IfErr result IsOpeningFault }
 {
     let meta = test_meta(row, owner, cluster)?;
@@ -147,36 +123,35 @@ fn open_old<S: Alter>(
     let table = content_of(found, meta.last, meta.floor)?;
     match accept_from(conn, meta.form, meta.floor, table.len() < rows) {
         Ok(()) => Ok(table),
-        Err(fault) => Err(fault),
+        Err(cause) => Err(LogError::Store(cause)),
     }
 }
 
-/// The table of the rows of a log of this form, removals up to its floor too. `LogDamaged` also where form 1 has a text.
-fn read_whole<S: Alter>(conn: &mut Connection<S>, alloc: Global, form: u64) -> Result<Table, Fault>
-    ensures rows { HasCleanDisk (state S.Store conn.new) → IsReady (state S.Store conn.old)
-        → IfOk result (λ t. AreRowsOf t ((state S.Store conn.old).now.trees 1)) }
+/// Reads the rows of a log of this form, removals up to its floor too. The faults of `read_table`; then `LogDamaged` if form 1 has
+/// a text.
+fn read_whole<S: Alter>(
+    conn: &mut Connection<S>,
+    alloc: Global,
+    form: u64,
+) -> Result<Table, LogError>
+    ensures rows { AfterReady S.Store conn.old conn.new (λ old _. IfOk result (λ t. AreRowsOf t (old.now.trees 1))) }
     ensures plain { IfOk result IsPlainTable }
     ensures most { IfOk result (λ t. t.held ≤ VERSION_MOST) }
-    ensures ready { HasCleanDisk (state S.Store conn.new) → IsReady (state S.Store conn.old)
-        → OnOk result (IsReady (state S.Store conn.new) × ((state S.Store conn.new).now ≡ (state S.Store conn.old).now)) }
+    ensures ready { AfterReady S.Store conn.old conn.new (λ old new. IsAnswer result → StaysReady old new) }
     ensures form { IsForm form → IfOk result (IsFormOf form) }
-    ensures refused { HasCleanDisk (state S.Store conn.new) → IsReady (state S.Store conn.old)
-        → IfErr result (λ fault. fault ≢ Fault.StoreFailed → (state S.Store conn.new).now ≡ (state S.Store conn.old).now) }
-    ensures crash { HasCleanDisk (state S.Store conn.new) → IsReady (state S.Store conn.old) → (db : Trees) → (state S.Store conn.new).may_leave db
-        → (state S.Store conn.old).may_leave db }
-    ensures whole { HasCleanDisk (state S.Store conn.new) → IsReady (state S.Store conn.old)
-        → (t : records.Table) → IsFormOf form t → AreRowsOf t ((state S.Store conn.old).now.trees 1) → IfErr result IsWant }
-    ensures clean { doubt (state S.Store conn.old).is_clean ≤ doubt (state S.Store conn.new).is_clean }
-    ensures fault { IfErr result (λ fault. (fault ≡ Fault.NoMemory) ⊎ ((fault ≡ Fault.StoreFailed) ⊎ (fault ≡ Fault.LogDamaged))) }
+    ensures crash { AfterReady S.Store conn.old conn.new LeavesSame }
+    ensures whole { AfterReady S.Store conn.old conn.new (λ old _. (t : records.Table) → IsFormOf form t → AreRowsOf t (old.now.trees 1) → IfErr result IsWant) }
+    ensures clean { KeepsDoubt S.Store conn.old conn.new }
+    ensures fault { IfErr result IsReadingFault }
 {
     let table = read_table(conn, alloc)?;
     if !is_form_of(form, &table) {
-        return Err(Fault::LogDamaged);
+        return Err(LogError::Fault(Fault::LogDamaged));
     }
     Ok(table)
 }
 
-/// Whether a log of this form, which is one that is read, has such entries: one of form 1 has no texts.
+/// Whether a log of this form can have such entries. Form 1 has no texts: no release wrote a text in form 1.
 fn is_form_of(form: u64, table: &Table) -> bool
     ensures is { IsTrue result → IsForm form → IsFormOf form table.now }
     ensures whole { IsFormOf form table.now → IsTrue result }
@@ -187,31 +162,24 @@ fn is_form_of(form: u64, table: &Table) -> bool
     !has_texts(table)
 }
 
-/// Brings a log of this form and this floor to form 2, and then, if there are any, takes out the rows of removals up to
-/// the floor. `StoreFailed`.
+/// Raises a log of this form and this floor to form 2. Then it deletes the rows of removals up to the floor, if there are any.
 fn accept_from<S: Alter>(
     conn: &mut Connection<S>,
     form: u64,
     floor: u64,
     has_dead: bool,
-) -> Result<(), Fault>
+) -> Result<(), StoreCause>
     requires { floor ≤ VERSION_MOST }
-    ensures ready { HasCleanDisk (state S.Store conn.new) → IsReady (state S.Store conn.old) → (last : ℕ) (owner cluster : List ℕ)
-        → IsNamedIn form owner cluster last floor ((state S.Store conn.old).now.trees 0) → OnOk result (IsReady (state S.Store conn.new)) }
-    ensures rows { HasCleanDisk (state S.Store conn.new) → IsReady (state S.Store conn.old) → (last : ℕ) (owner cluster : List ℕ)
-        → IsNamedIn form owner cluster last floor ((state S.Store conn.old).now.trees 0)
-        → (t : records.Table) → AreRowsOf t ((state S.Store conn.old).now.trees 1) → (has_dead ≡ false → live floor t.entries ≡ t.entries)
-        → OnOk result (AreRowsOf (plain_table (live floor t.entries)) ((state S.Store conn.new).now.trees 1)) }
-    ensures meta { HasCleanDisk (state S.Store conn.new) → IsReady (state S.Store conn.old) → IsForm form → (last : ℕ) (owner cluster : List ℕ)
-        → IsNamedIn form owner cluster last floor ((state S.Store conn.old).now.trees 0)
-        → OnOk result (IsNamedIn 2 owner cluster last floor ((state S.Store conn.new).now.trees 0)) }
-    ensures crash { HasCleanDisk (state S.Store conn.new) → IsReady (state S.Store conn.old) → IsForm form → (last : ℕ) (owner cluster : List ℕ)
-        → IsNamedIn form owner cluster last floor ((state S.Store conn.old).now.trees 0) → (db : Trees) → (state S.Store conn.new).may_leave db
-        → (state S.Store conn.old).may_leave db
-        ⊎ (IsRaised owner cluster ((state S.Store conn.old).now.trees 0) ((state S.Store conn.old).now.trees 1) db
-        ⊎ IsCleared owner cluster ((state S.Store conn.old).now.trees 0) ((state S.Store conn.old).now.trees 1) db) }
-    ensures clean { doubt (state S.Store conn.old).is_clean ≤ doubt (state S.Store conn.new).is_clean }
-    ensures fault { IfErr result (λ fault. fault ≡ Fault.StoreFailed) }
+    ensures ready { AfterReady S.Store conn.old conn.new (λ old new. (last : ℕ) (owner cluster : List ℕ) → IsNamedIn form owner cluster last floor (old.now.trees 0)
+        → OnOk result (IsReady new)) }
+    ensures rows { AfterReady S.Store conn.old conn.new (λ old new. (last : ℕ) (owner cluster : List ℕ) → IsNamedIn form owner cluster last floor (old.now.trees 0)
+        → (t : records.Table) → AreRowsOf t (old.now.trees 1) → (has_dead ≡ false → live floor t.entries ≡ t.entries)
+        → OnOk result (AreRowsOf (plain_table (live floor t.entries)) (new.now.trees 1))) }
+    ensures meta { AfterReady S.Store conn.old conn.new (λ old new. IsForm form → (last : ℕ) (owner cluster : List ℕ) → IsNamedIn form owner cluster last floor (old.now.trees 0)
+        → OnOk result (IsNamedIn 2 owner cluster last floor (new.now.trees 0))) }
+    ensures crash { AfterReady S.Store conn.old conn.new (λ old new. IsForm form → (last : ℕ) (owner cluster : List ℕ) → IsNamedIn form owner cluster last floor (old.now.trees 0)
+        → Leaves old new (IsAccepted owner cluster (old.now.trees 0) (old.now.trees 1))) }
+    ensures clean { KeepsDoubt S.Store conn.old conn.new }
 {
     raise_from(conn, form)?;
     if has_dead {
@@ -220,22 +188,17 @@ fn accept_from<S: Alter>(
     Ok(())
 }
 
-/// Raises the form of a log from this one to 2. `StoreFailed`, not of one that has it.
-fn raise_from<S: Alter>(conn: &mut Connection<S>, form: u64) -> Result<(), Fault>
-    ensures ready { HasCleanDisk (state S.Store conn.new) → IsReady (state S.Store conn.old) → (last floor : ℕ) (owner cluster : List ℕ)
-        → IsNamedIn form owner cluster last floor ((state S.Store conn.old).now.trees 0) → OnOk result (IsReady (state S.Store conn.new)) }
-    ensures rows { HasCleanDisk (state S.Store conn.new) → IsReady (state S.Store conn.old) → (last floor : ℕ) (owner cluster : List ℕ)
-        → IsNamedIn form owner cluster last floor ((state S.Store conn.old).now.trees 0)
-        → OnOk result ((state S.Store conn.new).now.trees 1 ≡ (state S.Store conn.old).now.trees 1) }
-    ensures meta { HasCleanDisk (state S.Store conn.new) → IsReady (state S.Store conn.old) → IsForm form → (last floor : ℕ) (owner cluster : List ℕ)
-        → IsNamedIn form owner cluster last floor ((state S.Store conn.old).now.trees 0)
-        → OnOk result (IsNamedIn 2 owner cluster last floor ((state S.Store conn.new).now.trees 0)) }
-    ensures crash { HasCleanDisk (state S.Store conn.new) → IsReady (state S.Store conn.old) → (last floor : ℕ) (owner cluster : List ℕ)
-        → IsNamedIn form owner cluster last floor ((state S.Store conn.old).now.trees 0) → (db : Trees) → (state S.Store conn.new).may_leave db
-        → (state S.Store conn.old).may_leave db
-        ⊎ ((form ≡ 1) × IsSound log_schema db × (db 1 ≡ (state S.Store conn.old).now.trees 1) × IsNamedIn 2 owner cluster last floor (db 0)) }
-    ensures clean { doubt (state S.Store conn.old).is_clean ≤ doubt (state S.Store conn.new).is_clean }
-    ensures fault { IfErr result (λ fault. fault ≡ Fault.StoreFailed) }
+/// Raises the form of a log from this one to 2. It does nothing if the form is 2.
+fn raise_from<S: Alter>(conn: &mut Connection<S>, form: u64) -> Result<(), StoreCause>
+    ensures ready { AfterReady S.Store conn.old conn.new (λ old new. (last floor : ℕ) (owner cluster : List ℕ) → IsNamedIn form owner cluster last floor (old.now.trees 0)
+        → OnOk result (IsReady new)) }
+    ensures rows { AfterReady S.Store conn.old conn.new (λ old new. (last floor : ℕ) (owner cluster : List ℕ) → IsNamedIn form owner cluster last floor (old.now.trees 0)
+        → OnOk result (new.now.trees 1 ≡ old.now.trees 1)) }
+    ensures meta { AfterReady S.Store conn.old conn.new (λ old new. IsForm form → (last floor : ℕ) (owner cluster : List ℕ) → IsNamedIn form owner cluster last floor (old.now.trees 0)
+        → OnOk result (IsNamedIn 2 owner cluster last floor (new.now.trees 0))) }
+    ensures crash { AfterReady S.Store conn.old conn.new (λ old new. (last floor : ℕ) (owner cluster : List ℕ) → IsNamedIn form owner cluster last floor (old.now.trees 0)
+        → Leaves old new (λ db. (form ≡ 1) × IsSound log_schema db × (db 1 ≡ old.now.trees 1) × IsNamedIn 2 owner cluster last floor (db 0))) }
+    ensures clean { KeepsDoubt S.Store conn.old conn.new }
 {
     if form == 1 {
         return raise_form(conn);
@@ -243,85 +206,60 @@ fn raise_from<S: Alter>(conn: &mut Connection<S>, form: u64) -> Result<(), Fault
     Ok(())
 }
 
-/// Makes those of a log's tables that are missing. `StoreFailed`, also inside a transaction; `LogDamaged` where
-/// there is anything else, or a row that says whose the log is without the table of writes.
-fn make_tables<S: Alter>(conn: &mut Connection<S>) -> Result<(), Fault>
-    ensures completes { HasCleanDisk (state S.Store conn.new) → OnOk result (Completes (state S.Store conn.old).now (state S.Store conn.new).now) }
-    ensures prepared { HasCleanDisk (state S.Store conn.new) → OnOk result (IsPrepared (state S.Store conn.new)) }
-    ensures refused { HasCleanDisk (state S.Store conn.new)
-        → IfErr result (λ fault. fault ≢ Fault.StoreFailed → (state S.Store conn.new).now ≡ (state S.Store conn.old).now) }
-    ensures crash { HasCleanDisk (state S.Store conn.new) → (db : Trees) → (state S.Store conn.new).may_leave db
-        → (state S.Store conn.old).may_leave db ⊎ Grows (state S.Store conn.old).now db }
-    ensures whole { HasCleanDisk (state S.Store conn.new) → (made : Made) → (state S.Store conn.old).now.schema ≡ schema_with made
-        → (made ≡ Made.Meta → meta_found made (state S.Store conn.old).now.trees ≡ []) → IfErr result (λ fault. fault ≡ Fault.StoreFailed) }
-    ensures clean { doubt (state S.Store conn.old).is_clean ≤ doubt (state S.Store conn.new).is_clean }
-    ensures fault { IfErr result (λ fault. (fault ≡ Fault.StoreFailed) ⊎ (fault ≡ Fault.LogDamaged)) }
+/// Makes those of a log's tables that are missing. The faults, in this order:
+///
+/// - The store fails inside a transaction.
+/// - `LogDamaged` if there is anything else, or if only the table of writes is missing and the other one has a row.
+/// - The store fails.
+fn make_tables<S: Alter>(conn: &mut Connection<S>) -> Result<(), LogError>
+    ensures completes { AfterAny S.Store conn.old conn.new (λ old new. OnOk result (Completes old.now new.now)) }
+    ensures prepared { AfterAny S.Store conn.old conn.new (λ _ new. OnOk result (IsPrepared new)) }
+    ensures refused { AfterAny S.Store conn.old conn.new (λ old new. OnRefusal result (new.now ≡ old.now)) }
+    ensures crash { AfterAny S.Store conn.old conn.new (λ old new. Leaves old new (Grows old.now)) }
+    ensures whole { AfterAny S.Store conn.old conn.new (λ old _. (made : Made) → old.now.schema ≡ schema_with made
+        → (made ≡ Made.Meta → meta_found made old.now.trees ≡ []) → IfErr result IsStoreError) }
+    ensures clean { KeepsDoubt S.Store conn.old conn.new }
+    ensures fault { IfErr result IsMakingFault }
 {
     if !conn.is_autocommit() {
-        return Err(Fault::StoreFailed);
+        return Err(LogError::Store(StoreCause::Other));
     }
     match tables_in(conn.schema()) {
-        None => Err(Fault::LogDamaged),
+        None => Err(LogError::Fault(Fault::LogDamaged)),
         Some(Made::Both) => Ok(()),
         Some(Made::Meta) => make_second(conn),
-        Some(Made::Neither) => make_both(conn),
+        Some(Made::Neither) => Ok(make_both(conn)?),
     }
 }
 
-/// Makes the table of writes beside the first, which says nothing yet. `StoreFailed`; `LogDamaged` where it says whose
-/// the log is, which has lost its writes then: nothing is made, so that it is told again.
-fn make_second<S: Alter>(conn: &mut Connection<S>) -> Result<(), Fault>
-    ensures schema { HasCleanDisk (state S.Store conn.new) → (state S.Store conn.old).now.schema ≡ meta_schema
-        → OnOk result ((state S.Store conn.new).now.schema ≡ log_schema) }
-    ensures said { HasCleanDisk (state S.Store conn.new) → (state S.Store conn.old).now.schema ≡ meta_schema
-        → OnOk result ((state S.Store conn.old).now.trees 0 ≡ []) }
-    ensures meta { HasCleanDisk (state S.Store conn.new) → (state S.Store conn.old).now.schema ≡ meta_schema
-        → OnOk result ((state S.Store conn.new).now.trees 0 ≡ (state S.Store conn.old).now.trees 0) }
-    ensures rows { HasCleanDisk (state S.Store conn.new) → (state S.Store conn.old).now.schema ≡ meta_schema
-        → OnOk result ((state S.Store conn.new).now.trees 1 ≡ []) }
-    ensures settled { HasCleanDisk (state S.Store conn.new) → (state S.Store conn.old).now.schema ≡ meta_schema
-        → (state S.Store conn.old).in_transaction ≡ false
-        → OnOk result (((state S.Store conn.new).in_transaction ≡ false) × ((state S.Store conn.new).now ≡ (state S.Store conn.new).committed)) }
-    ensures refused { HasCleanDisk (state S.Store conn.new) → (state S.Store conn.old).now.schema ≡ meta_schema
-        → IfErr result (λ fault. fault ≢ Fault.StoreFailed → (state S.Store conn.new).now ≡ (state S.Store conn.old).now) }
-    ensures sound { HasCleanDisk (state S.Store conn.new) → (state S.Store conn.old).now.schema ≡ meta_schema
-        → OnOk result (IsDatabase (state S.Store conn.new).now) }
-    ensures crash { HasCleanDisk (state S.Store conn.new) → (state S.Store conn.old).now.schema ≡ meta_schema → (db : Trees) → (state S.Store conn.new).may_leave db
-        → (state S.Store conn.old).may_leave db ⊎ (IsSound log_schema db × (db 0 ≡ (state S.Store conn.old).now.trees 0) × (db 1 ≡ [])) }
-    ensures whole { HasCleanDisk (state S.Store conn.new) → (state S.Store conn.old).now.schema ≡ meta_schema → (state S.Store conn.old).now.trees 0 ≡ []
-        → IfErr result (λ fault. fault ≡ Fault.StoreFailed) }
-    ensures clean { doubt (state S.Store conn.old).is_clean ≤ doubt (state S.Store conn.new).is_clean }
-    ensures fault { IfErr result (λ fault. (fault ≡ Fault.StoreFailed) ⊎ (fault ≡ Fault.LogDamaged)) }
+/// Makes the table of writes beside the first, which does not say yet whose the log is. `LogDamaged` if it does: then the log has
+/// lost its writes. Nothing is made in that case, so the next opening reports it again.
+fn make_second<S: Alter>(conn: &mut Connection<S>) -> Result<(), LogError>
+    ensures makes { Makes S.Store conn.old conn.new meta_schema log_schema result (λ old new. (old 0 ≡ []) × (new 0 ≡ old 0) × (new 1 ≡ [])) }
+    ensures refused { AfterSchema S.Store conn.old conn.new meta_schema (λ old new. OnRefusal result (new.now ≡ old.now)) }
+    ensures crash { AfterSchema S.Store conn.old conn.new meta_schema (λ old new. Leaves old new (λ db. IsSound log_schema db × (db 0 ≡ old.now.trees 0) × (db 1 ≡ []))) }
+    ensures whole { AfterSchema S.Store conn.old conn.new meta_schema (λ old _. old.now.trees 0 ≡ [] → IfErr result IsStoreError) }
+    ensures clean { KeepsDoubt S.Store conn.old conn.new }
+    ensures fault { IfErr result IsMakingFault }
 {
     let found = read_meta(conn)?;
     if !found.is_empty() {
-        return Err(Fault::LogDamaged);
+        return Err(LogError::Fault(Fault::LogDamaged));
     }
-    make_writes(conn)
+    Ok(make_writes(conn)?)
 }
 
-fn make_both<S: Alter>(conn: &mut Connection<S>) -> Result<(), Fault>
-    ensures schema { HasCleanDisk (state S.Store conn.new) → (state S.Store conn.old).now.schema ≡ no_schema
-        → OnOk result ((state S.Store conn.new).now.schema ≡ log_schema) }
-    ensures meta { HasCleanDisk (state S.Store conn.new) → (state S.Store conn.old).now.schema ≡ no_schema
-        → OnOk result ((state S.Store conn.new).now.trees 0 ≡ []) }
-    ensures rows { HasCleanDisk (state S.Store conn.new) → (state S.Store conn.old).now.schema ≡ no_schema
-        → OnOk result ((state S.Store conn.new).now.trees 1 ≡ []) }
-    ensures settled { HasCleanDisk (state S.Store conn.new) → (state S.Store conn.old).now.schema ≡ no_schema
-        → (state S.Store conn.old).in_transaction ≡ false
-        → OnOk result (((state S.Store conn.new).in_transaction ≡ false) × ((state S.Store conn.new).now ≡ (state S.Store conn.new).committed)) }
-    ensures sound { HasCleanDisk (state S.Store conn.new) → (state S.Store conn.old).now.schema ≡ no_schema
-        → OnOk result (IsDatabase (state S.Store conn.new).now) }
-    ensures crash { HasCleanDisk (state S.Store conn.new) → (state S.Store conn.old).now.schema ≡ no_schema → (db : Trees) → (state S.Store conn.new).may_leave db
-        → (state S.Store conn.old).may_leave db ⊎ ((IsSound meta_schema db × (db 0 ≡ [])) ⊎ (IsSound log_schema db × (db 0 ≡ []) × (db 1 ≡ []))) }
-    ensures clean { doubt (state S.Store conn.old).is_clean ≤ doubt (state S.Store conn.new).is_clean }
-    ensures fault { IfErr result (λ fault. fault ≡ Fault.StoreFailed) }
+fn make_both<S: Alter>(conn: &mut Connection<S>) -> Result<(), StoreCause>
+    ensures makes { Makes S.Store conn.old conn.new no_schema log_schema result (λ _ new. (new 0 ≡ []) × (new 1 ≡ [])) }
+    ensures crash { AfterSchema S.Store conn.old conn.new no_schema (λ old new. Leaves old new (λ db. (IsSound meta_schema db × (db 0 ≡ []))
+        ⊎ (IsSound log_schema db × (db 0 ≡ []) × (db 1 ≡ [])))) }
+    ensures clean { KeepsDoubt S.Store conn.old conn.new }
 {
     make_meta(conn)?;
     make_writes(conn)
 }
 
-/// What the row that says whose a log is says beside it.
+/// What the row that says whose a log is says besides.
 #[derive(Clone, Copy)]
 struct Meta {
     form: u64,
@@ -329,8 +267,11 @@ struct Meta {
     floor: u64,
 }
 
-/// Tests the row that says whose log it is. `LogDamaged` where its number is not 1 or its form is unknown; `WrongOwner`
-/// of another owner or cluster; `LogDamaged` where its last version or its floor is no number.
+/// Tests the row that says whose the log is. The faults, in this order:
+///
+/// - `LogDamaged` if its number is not 1, or if its form is unknown.
+/// - `WrongOwner` if it names another owner or cluster.
+/// - `LogDamaged` if its last version or its floor is no number.
 #[tactic(auto, using(crate::proofs::Cells::of_six))]
 fn test_meta(row: &Row, owner: &Name, cluster: &Name) -> Result<Meta, Fault>
     ensures row { IfOk result (λ meta. row.now ≡ meta_row meta.form owner.now cluster.now meta.last meta.floor) }
@@ -362,7 +303,7 @@ fn test_meta(row: &Row, owner: &Name, cluster: &Name) -> Result<Meta, Fault>
     Ok(Meta { form, last, floor })
 }
 
-/// The form that a row numbered 1 says, where it is one that is read.
+/// The form that a row numbered 1 says, if it is a form that is read.
 fn form_of(row: &Row) -> Option<u64>
     ensures is { IfSome result (λ form. IsForm form × (column row.now 0 ≡ Int (pos 1)) × (column row.now 1 ≡ Int (pos form))) }
     ensures whole { (form : ℕ) → IsForm form → column row.now 0 ≡ Int (pos 1) → column row.now 1 ≡ Int (pos form) → result ≡ Some form }
@@ -374,7 +315,7 @@ fn form_of(row: &Row) -> Option<u64>
     }
 }
 
-/// The number that a column has, which is not below 0.
+/// The number in a column, if it is not below 0.
 fn number_in(row: &Row, at: usize) -> Option<u64>
     ensures is { IfSome result (λ number. column row.now at ≡ Int (pos number)) }
     ensures whole { (number : ℕ) → column row.now at ≡ Int (pos number) → result ≡ Some number }

@@ -3,6 +3,7 @@ ghost use Rattle.std.specs.Prelude.{◌≡◌, ◌≤◌, Ok, true};
 ghost use Rattle.sb_types.specs.Records as records;
 ghost use Rattle.sb_log.specs.Puts as spec;
 
+use crate::cause::StoreCause;
 use crate::check::accept;
 use crate::committed::Committed;
 use crate::log::WriteLog;
@@ -11,8 +12,8 @@ use sb_types::{Fault, Key, Name, Slot};
 use std::alloc::Global;
 use std::marker::Model;
 
-/// A log in memory, which ends with the process. It has no store that could fail: beside what a log refuses, only memory
-/// may be wanting.
+/// A log in memory, which ends with the process. It has no store that could fail. It keeps a table, so that it tests a write by a
+/// search, and `load` copies the table. Besides what a log refuses, it reports only `NoMemory`.
 #[derive(Debug, Drop)]
 pub struct PlainLog {
     owner: Name,
@@ -50,11 +51,13 @@ impl PlainLog {
 }
 
 impl WriteLog for PlainLog {
-    ghost use Rattle.std.specs.Prelude.{◌≡◌};
+    ghost use Rattle.std.specs.Prelude.{◌≡◌, None};
 
     ghost seen = { λ l. l };
 
     ghost leaves = { λ l left. left ≡ l.content };
+
+    ghost why = { λ _. None };
 
     fn owner(&self) -> &Name {
         &self.owner
@@ -62,6 +65,12 @@ impl WriteLog for PlainLog {
 
     fn cluster(&self) -> &Name {
         &self.cluster
+    }
+
+    fn cause(&self) -> Option<StoreCause> {
+        // Does nothing: it shows the prover that the log is open.
+        let _ = self.table.upto();
+        None
     }
 
     fn put(&mut self, key: &Key, slot: &Slot) -> Result<Committed, Fault> {

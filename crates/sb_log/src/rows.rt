@@ -59,7 +59,7 @@ fn slot_cells(slot: &Slot) -> (ValueRef<'_>, ValueRef<'_>, ValueRef<'_>)
     }
 }
 
-/// The entry that a row of an answer holds behind its rowid, where it breaks no limit. `NoMemory`.
+/// The entry that a row of an answer holds after its rowid; none if it breaks a limit. `NoMemory`.
 #[tactic(auto, using(crate::proofs::Cells::six_cells, crate::proofs::Cells::behind_first))]
 fn entry_in(alloc: Global, row: &Row) -> Result<Option<Entry>, Fault>
     ensures entry { IfOk result (λ found. IfSome found (λ e. (cells_of e ≡ drop 1 row.now) × (is_kept e ≡ true))) }
@@ -85,7 +85,7 @@ fn entry_in(alloc: Global, row: &Row) -> Result<Option<Entry>, Fault>
     entry_of(alloc, key, version, (tag, number, text))
 }
 
-/// The entry of these cells, where they break no limit. `NoMemory`.
+/// The entry of these cells; none if they break a limit. `NoMemory`.
 #[tactic(auto, using(crate::proofs::Cells::entry_cells, crate::proofs::Cells::entry_kept))]
 fn entry_of(
     alloc: Global,
@@ -118,7 +118,7 @@ fn entry_of(
     }
 }
 
-/// The slot of these cells, where they keep the rule of their tag. `NoMemory`.
+/// The slot of these cells; none if they break the rule of their tag. `NoMemory`.
 fn slot_in(
     alloc: Global,
     tag: ValueRef<'_>,
@@ -156,8 +156,8 @@ fn slot_in(
     }
 }
 
-/// The table of the entries that these rows hold, which come by version. `LogDamaged` where a row breaks a limit,
-/// two have one rowid, one key or one version, or they are too many; `NoMemory`.
+/// The table of the entries that these rows hold. The rows come by version. `LogDamaged` if a row breaks a limit, if two rows
+/// have one rowid, key or version, or if there are too many; `NoMemory`.
 pub(crate) fn table_of(alloc: Global, rows: &[Row]) -> Result<Table, Fault>
     ensures plain { IfOk result IsPlainTable }
     ensures rows { IfOk result (λ t. map cells_of t.entries ≡ map (drop 1) rows.now) }
@@ -181,7 +181,7 @@ pub(crate) fn table_of(alloc: Global, rows: &[Row]) -> Result<Table, Fault>
     Ok(table)
 }
 
-/// Whether each row begins with its rowid, and no rowid stands twice. `NoMemory`.
+/// Whether each row begins with its rowid, and no two have the same. `NoMemory`.
 fn are_numbered_apart(alloc: Global, rows: &[Row]) -> Result<bool, Fault>
     ensures apart { IfOk result (λ apart. IsTrue apart → AreNumberedApart rows.now) }
     ensures whole { IfOk result (λ apart. AreNumbered rows.now → AreNumberedApart rows.now → IsTrue apart) }
@@ -234,7 +234,7 @@ fn sets_text(slot: &Slot) -> bool
     }
 }
 
-/// Enters an entry of a new key and a later version. `LogDamaged` where it is none, or there is no room; `NoMemory`.
+/// Enters an entry of a new key and a later version. `LogDamaged` for any other entry, or if there is no room; `NoMemory`.
 #[tactic(auto, using(crate::proofs::Cells::not_found, crate::proofs::Cells::added, crate::proofs::Whole::none_there))]
 fn add(table: &mut Table, entry: Entry) -> Result<(), Fault>
     ensures added { OnOk result (table.new.entries ≡ table.old.entries ++ entry ∷ []) }

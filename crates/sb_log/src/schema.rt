@@ -16,7 +16,7 @@ pub(crate) enum Made {
     Both,
 }
 
-/// Which tables there are, where there is nothing else.
+/// Which tables there are; none if there is anything else.
 pub(crate) fn tables_in(schema: &Schema) -> Option<Made>
     ensures is { IfSome result (λ made. schema.now ≡ form.schema_with made) }
     ensures whole { (made : Made) → schema.now ≡ form.schema_with made → result ≡ Some made }

@@ -25,7 +25,7 @@ fn put_in_database<S: Alter + Drop>(alloc: Global, conn: Connection<S>) -> Resul
     let (owner, cluster) = (Name::read(b"a")?, Name::read(b"c1")?);
     let mut log = match SqlLog::open(alloc, conn, owner, cluster, VERSION_MOST) {
         Ok(log) => log,
-        Err((fault, _)) => return Err(fault),
+        Err((error, _)) => return Err(error.fault()),
     };
     let committed = log.put(&Key::read(b"web/up")?, &Slot::Set(Value::flag(true)))?;
     let version = committed.entry().version();

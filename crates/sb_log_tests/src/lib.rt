@@ -5,6 +5,8 @@
 #[cfg(test)]
 mod begins;
 #[cfg(test)]
+mod causes;
+#[cfg(test)]
 mod crashes;
 #[cfg(test)]
 mod database;

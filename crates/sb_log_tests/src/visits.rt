@@ -102,7 +102,7 @@ fn open<S: Alter + Drop, V: LogVisit + Drop>(
     let owner = name(rt, opening.owner);
     match SqlLog::open(alloc, conn, owner, name(rt, CLUSTER), opening.max_version) {
         Ok(log) => begin_and_visit(rt, alloc, log, opening.begin, visitor),
-        Err((fault, _)) => Err(fault),
+        Err((error, _)) => Err(error.fault()),
     }
 }
 

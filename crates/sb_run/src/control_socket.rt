@@ -13,7 +13,7 @@ use crate::rounds::RoundsTag;
 use crate::timed::Timed;
 use sb_directory::ReaderSeat;
 use sb_frames::{Connection, Steps};
-use sb_log::WriteLog;
+use sb_log::{StoreCause, WriteLog};
 use sb_types::Fault;
 use std::marker::Brand;
 use std::net::Net;
@@ -101,8 +101,10 @@ impl<S: RoundsTag, H: Wait + Drop, Q> NodeContext<'_, S, H, Q> {
         if !writes.take_failure() {
             return false;
         }
-        self.counts.fail_log();
-        observer.log_failed();
+        // A log that failed is closed, so it has a cause.
+        let cause = writes.cause().unwrap_or(StoreCause::Other);
+        self.counts.fail_log(cause);
+        observer.log_failed(cause);
         match self.pace.on_log_fault {
             OnLogFault::Exit => true,
             OnLogFault::Serve => false,

@@ -1,12 +1,14 @@
 //! What the threads of a running node count for whoever looks at it.
 
-use std::sync::atomic::{AtomicBool, AtomicU64, Ordering};
+use sb_log::StoreCause;
+use std::sync::atomic::{AtomicU64, Ordering};
 
 /// What is counted of a node since it started.
 #[derive(Drop)]
 pub(crate) struct Counts {
     sessions: AtomicU64,
-    has_log_failed: AtomicBool,
+    /// The number of the cause by which the store of the log failed, 0 if it did not.
+    log_cause: AtomicU64,
 }
 
 impl Counts {
@@ -14,7 +16,7 @@ impl Counts {
     pub(crate) fn new() -> Counts {
         Counts {
             sessions: AtomicU64::new(0),
-            has_log_failed: AtomicBool::new(false),
+            log_cause: AtomicU64::new(0),
         }
     }
 
@@ -28,13 +30,13 @@ impl Counts {
         self.sessions.load(Ordering::SeqCst)
     }
 
-    /// A fault of its store has closed the log.
-    pub(crate) fn fail_log(&self) {
-        self.has_log_failed.store(true, Ordering::SeqCst);
+    /// The store of the log failed, by this cause, and the log is closed.
+    pub(crate) fn fail_log(&self, cause: StoreCause) {
+        self.log_cause.store(cause.number(), Ordering::SeqCst);
     }
 
-    /// Whether the log takes writes.
-    pub(crate) fn is_log_open(&self) -> bool {
-        !self.has_log_failed.load(Ordering::SeqCst)
+    /// Why the log is closed; none if it is open.
+    pub(crate) fn log_cause(&self) -> Option<StoreCause> {
+        StoreCause::from_number(self.log_cause.load(Ordering::SeqCst))
     }
 }

@@ -163,7 +163,7 @@ impl<'a, O: Observer> Dialer<'a, O> {
                     faults: self.faults,
                     sessions: node.counts.sessions(),
                     keys,
-                    is_log_open: node.counts.is_log_open(),
+                    log_cause: node.counts.log_cause(),
                     conflict,
                     snapshot: entered.snapshot(),
                     peers: self.peers.all(),

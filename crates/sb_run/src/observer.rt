@@ -1,6 +1,7 @@
 //! The observer of a running node.
 
 use crate::status::Status;
+use sb_log::StoreCause;
 use sb_session::Ended;
 use sb_types::Fault;
 
@@ -54,8 +55,9 @@ pub trait Observer {
     /// Another node writes under this node's name, of which this version was seen. It is told once, behind a round.
     fn conflict(&self, version: u64);
 
-    /// A fault of its store closed the node's own log behind a write, which stands or does not. It is told once.
-    fn log_failed(&self) {}
+    /// The store of the node's own log failed at a write, by this cause, and the log is closed. The log has the write or has it
+    /// not. It is told once.
+    fn log_failed(&self, _cause: StoreCause) {}
 
     /// Whether it wants to know how the node is.
     fn wants_status(&self) -> bool {

@@ -7,7 +7,7 @@ ghost use Rattle.sb_directory.specs.Serving.{IsLater};
 ghost use Rattle.sb_run.specs.OwnWriting.{IsUndisputed, version_of, count_owed, count_shared, news_after, IsHeldBack, IsHandedIn, IsStored, IsRefused};
 
 use sb_directory::{Directory, DirectoryTag, ReaderSeat, Receipt};
-use sb_log::{Committed, WriteLog};
+use sb_log::{Committed, StoreCause, WriteLog};
 use sb_types::{Fault, Key, Slot};
 use std::sync::Wait;
 
@@ -74,6 +74,13 @@ impl<L: WriteLog> OwnWrites<L> {
         let has_failed = self.has_failed;
         self.has_failed = false;
         has_failed
+    }
+
+    /// Why the log is closed; none if it is open.
+    pub(crate) fn cause(&self) -> Option<StoreCause>
+        ensures { result ≡ L.why self.now.log }
+    {
+        self.log.cause()
     }
 
     /// Puts a write into the log, and takes down whether that took it.

@@ -1,6 +1,7 @@
 //! How a running node is.
 
 use crate::peers::Peer;
+use sb_log::StoreCause;
 use sb_views::Snapshot;
 
 /// How a running node is, as the thread that dials finds it.
@@ -14,8 +15,8 @@ pub struct Status<'a> {
     pub sessions: u64,
     /// How many keys its own table has, removed ones counted.
     pub keys: usize,
-    /// Whether its log takes writes.
-    pub is_log_open: bool,
+    /// Why its log takes no writes; none if it takes them.
+    pub log_cause: Option<StoreCause>,
     /// The version under its name that another node wrote; none where no such was seen.
     pub conflict: Option<u64>,
     /// What the dialing thread's seat sees of it.

@@ -66,7 +66,7 @@ fn counts_of(status: &Status<'_>) -> Counted {
         faults: status.faults,
         sessions: status.sessions,
         keys: status.keys,
-        is_log_open: status.is_log_open,
+        is_log_open: status.log_cause.is_none(),
         conflict: status.conflict,
     }
 }

@@ -4,7 +4,7 @@ ghost use Rattle.sb_table.specs.Plain.{plain_table};
 
 use crate::world::settings;
 use crate::{got, name, same};
-use sb_log::{Committed, WriteLog};
+use sb_log::{Committed, StoreCause, WriteLog};
 use sb_table::Table;
 use sb_types::{Fault, Key, Name, Slot};
 use sb_world::World;
@@ -31,11 +31,14 @@ impl Model for Damaged {
 }
 
 impl WriteLog for Damaged {
-    ghost use Rattle.std.specs.Prelude.{◌≡◌};
+    ghost use Rattle.std.specs.Prelude.{◌≡◌, if◌then◌else◌, Some, None};
+    ghost use Rattle.sb_log.specs.declared.cause.StoreCause.TheVariants.{Damaged};
 
     ghost seen = { λ l. l };
 
     ghost leaves = { λ l left. left ≡ l.content };
+
+    ghost why = { λ l. if l.is_open then None else Some Damaged };
 
     fn owner(&self) -> &Name {
         &self.owner
@@ -43,6 +46,13 @@ impl WriteLog for Damaged {
 
     fn cluster(&self) -> &Name {
         &self.cluster
+    }
+
+    fn cause(&self) -> Option<StoreCause> {
+        if self.is_open {
+            return None;
+        }
+        Some(StoreCause::Damaged)
     }
 
     fn put(&mut self, _key: &Key, _slot: &Slot) -> Result<Committed, Fault> {

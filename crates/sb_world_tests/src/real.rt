@@ -19,7 +19,7 @@ fn log<S: Alter + Drop>(
 ) -> Result<SqlLog<S>, Fault> {
     match SqlLog::open(alloc, conn, name(rt, owner), name(rt, b"sim"), 2) {
         Ok(log) => Ok(log),
-        Err((fault, _)) => Err(fault),
+        Err((error, _)) => Err(error.fault()),
     }
 }
 

@@ -26,7 +26,7 @@ returns-in-Ok-clause-holds g c clean ready one =
     let found = c.in_ok-found.found in
     let mid = state g.S.Store c.read_whole.new.conn in
     let clean1 : HasCleanDisk mid = was_clean _ _ clean c.accept_from.ensures.clean in
-    let ready1 = c.in_ok-found.ensures.ready clean1 ready in
+    let ready1 = c.in_ok-found.ensures.ready clean1 ready tt in
     let named = ap (λ (d : Database). map meta_cells (d.trees 0)) ready1.1 ∙ one ∙ ap (λ (r : Row). r ∷ []) c.in_ok-meta.ensures.row in
     let t = c.in_ok-table.table in
     let are = subst (λ (d : Database). AreRowsOf found (d.trees 1)) (sym ready1.1) (c.in_ok-found.ensures.rows clean1 ready) in
@@ -42,7 +42,7 @@ returns-in-Ok-clause-crash g c clean ready one db left =
     let found = c.in_ok-found.found in
     let mid = state g.S.Store c.read_whole.new.conn in
     let clean1 : HasCleanDisk mid = was_clean _ _ clean c.accept_from.ensures.clean in
-    let ready1 = c.in_ok-found.ensures.ready clean1 ready in
+    let ready1 = c.in_ok-found.ensures.ready clean1 ready tt in
     let named = ap (λ (d : Database). map meta_cells (d.trees 0)) ready1.1 ∙ one ∙ ap (λ (r : Row). r ∷ []) c.in_ok-meta.ensures.row in
     elim (c.in-Ok.ensures.crash clean ready1.0 c.in_ok-meta.ensures.form m.last c.args.owner.now c.args.cluster.now named db left) [
       | inl was ↦ inl (c.read_whole.ensures.crash clean1 ready db was)
@@ -55,7 +55,7 @@ returns-in-Err-clause-crash g c clean ready one db left =
     let found = c.in_ok-found.found in
     let mid = state g.S.Store c.read_whole.new.conn in
     let clean1 : HasCleanDisk mid = was_clean _ _ clean c.accept_from.ensures.clean in
-    let ready1 = c.in_ok-found.ensures.ready clean1 ready in
+    let ready1 = c.in_ok-found.ensures.ready clean1 ready tt in
     let named = ap (λ (d : Database). map meta_cells (d.trees 0)) ready1.1 ∙ one ∙ ap (λ (r : Row). r ∷ []) c.in_ok-meta.ensures.row in
     elim (c.in-Err.ensures.crash clean ready1.0 c.in_ok-meta.ensures.form m.last c.args.owner.now c.args.cluster.now named db left) [
       | inl was ↦ inl (c.read_whole.ensures.crash clean1 ready db was)

@@ -1,11 +1,11 @@
-use Rattle.std.proofs.Common.{map, inl, inr, sym, ap, ◌∙◌}
+use Rattle.std.proofs.Common.{map, inl, inr, refl, sym, ap, subst, ◌∙◌}
 use Rattle.std.proofs.lemmas.Result.{err_from_is_err_and}
 use Rattle.sqlite.specs.Effect.{Database}
 use Rattle.sqlite.specs.Held.{state}
 use Rattle.sqlite.specs.State.{HasCleanDisk}
-use Rattle.sb_log.specs.Opening.{meta_cells}
+use Rattle.sb_log.specs.Opening.{meta_cells, Completes}
 use Rattle.sb_log.specs.declared.schema.Made.TheVariants.{Both}
-use Rattle.sb_log.proofs.Founding.{was_clean, no_item, one_item, none_mapped, one_mapped, opens_new, opens_old, holds_new, or_grows, names_too, accepts_too, still_new, still_old, still_rows, still_empty, still_named, never_more, six_cells, or_another, read_so, not_unread, not_two, or_theirs}
+use Rattle.sb_log.proofs.Founding.{was_clean, no_item, one_item, none_mapped, one_mapped, opens_new, opens_old, holds_new, or_grows, names_too, accepts_too, still_new, still_old, still_rows, still_empty, still_named, never_more, six_cells, or_another, read_so, not_unread, not_two, or_theirs, store_wants, making_opens, making_spares, reading_opens, reading_spares, so_refused}
 use Rattle.sb_log.proofs.opening.open_tables.Goals as goal
 
 pub returns-in-empty-clause-opens : goal.returns-in-empty-clause-opens
@@ -235,4 +235,79 @@ returns-clause-theirs g c clean names =
 pub returns-in_err-make_tables-clause-theirs : goal.returns-in_err-make_tables-clause-theirs
 returns-in_err-make_tables-clause-theirs g c clean names =
     let p = err_from_is_err_and c.from_residual.result c.from_residual.ensures.1 in
-    rw (p.1, p.2) (inr (inr (c.in_err-make_tables.ensures.whole clean Both names.schema (λ is. absurd (cc)))))
+    rw (p.1, p.2) (inr (store_wants _ (c.in_err-make_tables.ensures.whole clean Both names.schema (λ is. absurd (cc)))))
+
+pub returns-in-empty-clause-refused : goal.returns-in-empty-clause-refused
+returns-in-empty-clause-refused g c clean =
+    let old = state g.S.Store c.args.conn.now in
+    let mid = state g.S.Store c.make_tables.new.conn in
+    let read = state g.S.Store c.read_meta.new.conn in
+    let clean2 : HasCleanDisk read = was_clean _ _ clean c.open_new.ensures.clean in
+    let clean1 : HasCleanDisk mid = was_clean _ _ clean2 c.read_meta.ensures.clean in
+    let prepared = c.in_ok-make_tables.ensures.prepared clean1 in
+    let completes = c.in_ok-make_tables.ensures.completes clean1 in
+    let ready = c.in_ok-found.ensures.ready clean2 prepared in
+    so_refused c.open_new.result (c.open_new.ensures.refused clean ready.0) (λ same. inr (subst (Completes old.now) (sym (same ∙ ready.1)) completes))
+
+pub returns-in-len1-clause-refused : goal.returns-in-len1-clause-refused
+returns-in-len1-clause-refused g c clean =
+    let old = state g.S.Store c.args.conn.now in
+    let mid = state g.S.Store c.make_tables.new.conn in
+    let read = state g.S.Store c.read_meta.new.conn in
+    let clean2 : HasCleanDisk read = was_clean _ _ clean c.open_old.ensures.clean in
+    let clean1 : HasCleanDisk mid = was_clean _ _ clean2 c.read_meta.ensures.clean in
+    let prepared = c.in_ok-make_tables.ensures.prepared clean1 in
+    let completes = c.in_ok-make_tables.ensures.completes clean1 in
+    let ready = c.in_ok-found.ensures.ready clean2 prepared in
+    so_refused c.open_old.result (c.open_old.ensures.refused clean ready.0) (λ same. inr (subst (Completes old.now) (sym (same ∙ ready.1)) completes))
+
+pub returns-in-empty-clause-others : goal.returns-in-empty-clause-others
+returns-in-empty-clause-others g c clean = reading_spares _ c.open_new.result c.open_new.ensures.fault
+
+pub returns-in-empty-clause-fault : goal.returns-in-empty-clause-fault
+returns-in-empty-clause-fault g c = reading_opens c.open_new.result c.open_new.ensures.fault
+
+pub returns-in_err-make_tables-clause-refused : goal.returns-in_err-make_tables-clause-refused
+returns-in_err-make_tables-clause-refused g c clean =
+    let p = err_from_is_err_and c.from_residual.result c.from_residual.ensures.1 in
+    rw (p.1, p.2) (λ other. inl (c.in_err-make_tables.ensures.refused clean other))
+
+pub returns-in_err-make_tables-clause-whole : goal.returns-in_err-make_tables-clause-whole
+returns-in_err-make_tables-clause-whole g c clean t opens =
+    let p = err_from_is_err_and c.from_residual.result c.from_residual.ensures.1 in
+    rw (p.1, p.2) (store_wants _ (c.in_err-make_tables.ensures.whole clean opens.made opens.schema opens.whole))
+
+pub returns-in_err-make_tables-clause-others : goal.returns-in_err-make_tables-clause-others
+returns-in_err-make_tables-clause-others g c clean =
+    let p = err_from_is_err_and c.from_residual.result c.from_residual.ensures.1 in
+    rw (p.1, p.2) (λ called. absurd (making_spares _ c.in_err-make_tables.ensures.fault called))
+
+pub returns-in_err-make_tables-clause-fault : goal.returns-in_err-make_tables-clause-fault
+returns-in_err-make_tables-clause-fault g c =
+    let p = err_from_is_err_and c.from_residual.result c.from_residual.ensures.1 in
+    rw (p.1, p.2) (making_opens _ c.in_err-make_tables.ensures.fault)
+
+pub returns-in_err-found-clause-refused : goal.returns-in_err-found-clause-refused
+returns-in_err-found-clause-refused g c clean =
+    let p = err_from_is_err_and c.from_residual-in_err-found.result c.from_residual-in_err-found.ensures.1 in
+    rw (p.1, p.2) (λ other. absurd (other refl))
+
+pub returns-in_err-found-clause-whole : goal.returns-in_err-found-clause-whole
+returns-in_err-found-clause-whole g c clean t opens =
+    let p = err_from_is_err_and c.from_residual-in_err-found.result c.from_residual-in_err-found.ensures.1 in
+    rw (p.1, p.2) tt
+
+pub returns-in_err-found-clause-others : goal.returns-in_err-found-clause-others
+returns-in_err-found-clause-others g c clean =
+    let p = err_from_is_err_and c.from_residual-in_err-found.result c.from_residual-in_err-found.ensures.1 in
+    rw (p.1, p.2) (λ called. absurd (cc))
+
+pub returns-in_err-found-clause-theirs : goal.returns-in_err-found-clause-theirs
+returns-in_err-found-clause-theirs g c clean names =
+    let p = err_from_is_err_and c.from_residual-in_err-found.result c.from_residual-in_err-found.ensures.1 in
+    rw (p.1, p.2) (inr tt)
+
+pub returns-in_err-found-clause-fault : goal.returns-in_err-found-clause-fault
+returns-in_err-found-clause-fault g c =
+    let p = err_from_is_err_and c.from_residual-in_err-found.result c.from_residual-in_err-found.ensures.1 in
+    rw (p.1, p.2) tt

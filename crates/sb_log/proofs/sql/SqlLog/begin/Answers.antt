@@ -40,10 +40,11 @@ invariant_of-self g c =
     let high : c.args.after ≤ VERSION_MOST = omega (arith, c.if-after-gt-VERSION_MOST.false) in
     let none : i.table.held ≡ 0 = omega (arith, c.upto-upto.ensures.version, c.if-upto-gt0.false) in
     let same : c.raise.new.self ≡ nothing_up_to c.args.after = c.raise.ensures.raised ∙ raised_nothing c.args.after i.table c.self.invariant.2 none in (
-      kept_behind g.S.Store g.met.S.Store.settled i.owner i.cluster i.max_version i.is_open c.if-not-self.false i.conn i.table c.self.invariant.0 c.self.invariant.2 c.args.after low high none r.new.conn r.ensures.clean c.raise.new.self same c.in-Ok.ensures.content c.in-Ok.ensures.ready,
+      kept_behind g.S.Store g.met.S.Store.settled i.owner i.cluster i.max_version i.is_open c.if-not-self.false i.conn i.table c.self.invariant.0 c.self.invariant.2 c.args.after low high none r.new.conn r.ensures.clean c.raise.new.self same (λ clean ready owner cluster holds. (c.in-Ok.ensures.commits owner cluster holds).changes clean ready) (λ clean ready owner cluster holds. (c.in-Ok.ensures.commits owner cluster holds).ready clean ready),
       c.self.invariant.1,
       rw same (nothing_content c.args.after),
       omega (arith, ap (λ (t : Table). t.held) same, high),
+      c.self.invariant.4,
     )
 
 pub returns-in-Ok-clause-begins : goal.returns-in-Ok-clause-begins
@@ -53,7 +54,7 @@ returns-in-Ok-clause-begins g c =
     let low : 1 ≤ c.args.after = omega (arith, c.if-after-eq0.false) in
     let high : c.args.after ≤ VERSION_MOST = omega (arith, c.if-after-gt-VERSION_MOST.false) in
     let none : i.table.held ≡ 0 = omega (arith, c.upto-upto.ensures.version, c.if-upto-gt0.false) in
-    rw (← c.self.view_is) (sql_begins g.S.Store g.met.S.Store.settled i.owner i.cluster i.max_version i.is_open c.if-not-self.false i.conn i.table c.self.invariant.0 c.self.invariant.2 c.args.after low high none r.new.conn r.ensures.clean c.in-Ok.ensures.content)
+    rw (← c.self.view_is) (sql_begins g.S.Store g.met.S.Store.settled i.owner i.cluster i.max_version i.is_open c.if-not-self.false i.conn i.table c.self.invariant.0 c.self.invariant.2 c.args.after low high none r.new.conn r.ensures.clean (λ clean ready owner cluster holds. (c.in-Ok.ensures.commits owner cluster holds).changes clean ready))
 
 pub returns-in-Ok-clause-crash : goal.returns-in-Ok-clause-crash
 returns-in-Ok-clause-crash g c clean up =
@@ -62,7 +63,7 @@ returns-in-Ok-clause-crash g c clean up =
     let low : 1 ≤ c.args.after = omega (arith, c.if-after-eq0.false) in
     let high : c.args.after ≤ VERSION_MOST = omega (arith, c.if-after-gt-VERSION_MOST.false) in
     let none : i.table.held ≡ 0 = omega (arith, c.upto-upto.ensures.version, c.if-upto-gt0.false) in
-    rw (← c.self.view_is) (survives_begin g.S.Store g.met.S.Store.settled i.owner i.cluster i.max_version i.is_open c.if-not-self.false i.conn i.table c.self.invariant.0 c.self.invariant.2 c.args.after low high none r.new.conn r.ensures.clean c.in-Ok.ensures.crash clean)
+    rw (← c.self.view_is) (survives_begin g.S.Store g.met.S.Store.settled i.owner i.cluster i.max_version i.is_open c.if-not-self.false i.conn i.table c.self.invariant.0 c.self.invariant.2 c.args.after low high none r.new.conn r.ensures.clean (λ clean ready owner cluster holds. (c.in-Ok.ensures.commits owner cluster holds).crash clean ready) clean)
 
 pub returns-in-Ok-clause-settled : goal.returns-in-Ok-clause-settled
 returns-in-Ok-clause-settled g c =
@@ -73,7 +74,7 @@ returns-in-Ok-clause-settled g c =
     let none : i.table.held ≡ 0 = omega (arith, c.upto-upto.ensures.version, c.if-upto-gt0.false) in
     let same : c.raise.new.self ≡ nothing_up_to c.args.after = c.raise.ensures.raised ∙ raised_nothing c.args.after i.table c.self.invariant.2 none in
     settles g.S.Store g.met.S.Store.settled i.owner i.cluster r.new.conn c.raise.new.self i.is_open
-    (kept_behind g.S.Store g.met.S.Store.settled i.owner i.cluster i.max_version i.is_open c.if-not-self.false i.conn i.table c.self.invariant.0 c.self.invariant.2 c.args.after low high none r.new.conn r.ensures.clean c.raise.new.self same c.in-Ok.ensures.content c.in-Ok.ensures.ready)
+    (kept_behind g.S.Store g.met.S.Store.settled i.owner i.cluster i.max_version i.is_open c.if-not-self.false i.conn i.table c.self.invariant.0 c.self.invariant.2 c.args.after low high none r.new.conn r.ensures.clean c.raise.new.self same (λ clean ready owner cluster holds. (c.in-Ok.ensures.commits owner cluster holds).changes clean ready) (λ clean ready owner cluster holds. (c.in-Ok.ensures.commits owner cluster holds).ready clean ready))
 
 pub returns-in-Err-clause-begins : goal.returns-in-Err-clause-begins
 returns-in-Err-clause-begins g c =
@@ -82,7 +83,7 @@ returns-in-Err-clause-begins g c =
     let low : 1 ≤ c.args.after = omega (arith, c.if-after-eq0.false) in
     let high : c.args.after ≤ VERSION_MOST = omega (arith, c.if-after-gt-VERSION_MOST.false) in
     let none : i.table.held ≡ 0 = omega (arith, c.upto-upto.ensures.version, c.if-upto-gt0.false) in
-    rw (← c.self.view_is, c.in-Err.ensures.fault) (sql_fails_to_begin g.S.Store g.met.S.Store.settled i.owner i.cluster i.max_version i.is_open c.if-not-self.false i.conn i.table c.self.invariant.0 c.self.invariant.2 c.args.after low high none r.new.conn r.ensures.clean)
+    rw (← c.self.view_is) (sql_fails_to_begin g.S.Store g.met.S.Store.settled i.owner i.cluster i.max_version i.is_open c.if-not-self.false i.conn i.table c.self.invariant.0 c.self.invariant.2 c.args.after low high none r.new.conn r.ensures.clean)
 
 pub returns-in-Err-clause-crash : goal.returns-in-Err-clause-crash
 returns-in-Err-clause-crash g c clean up =
@@ -91,4 +92,4 @@ returns-in-Err-clause-crash g c clean up =
     let low : 1 ≤ c.args.after = omega (arith, c.if-after-eq0.false) in
     let high : c.args.after ≤ VERSION_MOST = omega (arith, c.if-after-gt-VERSION_MOST.false) in
     let none : i.table.held ≡ 0 = omega (arith, c.upto-upto.ensures.version, c.if-upto-gt0.false) in
-    rw (← c.self.view_is) (survives_begin g.S.Store g.met.S.Store.settled i.owner i.cluster i.max_version i.is_open c.if-not-self.false i.conn i.table c.self.invariant.0 c.self.invariant.2 c.args.after low high none r.new.conn r.ensures.clean c.in-Err.ensures.crash clean)
+    rw (← c.self.view_is) (survives_begin g.S.Store g.met.S.Store.settled i.owner i.cluster i.max_version i.is_open c.if-not-self.false i.conn i.table c.self.invariant.0 c.self.invariant.2 c.args.after low high none r.new.conn r.ensures.clean (λ clean ready owner cluster holds. (c.in-Err.ensures.commits owner cluster holds).crash clean ready) clean)

@@ -1,4 +1,4 @@
-use Rattle.std.proofs.Common.{rules, sym, subst}
+use Rattle.std.proofs.Common.{rules, refl, true≢false, sym, subst}
 use Rattle.sqlite.specs.Held.{state}
 use Rattle.sb_types.specs.Records.{Table}
 use Rattle.sb_log.specs.Opening.{Opens}
@@ -31,4 +31,4 @@ returns-in-Err-clause-whole g c t opens clean = c.in-Err.ensures.whole clean t o
 
 pub invariant_of-result : goal.invariant_of-result
 invariant_of-result g c =
-    let o = c.in-Ok.ensures in (λ _ clean. (o.ready clean, o.holds clean), search rules, o.table, o.most)
+    let o = c.in-Ok.ensures in (λ _ clean. (o.ready clean, o.holds clean), search rules, o.table, o.most, (λ _. refl, λ shut. absurd (true≢false shut)))

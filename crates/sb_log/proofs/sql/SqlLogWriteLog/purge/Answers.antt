@@ -53,6 +53,7 @@ invariant_of-self g c =
       c.self.invariant.1,
       raised_content c.args.floor i.table c.raise.new.self c.self.invariant.2 (omega (arith, higher)) same c.raise.ensures.table,
       omega (arith, ap (λ (t : Table). t.held) same, c.self.invariant.3),
+      c.self.invariant.4,
     )
 
 pub returns-in-Ok-clause-purges : goal.returns-in-Ok-clause-purges
@@ -95,7 +96,7 @@ returns-in-Err-clause-purges g c =
     let r = c.raise_floor in
     let fits : c.args.floor ≤ i.table.held = omega (arith, c.upto-upto.ensures.version, c.if-floor-upto.false) in
     let higher : i.table.floor < c.args.floor = omega (arith, c.floor-present.ensures.floor, c.if-floor-present.false) in
-    rw (← c.self.view_is, c.in-Err.ensures.fault) (sql_fails g.S.Store g.met.S.Store.settled i.owner i.cluster i.max_version i.is_open c.if-not-self.false i.conn i.table c.self.invariant.0 c.self.invariant.2 c.args.floor fits higher r.new.conn r.ensures.clean)
+    rw (← c.self.view_is) (sql_fails g.S.Store g.met.S.Store.settled i.owner i.cluster i.max_version i.is_open c.if-not-self.false i.conn i.table c.self.invariant.0 c.self.invariant.2 c.args.floor fits higher r.new.conn r.ensures.clean)
 
 pub returns-in-Err-clause-crash : goal.returns-in-Err-clause-crash
 returns-in-Err-clause-crash g c clean up =

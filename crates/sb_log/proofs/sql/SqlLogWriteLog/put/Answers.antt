@@ -28,7 +28,7 @@ returns-in-Ok-write_entry-clause-puts g c =
     let w = c.write_entry in
     rw (← c.self.view_is)
     (keeps g.S.Store g.met.S.Store.settled i.owner i.cluster i.max_version i.is_open c.if-not-self.false i.conn i.table c.self.invariant.0 c.args.key.now c.args.slot.now w.new.conn w.ensures.clean c.in-Ok.entry
-    a.entry a.fits c.new.result c.new.ensures c.in-Ok-write_entry.ensures.enters c.in-Ok-write_entry.ensures.meta)
+    a.entry a.fits c.new.result c.new.ensures (λ clean ready. (c.in-Ok-write_entry.ensures.commits.changes clean ready).0) (λ clean ready. (c.in-Ok-write_entry.ensures.commits.changes clean ready).1))
 
 pub returns-in-Ok-write_entry-clause-crash : goal.returns-in-Ok-write_entry-clause-crash
 returns-in-Ok-write_entry-clause-crash g c clean up =
@@ -37,7 +37,7 @@ returns-in-Ok-write_entry-clause-crash g c clean up =
     let w = c.write_entry in
     rw (← c.self.view_is)
     (survives g.S.Store g.met.S.Store.settled i.owner i.cluster i.max_version i.is_open c.if-not-self.false i.conn i.table c.self.invariant.0 c.args.key.now c.args.slot.now w.new.conn w.ensures.clean c.in-Ok.entry
-    a.entry a.fits w.ensures.crash clean)
+    a.entry a.fits w.ensures.commits.crash clean)
 
 pub returns-in-Ok-write_entry-clause-settled : goal.returns-in-Ok-write_entry-clause-settled
 returns-in-Ok-write_entry-clause-settled g c =
@@ -46,15 +46,14 @@ returns-in-Ok-write_entry-clause-settled g c =
     let w = c.write_entry in
     settles g.S.Store g.met.S.Store.settled i.owner i.cluster w.new.conn c.accept.new.table i.is_open
     (now_kept g.S.Store g.met.S.Store.settled i.owner i.cluster i.max_version i.is_open c.if-not-self.false i.conn i.table c.self.invariant.0 c.args.key.now c.args.slot.now w.new.conn w.ensures.clean c.in-Ok.entry
-    a.entry a.fits c.accept.new.table a.entered c.in-Ok-write_entry.ensures.enters c.in-Ok-write_entry.ensures.ready c.in-Ok-write_entry.ensures.meta)
+    a.entry a.fits c.accept.new.table a.entered (λ clean ready. (c.in-Ok-write_entry.ensures.commits.changes clean ready).0) c.in-Ok-write_entry.ensures.commits.ready (λ clean ready. (c.in-Ok-write_entry.ensures.commits.changes clean ready).1))
 
 pub returns-in-Err-write_entry-clause-puts : goal.returns-in-Err-write_entry-clause-puts
 returns-in-Err-write_entry-clause-puts g c =
     let i = c.self.inside in
     let a = c.in-Ok.ensures in
     let w = c.write_entry in
-    let is = c.in-Err-write_entry.ensures.fault in
-    rw (← c.self.view_is, is)
+    rw (← c.self.view_is)
     (fails g.S.Store g.met.S.Store.settled i.owner i.cluster i.max_version i.is_open c.if-not-self.false i.conn i.table c.self.invariant.0 c.args.key.now c.args.slot.now w.new.conn w.ensures.clean a.fits)
 
 pub returns-in-Err-write_entry-clause-crash : goal.returns-in-Err-write_entry-clause-crash
@@ -64,7 +63,7 @@ returns-in-Err-write_entry-clause-crash g c clean up =
     let w = c.write_entry in
     rw (← c.self.view_is)
     (survives g.S.Store g.met.S.Store.settled i.owner i.cluster i.max_version i.is_open c.if-not-self.false i.conn i.table c.self.invariant.0 c.args.key.now c.args.slot.now w.new.conn w.ensures.clean c.in-Ok.entry
-    a.entry a.fits w.ensures.crash clean)
+    a.entry a.fits w.ensures.commits.crash clean)
 
 pub invariant_of-self-in-Ok-write_entry : goal.invariant_of-self-in-Ok-write_entry
 invariant_of-self-in-Ok-write_entry g c =
@@ -72,8 +71,9 @@ invariant_of-self-in-Ok-write_entry g c =
     let a = c.in-Ok.ensures in
     let w = c.write_entry in (
       now_kept g.S.Store g.met.S.Store.settled i.owner i.cluster i.max_version i.is_open c.if-not-self.false i.conn i.table c.self.invariant.0 c.args.key.now c.args.slot.now w.new.conn w.ensures.clean c.in-Ok.entry
-          a.entry a.fits c.accept.new.table a.entered c.in-Ok-write_entry.ensures.enters c.in-Ok-write_entry.ensures.ready c.in-Ok-write_entry.ensures.meta,
+          a.entry a.fits c.accept.new.table a.entered (λ clean ready. (c.in-Ok-write_entry.ensures.commits.changes clean ready).0) c.in-Ok-write_entry.ensures.commits.ready (λ clean ready. (c.in-Ok-write_entry.ensures.commits.changes clean ready).1),
       c.self.invariant.1,
       a.table c.self.invariant.2,
       omega (arith, ap (λ (t : Table). t.held) a.entered, a.version, c.self.invariant.1),
+      c.self.invariant.4,
     )
