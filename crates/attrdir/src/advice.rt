@@ -1,5 +1,6 @@
 //! What to do about a fault, in one line that comes after its place.
 use crate::failure::{FaultPlace, Obstacle};
+use sb_log::StoreCause;
 use sb_types::Fault;
 
 /// What to do if a path cannot be that of a socket.
@@ -60,6 +61,25 @@ fn about_reading(place: FaultPlace<'_>) -> &'static str {
             "see that these are two different paths, that the disk has room, and that the process may open more files (ulimit -n)"
         }
         _ => "see where standard input comes from",
+    }
+}
+
+/// What to do about the cause by which the store of a log failed.
+pub(crate) fn about_cause(cause: StoreCause) -> &'static str {
+    match cause {
+        StoreCause::NoSpace => "make room on its disk",
+        StoreCause::CannotOpen => about_store(FaultPlace::Line),
+        StoreCause::Locked => "end the process that has it open",
+        StoreCause::Io => {
+            "see that its disk works, that files on it may be written, and that they may grow"
+        }
+        StoreCause::Damaged => {
+            "see what else wrote to the file; keep it, and see RUNBOOK, A damaged log"
+        }
+        StoreCause::NoMemory => "end other programs, or give the process more memory",
+        StoreCause::Other => {
+            "see that the file is the log of this node, and that nothing else writes to it"
+        }
     }
 }
 

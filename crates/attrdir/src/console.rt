@@ -1,5 +1,5 @@
 //! What a node that runs says on standard error.
-use crate::failure::about_cause;
+use crate::advice::about_cause;
 use crate::log_file::DroppedRemovals;
 use crate::metrics::Metrics;
 use crate::metrics_file::MetricsFile;
