@@ -46,9 +46,11 @@ fn causes_are_told_apart(rt: HostRuntime) {
         same(&rt, &cause.number(), &(at as u64 + 1));
         same(&rt, &StoreCause::from_number(cause.number()), &Some(cause));
         for other in CAUSES {
-            let (names, texts) = ((cause.name(), other.name()), (cause.to_string(rt.alloc()), other.to_string(rt.alloc())));
-            same_at(&rt, &(cause, other), &(names.0 == names.1), &(cause == other));
-            same_at(&rt, &(cause, other), &(got(&rt, texts.0) == got(&rt, texts.1)), &(cause == other));
+            let is_same = cause == other;
+            same_at(&rt, &(cause, other), &(cause.name() == other.name()), &is_same);
+            let text: Result<String, _> = cause.to_string(rt.alloc());
+            let another: Result<String, _> = other.to_string(rt.alloc());
+            same_at(&rt, &(cause, other), &(got(&rt, text) == got(&rt, another)), &is_same);
         }
     }
     same(&rt, &StoreCause::from_number(0), &None);
