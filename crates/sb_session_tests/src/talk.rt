@@ -127,7 +127,8 @@ fn reader_of<'a>(terms: &Terms<'a>) -> Pieces<'a> {
 /// How a talk of this session ends over a reader and a writer, and whether its last write is said to have failed.
 fn talk_on<L: Ledger>(
     node: &mut Node,
-    streams: (&mut Pieces<'_>, &mut Room),
+    reader: &mut Pieces<'_>,
+    writer: &mut Room,
     session: Session,
     terms: Terms<'_>,
     blank: Blank,
@@ -136,7 +137,6 @@ fn talk_on<L: Ledger>(
     requires parts { blank.parts ≡ L.parts }
     requires some { 0 < blank.parts }
 {
-    let (reader, writer) = streams;
     let steps = Steps::<L>::new(blank);
     let mut connection = Connection::new(node.alloc, reader, writer, terms.reads, steps);
     let ended = match terms.rounds {
@@ -156,7 +156,7 @@ fn talk_telling(
 ) -> (Result<Ended, Fault>, bool) {
     let session = Session::new(name(rt, b"c1"), *node.holdings.me());
     let mut reader = reader_of(&terms);
-    talk_on::<Brand>(node, (&mut reader, writer), session, terms, Blank::new(1))
+    talk_on::<Brand>(node, &mut reader, writer, session, terms, Blank::new(1))
 }
 
 /// A talk that goes well:
@@ -289,8 +289,14 @@ fn unread(rt: &impl Abort, alloc: Global, course: &Course<'_>, room: usize) -> u
     let mut reader = reader_of(&terms);
     let session = Session::new(name(rt, b"c1"), *node.holdings.me());
     let mut writer = Room::new(room);
-    let streams = (&mut reader, &mut writer);
-    let _ = talk_on::<Brand>(&mut node, streams, session, terms, Blank::new(1));
+    let _ = talk_on::<Brand>(
+        &mut node,
+        &mut reader,
+        &mut writer,
+        session,
+        terms,
+        Blank::new(1),
+    );
     reader.bytes.len()
 }
 
