@@ -13,7 +13,7 @@ use crate::own_writes::OwnWrites;
 use crate::peers::Peers;
 use crate::rounds::{RoundsTag, rounds_channel};
 use crate::runtime::Runtime;
-use crate::seats::{gather_seats, part_seats};
+use crate::seats::{ThreadSeats, gather_seats, part_seats};
 use crate::sockets::BoundSockets;
 use crate::threads::ThreadsEnd;
 use sb_directory::{Directory, ReaderSeat};
@@ -37,6 +37,36 @@ pub(crate) struct NodeStart<L: WriteLog> {
     pub(crate) core: NodeCore,
     /// Its log, and the write in it that is still to be handed to the directory.
     pub(crate) writes: OwnWrites<L>,
+}
+
+/// Makes the directory, and gives a seat to each thread. It also gives the other seats, in a list with room for all.
+/// `NoMemory`.
+fn seat_all<S: RoundsTag, R: Wait>(
+    rt: &R,
+    alloc: Global,
+    new_history: NewHistory,
+    blank: Blank,
+    core: NodeCore,
+) -> Result<(Directory<S, &R>, ThreadSeats<S>, Vec<ReaderSeat<S>>), Fault>
+    requires history { new_history.seen.book ≡ S.history }
+    requires tagged { IsTagOf S.opening S.settings S.seats S.parts core }
+    requires name { blank.name ≡ S.name }
+    requires parts { blank.parts ≡ S.parts }
+    requires enough { core.settings.workers + 2 ≤ core.settings.seats }
+    ensures workers { IfOk result (λ seated. vec_len seated.1.workers ≡ S.settings.workers) }
+    ensures all { IfOk result (λ seated. vec_len seated.2 + (vec_len seated.1.workers + 2) ≡ S.seats) }
+    ensures room { IfOk result (λ seated. S.seats ≤ vec_capacity seated.2) }
+    ensures memory { IfErr result (λ fault. fault ≡ Fault.NoMemory) }
+{
+    let settings = core.settings();
+    let all = settings.seats() as usize;
+    let made = Directory::<S, &R>::make(rt, alloc, new_history, blank, core, all);
+    // Settings allow no number of seats that a directory refuses, so only memory can be missing.
+    let Ok((directory, seats)) = made else {
+        return Err(Fault::NoMemory);
+    };
+    let (thread_seats, spare) = part_seats(seats, settings.workers() as usize)?;
+    Ok((directory, thread_seats, spare))
 }
 
 /// Makes the directory and its seats, binds both sockets, runs the threads, and removes the sockets' files. `NoMemory`;
@@ -63,17 +93,17 @@ pub(crate) fn run_tagged<
     ensures rounds { IfOk result (λ ran. ran.rounds ≡ pace.rounds) }
     ensures fault { IfErr result (λ fault. IsEndFault pace.on_log_fault fault ⊎ (fault ≡ Fault.ReadFailed)) }
 {
-    let settings = start.core.settings();
-    let all = settings.seats() as usize;
-    let made = Directory::<S, &R>::make(rt, alloc, start.new_history, start.blank, start.core, all);
-    // Settings allow no number of seats that a directory refuses, so only memory can be wanting.
-    let Ok((directory, seats)) = made else {
-        return Err(Fault::NoMemory);
-    };
-    let (thread_seats, spare) = part_seats(seats, settings.workers() as usize)?;
+    let workers = start.core.settings().workers();
     let (rounds_sender, rounds_receiver) = rounds_channel::<S>(alloc)?;
     let (bell, parker) = Bell::new(alloc)?;
     let dialer = Dialer::new(Peers::new(alloc, paths.peers)?, observer, parker);
+    let (directory, thread_seats, spare) = seat_all::<S, R>(
+        rt,
+        alloc,
+        start.new_history,
+        start.blank,
+        start.core,
+    )?;
     let sockets = BoundSockets::bind(rt, paths.sock, paths.control, observer)?;
     observer.listening();
     let (ending, counts) = (EndFlag::new(), Counts::new());
@@ -85,7 +115,7 @@ pub(crate) fn run_tagged<
         ending: &ending,
         bell: &bell,
         counts: &counts,
-        workers: settings.workers(),
+        workers,
         pace,
     };
     let finished = dialer.run_threads(
