@@ -104,7 +104,9 @@ pub(crate) fn run_tagged<
         start.blank,
         start.core,
     )?;
-    let sockets = BoundSockets::bind(rt, paths.sock, paths.control, observer)?;
+    let Ok(sockets) = BoundSockets::bind(rt, paths.sock, paths.control, observer) else {
+        return Err(Fault::ReadFailed);
+    };
     observer.listening();
     let (ending, counts) = (EndFlag::new(), Counts::new());
     let node = NodeContext {
