@@ -34,9 +34,18 @@ const CODES: [(ErrorCode, StoreCause); 8] = [
 #[test]
 fn each_error_of_the_database_has_its_cause(rt: HostRuntime) {
     for (code, cause) in CODES {
-        same_at(&rt, &code, &StoreCause::of(&Error::SqliteFailure(code)), &cause);
+        same_at(
+            &rt,
+            &code,
+            &StoreCause::of(&Error::SqliteFailure(code)),
+            &cause,
+        );
     }
-    same(&rt, &StoreCause::of(&Error::InvalidQuery), &StoreCause::Other);
+    same(
+        &rt,
+        &StoreCause::of(&Error::InvalidQuery),
+        &StoreCause::Other,
+    );
 }
 
 // No two causes have one number, name or text.
@@ -47,10 +56,20 @@ fn causes_are_told_apart(rt: HostRuntime) {
         same(&rt, &StoreCause::from_number(cause.number()), &Some(cause));
         for other in CAUSES {
             let is_same = cause == other;
-            same_at(&rt, &(cause, other), &(cause.name() == other.name()), &is_same);
+            same_at(
+                &rt,
+                &(cause, other),
+                &(cause.name() == other.name()),
+                &is_same,
+            );
             let text: Result<String, _> = cause.to_string(rt.alloc());
             let another: Result<String, _> = other.to_string(rt.alloc());
-            same_at(&rt, &(cause, other), &(got(&rt, text) == got(&rt, another)), &is_same);
+            same_at(
+                &rt,
+                &(cause, other),
+                &(got(&rt, text) == got(&rt, another)),
+                &is_same,
+            );
         }
     }
     same(&rt, &StoreCause::from_number(0), &None);
@@ -60,9 +79,17 @@ fn causes_are_told_apart(rt: HostRuntime) {
 #[test]
 fn a_refusal_has_a_fault_and_perhaps_a_cause(rt: HostRuntime) {
     let refused = LogError::from(StoreCause::Locked);
-    same(&rt, &(refused.fault(), refused.cause()), &(Fault::StoreFailed, Some(StoreCause::Locked)));
+    same(
+        &rt,
+        &(refused.fault(), refused.cause()),
+        &(Fault::StoreFailed, Some(StoreCause::Locked)),
+    );
     let refused = LogError::from(Fault::WrongOwner);
-    same(&rt, &(refused.fault(), refused.cause()), &(Fault::WrongOwner, None));
+    same(
+        &rt,
+        &(refused.fault(), refused.cause()),
+        &(Fault::WrongOwner, None),
+    );
 }
 
 /// Writes until the store fails, or ten times. Why the log is closed before and after.
@@ -84,7 +111,11 @@ impl LogVisit for Failing {
 #[test]
 fn a_log_says_why_its_store_failed(rt: HostRuntime) {
     let alloc = rt.alloc();
-    same(&rt, &log_in_memory(&rt, alloc, OWN, Failing), &Ok((None, None)));
+    same(
+        &rt,
+        &log_in_memory(&rt, alloc, OWN, Failing),
+        &Ok((None, None)),
+    );
     let calls = Calls {
         log: 120,
         db: u64::MAX,
