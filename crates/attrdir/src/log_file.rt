@@ -33,11 +33,18 @@ pub(crate) struct DroppedRemovals {
 }
 
 /// A fault of a log, or of printing its lines.
+fn failure_of_fault(path: &str, fault: Fault) -> Failure<'_> {
+    match fault {
+        Fault::WriteFailed(_) => Failure::from(fault),
+        _ => Failure::at(FaultPlace::Log(path), fault),
+    }
+}
+
+/// An error of a log, or of printing its lines.
 pub(crate) fn failure(path: &str, error: LogError) -> Failure<'_> {
     match error {
         LogError::Store(cause) => Failure::of_store(path, cause),
-        LogError::Fault(Fault::WriteFailed(count)) => Failure::from(Fault::WriteFailed(count)),
-        LogError::Fault(fault) => Failure::at(FaultPlace::Log(path), fault),
+        LogError::Fault(fault) => failure_of_fault(path, fault),
     }
 }
 
