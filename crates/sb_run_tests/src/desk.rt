@@ -118,7 +118,8 @@ impl<S: DirectoryTag, H: Wait + Drop> Desk<S, H> {
             &serving,
             &mut self.owner,
             seat,
-            (reader, writer),
+            reader,
+            writer,
             Blank::new(1),
         );
         self.seat = Some(seat);
@@ -152,14 +153,14 @@ fn serve_from<
     serving: &Serving<S, H, Q>,
     owner: &mut OwnWrites<PlainLog>,
     seat: ReaderSeat<S>,
-    streams: (&mut R, &mut W),
+    reader: &mut R,
+    writer: &mut W,
     blank: Blank,
 ) -> (ReaderSeat<S>, Result<(), Fault>)
     requires name { blank.name ≡ K.name }
     requires parts { blank.parts ≡ K.parts }
     requires some { 0 < blank.parts }
 {
-    let (reader, writer) = streams;
     let steps = Steps::<K>::new(blank);
     let mut connection = Connection::new(serving.alloc, reader, writer, serving.max_reads, steps);
     serving.serve_control(&mut connection, owner, seat)
