@@ -48,6 +48,27 @@
 //!     }
 //! }
 //! ```
+//!
+//! # What no contract refuses
+//!
+//! No fact spans the lock of a directory, so public clauses cannot name what is under it. The private clauses of
+//! `ViewedNode` can.
+//!
+//! - A call from a seat answers for a past moment, with a digest kept from then, for instance. The clauses only
+//!   require a moment no older than the seat's last call. Private clauses of `ViewedNode` and tests refuse it.
+//! - A directory adds events to its history that no call made. Only `close` counts events, and a node that runs
+//!   forever never calls it. Clauses of `ViewedNode` and tests refuse it.
+//! - A refused `Directory::close` adds a watch of its own. Nothing refuses it.
+//! - `Directory::watch` returns an id without a watch, or drops the watch again. Tests in
+//!   `crates/sb_directory_tests` refuse it.
+//! - `Directory::unwatch` drops nothing and returns `Ok`. Tests refuse it.
+//! - `Directory::poll` returns that there is no note, repeats one, makes one up with a held version, or drops its
+//!   watch. Tests refuse it. Private clauses cover one call under the lock, not a second that nobody asked for.
+//! - Views find no memory, or `enter` is refused, so `shown` is never true. Tests refuse it.
+//! - `refresh` returns true before all that others' calls made is published. No clause can state it across the
+//!   lock.
+//! - Two threads do not take turns. No clause can state it.
+//! - A call that takes the lock never returns. The clauses hold if it returns, and tests end.
 #![tactic(auto)]
 
 mod directory;

@@ -19,6 +19,20 @@
 //!     Ok([is_early, frames.next()?.is_some()])
 //! }
 //! ```
+//!
+//! # What no contract refuses
+//!
+//! - `send` reports a failed write although no write failed. The contract of `send_telling` refuses this, and
+//!   `send` calls that in one line. Tests refuse it.
+//! - `LastWrite::write`, the one way to the writer, makes up an error and calls nothing. The tests of `send` refuse
+//!   it, and so does reading its ten lines.
+//! - A write or a read is reported as failed because one at another writer or reader did. `LastWrite` and
+//!   `LastRead` do not record which it was. Nothing refuses it.
+//! - After a failed write or read the code makes another, after `Connection::start` or with a new `LastWrite` or
+//!   `LastRead`. Tests refuse it.
+//! - `receive` or `read_within` reports a failed read although none failed. Tests refuse it.
+//! - A read is made without `Steps`, which counts reads. Reading the five lines of `Steps::read` finds it.
+//! - The buffer of `Frames` keeps more of the bytes that were taken out than it needs. Nothing refuses it.
 #![tactic(auto)]
 
 mod connection;

@@ -4,7 +4,9 @@
 //! memory or in a database, and the program prints a log file with it. `purge_run` makes a log drop its removals up to a version,
 //! and prints that version.
 //!
-//! What no contract refuses: `log_run` reports `StoreFailed` in place of `LogDamaged`, or the other way round. Either closes the log.
+//! # What no contract refuses
+//!
+//! `log_run` reports `StoreFailed` in place of `LogDamaged`, or the other way round. Either closes the log.
 //!
 //! ```rust
 //! /// The lines of a log of `a` with one write.

@@ -4,7 +4,7 @@
 //! database, and there they outlast a crash. `put` gives a write the next version. No other node gets a write that is not in its
 //! owner's log. If the store of a log fails, the log is closed, and `cause` says why.
 //!
-//! What no contract refuses, and what does:
+//! # What no contract refuses
 //!
 //! - A log in a database reports `StoreFailed` although its store took each statement: tests.
 //! - It reports `StoreFailed` in place of `LogDamaged`: nothing.

@@ -24,6 +24,56 @@
 //!     run_node(rt, alloc, config, log, &Nobody)
 //! }
 //! ```
+//!
+//! # What no contract refuses
+//!
+//! No clause can state what a running node does on its sockets.
+//!
+//! - A node binds nothing, dials nobody or serves nobody. `crates/sb_run_tests` refuse it.
+//! - A node counts other faults or events, or reports rounds to its observer that ended otherwise.
+//!   `crates/sb_run_tests` refuse it.
+//! - A connection that moves no byte stays open, or a request that is not whole in time is served. Tests and
+//!   `tools/check-node` refuse it.
+//! - A node does not end, or a node with endless rounds ends. Tests and `tools/check-node` refuse it.
+//! - A peer is dialed at another time, or news does not wake the dialing thread. Tests and `tools/check-node`
+//!   refuse it.
+//! - A node removes a socket at which somebody listens. Tests and `tools/check-node` refuse it.
+//! - `Timed::left` does not call `time_between`, or a read or a write waits longer than it grants. Tests refuse it.
+//! - The loop that accepts connections ends if one accept fails. Only `tools/check-node` refuses it.
+//! - `Dialer`, `Counts` or `Peers` gives the observer a wrong state, or reports too seldom or never. The tests of
+//!   `sb_run` and `tools/check-node` refuse it.
+//! - If a peer is passed over, another than the next is dialed, or nobody. `next_in_turn` covers the first turn
+//!   alone. The tests of `sb_run` and `tools/check-node` refuse it.
+//! - No burst is dialed. The tests of `sb_run` and `tools/check-node` refuse it.
+//! - A request may take too long, because its time never begins, or because it goes on once its time is over. The
+//!   tests of `sb_run` and `tools/check-node` refuse it.
+//! - A log that failed does not end a node that must exit. Only `tools/check-node` refuses it.
+//! - `Peers::note` returns that nothing was news, or loses the last peer. Tests refuse it.
+//! - `OwnWrites::put` owes a write for missing memory although it could share it. Tests refuse it.
+//! - What could not be published for missing memory waits for the next event, since `refresh` always reports
+//!   missing memory. Nothing refuses it.
+//! - `run_node` runs with other settings than it was given (except seats, workers and the cluster of its log).
+//!   Tests and `tools/check-node` refuse it.
+//! - `run_node` purges its log first. It promises nothing of the log that it drops. Tests and `tools/check-node`
+//!   refuse it.
+//! - `run_node` reports `StoreFailed` or `LogDamaged` for a whole log. Tests refuse it.
+//! - A node makes fewer rounds than it reports, and dials nobody in any. Tests refuse it.
+//! - A node has fewer worker threads than seats for them. `as_many_peers_are_served_at_once_as_there_are_workers`
+//!   refuses it.
+//! - A round has one exchange only, so it does not ask for owners after its first digest.
+//!   `owners_behind_the_first_digest_are_asked_for` refuses it.
+//! - A source numbers two sessions alike, or begins with another number than 1. A node's own gate ignores the
+//!   number. Nothing refuses it.
+//! - A worker of `serve_pool`, or the dialing thread, applies deltas that no peer sent, and drops those that came.
+//!   Tests refuse it. The steps of one session are proved: `serve`, `dial`, `SeatHandler`, `GatedHandler`.
+//! - `serve_pool` returns all seats and serves nobody, or its sessions make fewer reads than allowed. Tests refuse
+//!   it.
+//! - Workers give a session another limit of reads, or `run_node` gives them another. `tools/check-node` refuses
+//!   more reads.
+//! - A worker asks the gate for another session than its own. `a_session_waits_for_another` refuses it.
+//! - `serve_control` answers each question with the number of `Closed`. No clause promises that a seat may enter.
+//!   Tests and `tools/check-node` refuse it.
+//! - `OwnWrites::put`, `serve_control`, `ask_control`, `serve_pool` or `run_node` never returns. Tests end.
 #![tactic(auto)]
 
 mod accepting;

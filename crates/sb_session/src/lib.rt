@@ -14,6 +14,16 @@
 //!     Ok(matches!(replies, Replies::Greeted))
 //! }
 //! ```
+//!
+//! # What no contract refuses
+//!
+//! - A session reads on after the peer's Bye, or after a message that it refuses, and drops what comes. Nothing
+//!   refuses it.
+//! - A session reads on after a write that failed, and drops what comes. Tests refuse it.
+//! - A session takes memory for each reply, or keeps no buffer. Nothing refuses it.
+//! - A session answers a message only after it has read on, so two such ends wait for each other. Tests over
+//!   sockets refuse it, since they do not end then.
+//! - `serve` or `dial` reports a failed read although none failed. Tests refuse it.
 #![tactic(auto)]
 
 mod handler;

@@ -14,6 +14,11 @@
 //!     (version, snapshot.upto(owner))
 //! }
 //! ```
+//!
+//! # What no contract refuses
+//!
+//! - A call of `views` finds no memory, a reader is refused, or it enters something else than what was published
+//!   last. Tests refuse it.
 #![tactic(auto)]
 
 mod batch;
