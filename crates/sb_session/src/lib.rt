@@ -2,7 +2,7 @@
 //!
 //! A `Session` takes the messages of a peer and gives what to send: the delta for a digest, and an own digest if the peer wants
 //! one. `dial` and `serve` run a whole session over a `Connection`. They ask a `Handler` for what a node holds, and `sb_node`
-//! implements that trait.
+//! implements that trait. `push` sends a delta that the peer did not ask for, and asks no handler.
 //!
 //! ```rust
 //! /// Whether the node `a` is greeted by the Hello of `b`, a node of the same cluster.
@@ -17,11 +17,13 @@
 #![tactic(auto)]
 
 mod handler;
+mod pushing;
 mod replies;
 mod session;
 mod talk;
 
 pub use handler::Handler;
+pub use pushing::{PushEnd, push};
 pub use replies::Replies;
 pub use session::{Phase, Session};
 pub use talk::{Ended, dial, serve};
