@@ -1,6 +1,6 @@
 //! What a peer lacks of the owners in a backlog, without a digest.
 ghost use Rattle.std.specs.Prelude.{◌≡◌, IfOk, IfErr};
-ghost use Rattle.sb_holdings.specs.Plain.{table_of};
+ghost use Rattle.sb_holdings.specs.Plain.{IsHoldings, table_of};
 ghost use Rattle.sb_budget.specs.Parts.{AreParts};
 ghost use Rattle.sb_budget.specs.Backlogs.{digest_since, part_since};
 
@@ -44,6 +44,7 @@ pub fn cursors_since<'a>(
     holdings: &'a Holdings,
     backlog: &'a Backlog,
 ) -> Result<Vec<Cursor<'a>>, Fault>
+    requires holdings { IsHoldings holdings.now }
     ensures parts { IfOk result (λ cursors. AreParts holdings.now (digest_since holdings.now backlog.now) cursors.items) }
     ensures memory { IfErr result (λ fault. fault ≡ Fault.NoMemory) }
 {

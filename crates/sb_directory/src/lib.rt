@@ -56,6 +56,7 @@ mod lacking_owners;
 mod laws;
 mod notes;
 mod receipt;
+mod risen;
 mod seat;
 mod seat_handler;
 mod shares;
