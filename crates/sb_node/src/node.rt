@@ -249,10 +249,9 @@ impl NodeCore {
         ensures holdings { IsHoldings self.now.node.held }
     {
         let owners = cursors_since(self.alloc, &self.holdings, backlog)?;
-        let budget = self.settings.budget();
         match self.settings.order() {
-            Order::Breadth => Breadth.delta_of(self.alloc, owners, budget),
-            Order::Depth => Depth.delta_of(self.alloc, owners, budget),
+            Order::Breadth => Breadth.delta_of(self.alloc, owners, self.settings.budget()),
+            Order::Depth => Depth.delta_of(self.alloc, owners, self.settings.budget()),
         }
     }
 

@@ -36,9 +36,10 @@ fn say_all<R: Read, W: Write, L: Ledger>(
     ensures unread { IfErr result (λ fault. fault ≢ Fault.ReadFailed) }
     ensures kept { KeepsInput connection.old connection.new }
 {
+    let bye = Bye::new(REASON_ROUNDS_DONE)?;
     say(connection, session.hello())?;
     say(connection, Message::Delta(delta))?;
-    say(connection, Message::Bye(Bye::new(REASON_ROUNDS_DONE)?))
+    say(connection, Message::Bye(bye))
 }
 
 /// Hears the peer's Hello, and waits for the end of its bytes.

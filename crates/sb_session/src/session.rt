@@ -177,7 +177,8 @@ impl Session {
     ///
     /// After each of them the session is closed.
     pub fn take_first(&mut self, message: &Message) -> Result<(), Fault>
-        ensures { TakesFirst self.old message.now result self.new }
+        ensures takes { TakesFirst self.old message.now result self.new }
+        ensures fault { IfErr result (λ fault. is_session_fault fault ≡ true) }
     {
         if let Some(fault) = self.first_fault(message) {
             self.phase = Phase::Closed;
