@@ -79,46 +79,53 @@ if_found None f = None
 if_found (Some x) f = f x
 
 module _ {X Y P : Type 0} (f : List ℕ → X → Y → Option P) where
+  abbrev pub by_first : List (List ℕ × Y) → List ℕ × X → Option P
+  by_first ys x = if_found (find text_cmp x.0 ys) (λ y. f x.0 x.1 y)
+
+  abbrev pub by_second : List (List ℕ × X) → List ℕ × Y → Option P
+  by_second xs y = if_found (find text_cmp y.0 xs) (λ x. f y.0 x y.1)
+
   -- over the first list
   abbrev pub over : List (List ℕ × X) → List (List ℕ × Y) → List P
-  over xs ys = filter_map (λ x. if_found (find text_cmp x.0 ys) (λ y. f x.0 x.1 y)) xs
+  over xs ys = filter_map (by_first ys) xs
 
   -- over the second list
   abbrev pub against : List (List ℕ × X) → List (List ℕ × Y) → List P
-  against xs ys = filter_map (λ y. if_found (find text_cmp y.0 xs) (λ x. f y.0 x y.1)) ys
+  against xs ys = filter_map (by_second xs) ys
 
-  merged_from : (x : List ℕ × X) (xs : List (List ℕ × X)) → ((ys : List (List ℕ × Y)) → Ascend ys → over xs ys ≡ against xs ys) → Ascend (x ∷ xs)
+  merged_from : (x : List ℕ × X) (xs : List (List ℕ × X)) → ((ys : List (List ℕ × Y)) → Ascend ys → over xs ys ≡ against xs ys) → AllByRecursion (λ k. text_cmp x.0 k ≡ Less) (keys_of xs)
       → (ys : List (List ℕ × Y)) → Ascend ys → over (x ∷ xs) ys ≡ against (x ∷ xs) ys
   unfolding IsStrictlySortedBy
-  merged_from x xs rest up [] vp = kept_none _ (x ∷ xs) (λ p. refl)
-  merged_from x xs rest up (y ∷ ys) vp = go (text_cmp x.0 y.0) refl (merged_from x xs rest up ys vp.1)
+  merged_from x xs rest up [] vp = kept_none (by_first []) (x ∷ xs) (λ p. refl)
+  merged_from x xs rest up (y ∷ ys) vp = go (text_cmp x.0 y.0) refl vp vp.0 (rest ys vp.1) (merged_from x xs rest up ys vp.1)
     where
-      go : (r : Ordering) → text_cmp x.0 y.0 ≡ r → over (x ∷ xs) ys ≡ against (x ∷ xs) ys → over (x ∷ xs) (y ∷ ys) ≡ against (x ∷ xs) (y ∷ ys)
-      go Less less more =
-          let all : AllByRecursion (λ k. text_cmp x.0 k ≡ Less) (keys_of (y ∷ ys)) = (less, all_later x.0 y.0 ys less vp.0) in
-          ap (λ o. cons_option (if_found o (λ z. f x.0 x.1 z)) (over xs (y ∷ ys))) (find_none x.0 (y ∷ ys) all)
-          ∙ rest (y ∷ ys) vp
-          ∙ sym (kept_same _ _ (y ∷ ys) (λ q s. ap (λ o. if_found o (λ z. f q.0 z q.1)) (find_skip q.0 x xs (later x.0 (y ∷ ys) q all s))))
-      go Equal tied more =
+      go : (r : Ordering) → text_cmp x.0 y.0 ≡ r → Ascend (y ∷ ys) → AllByRecursion (λ k. text_cmp y.0 k ≡ Less) (keys_of ys) → over xs ys ≡ against xs ys
+          → over (x ∷ xs) ys ≡ against (x ∷ xs) ys → over (x ∷ xs) (y ∷ ys) ≡ against (x ∷ xs) (y ∷ ys)
+      go Less less wp behind both more =
+          let all : AllByRecursion (λ k. text_cmp x.0 k ≡ Less) (keys_of (y ∷ ys)) = (less, all_later x.0 y.0 ys less behind) in
+          ap (λ (o : Option Y). cons_option (if_found o (λ z. f x.0 x.1 z)) (over xs (y ∷ ys))) (find_none x.0 (y ∷ ys) all)
+          ∙ rest (y ∷ ys) wp
+          ∙ sym (kept_same (by_second (x ∷ xs)) (by_second xs) (y ∷ ys) (λ q s. ap (λ (o : Option X). if_found o (λ z. f q.0 z q.1)) (find_skip q.0 x xs (later x.0 (y ∷ ys) q all s))))
+      go Equal tied wp behind both more =
           let same : x.0 ≡ y.0 = same_from_Equal x.0 y.0 tied in
-          ap₂ (λ o r. cons_option o r)
-          (ap (λ o. if_found o (λ z. f x.0 x.1 z)) (find_here x.0 y ys tied)
-          ∙ ap (λ n. f n x.1 y.1) same
-          ∙ sym (ap (λ o. if_found o (λ z. f y.0 z y.1)) (find_here y.0 x xs (Equal_from_same y.0 x.0 (sym same)))))
-          (kept_same _ _ xs (λ q s. ap (λ o. if_found o (λ z. f q.0 q.1 z)) (find_skip q.0 y ys (subst (λ n. text_cmp n q.0 ≡ Less) same (later x.0 xs q up.0 s))))
-          ∙ rest ys vp.1
-          ∙ sym (kept_same _ _ ys (λ q s. ap (λ o. if_found o (λ z. f q.0 z q.1)) (find_skip q.0 x xs (subst (λ n. text_cmp n q.0 ≡ Less) (sym same) (later y.0 ys q vp.0 s))))))
-      go Greater greater more =
+          let first : by_first (y ∷ ys) x ≡ f x.0 x.1 y.1 = ap (λ (o : Option Y). if_found o (λ z. f x.0 x.1 z)) (find_here x.0 y ys tied) in
+          let second : by_second (x ∷ xs) y ≡ f y.0 x.1 y.1 = ap (λ (o : Option X). if_found o (λ z. f y.0 z y.1)) (find_here y.0 x xs (Equal_from_same y.0 x.0 (sym same))) in
+          let firsts : over xs (y ∷ ys) ≡ over xs ys =
+          kept_same (by_first (y ∷ ys)) (by_first ys) xs (λ q s. ap (λ (o : Option Y). if_found o (λ z. f q.0 q.1 z)) (find_skip q.0 y ys (subst (λ (n : List ℕ). text_cmp n q.0 ≡ Less) same (later x.0 xs q up s)))) in
+          let seconds : against (x ∷ xs) ys ≡ against xs ys =
+          kept_same (by_second (x ∷ xs)) (by_second xs) ys (λ q s. ap (λ (o : Option X). if_found o (λ z. f q.0 z q.1)) (find_skip q.0 x xs (subst (λ (n : List ℕ). text_cmp n q.0 ≡ Less) (sym same) (later y.0 ys q behind s)))) in
+          ap₂ (λ (o : Option P) (r : List P). cons_option o r) (first ∙ ap (λ (n : List ℕ). f n x.1 y.1) same ∙ sym second) (firsts ∙ both ∙ sym seconds)
+      go Greater greater wp behind both more =
           let less : text_cmp y.0 x.0 ≡ Less = nat_list_cmp_total.antisymm y.0 x.0 ∙ ap ordering_reverse greater in
-          let all : AllByRecursion (λ k. text_cmp y.0 k ≡ Less) (keys_of (x ∷ xs)) = (less, all_later y.0 x.0 xs less up.0) in
-          kept_same _ _ (x ∷ xs) (λ q s. ap (λ o. if_found o (λ z. f q.0 q.1 z)) (find_skip q.0 y ys (later y.0 (x ∷ xs) q all s)))
+          let all : AllByRecursion (λ k. text_cmp y.0 k ≡ Less) (keys_of (x ∷ xs)) = (less, all_later y.0 x.0 xs less up) in
+          kept_same (by_first (y ∷ ys)) (by_first ys) (x ∷ xs) (λ q s. ap (λ (o : Option Y). if_found o (λ z. f q.0 q.1 z)) (find_skip q.0 y ys (later y.0 (x ∷ xs) q all s)))
           ∙ more
-          ∙ sym (ap (λ o. cons_option (if_found o (λ z. f y.0 z y.1)) (against (x ∷ xs) ys)) (find_none y.0 (x ∷ xs) all))
+          ∙ sym (ap (λ (o : Option X). cons_option (if_found o (λ z. f y.0 z y.1)) (against (x ∷ xs) ys)) (find_none y.0 (x ∷ xs) all))
 
   pub merged : (xs : List (List ℕ × X)) → Ascend xs → (ys : List (List ℕ × Y)) → Ascend ys → over xs ys ≡ against xs ys
   unfolding IsStrictlySortedBy
-  merged [] up ys vp = sym (kept_none _ ys (λ y. refl))
-  merged (x ∷ xs) up ys vp = merged_from x xs (λ zs zp. merged xs up.1 zs zp) up ys vp
+  merged [] up ys vp = sym (kept_none (by_second []) ys (λ y. refl))
+  merged (x ∷ xs) up ys vp = merged_from x xs (λ zs zp. merged xs up.1 zs zp) up.0 ys vp
 
 -- ---- the pair of an owner in the digest
 
@@ -185,12 +192,21 @@ module _ (held : Held) (b : Backlog) (is : IsHoldings held) where
   looked_up owner None v = refl
   looked_up owner (Some t) v = refl
 
+  abbrev since : List ℕ → Table → ℕ → Option Part
+  since owner t v = part_since owner (Some t) v
+
+  abbrev looked : List ℕ × ℕ → Option Part
+  looked q = part_since q.0 (table_of held q.0) q.1
+
+  found_of_backlog : (q : List ℕ × ℕ) → looked q ≡ by_second since tables q
+  found_of_backlog q = looked_up q.0 (table_of held q.0) q.1 ∙ ap (λ (o : Option Table). if_found o (λ t. part_since q.0 (Some t) q.1)) (table_found q.0)
+
   -- owner by owner of the backlog, as owner by owner of what is held
   pub since_pieces : filter_map (λ (q : List ℕ × ℕ). part_since q.0 (table_of held q.0) q.1) (entries b) ≡ all_pieces (covers asked) (number_for asked) tables
   since_pieces =
-      kept_same _ _ (entries b) (λ q s. looked_up q.0 (table_of held q.0) q.1 ∙ ap (λ o. if_found o (λ t. part_since q.0 (Some t) q.1)) (table_found q.0))
-      ∙ sym (merged (λ owner t v. part_since owner (Some t) v) tables tables_ascend (entries b) (entries_ascend b))
-      ∙ sym (kept_same _ _ tables found_piece)
+      kept_same looked (by_second since tables) (entries b) (λ q s. found_of_backlog q)
+      ∙ sym (merged since tables tables_ascend (entries b) (entries_ascend b))
+      ∙ sym (kept_same (piece_at (covers asked) (number_for asked)) (by_first since (entries b)) tables found_piece)
 
   pub since_parts : AreParts held asked (all_pieces (covers asked) (number_for asked) tables)
   since_parts =

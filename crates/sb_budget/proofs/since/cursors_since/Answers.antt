@@ -13,5 +13,5 @@ returns-clause-parts c =
     subst (AreParts held (digest_since held backlog))
     (sym (sym (append-nil c.loop-owner.cursors.items)
     ∙ ap (λ (es : List (List ℕ × ℕ)). c.loop-owner.cursors.items ++ filter_map (λ (q : List ℕ × ℕ). part_since q.0 (table_of held q.0) q.1) es) (sym c.in-None.ensures.steps.0)
-    ∙ c.loop-owner.invariant ∙ since_pieces held backlog c.requires))
-    (since_parts held backlog c.requires)
+    ∙ c.loop-owner.invariant ∙ since_pieces held backlog c.requires.holdings))
+    (since_parts held backlog c.requires.holdings)
