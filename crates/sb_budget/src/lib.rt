@@ -24,9 +24,9 @@
 //!
 //! # What no contract refuses
 //!
-//! - `available`, `cut`, `cursors`, `cut_in_turns`, or `push` or `finish` of a `DeltaBuilder`, reports `NoMemory`
-//!   without need, even for a peer that lacks nothing. Tests run each with ample memory, and once at full size. They
-//!   compare exact answers.
+//! - `available`, `cut`, `cursors`, `cursors_since`, `cut_in_turns`, `add` of a `Backlog`, or `push` or `finish` of a
+//!   `DeltaBuilder`, reports `NoMemory` without need, even for a peer that lacks nothing. Tests run each with ample
+//!   memory, and once at full size. They compare exact answers.
 //! - A cursor looks up entries although nothing of its owner is sent, or a call takes more time or room than it should.
 //!   Nothing refuses it; `attrdir_bench` measures.
 //! - `Debug` prints another text. Nothing refuses it.

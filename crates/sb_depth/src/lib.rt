@@ -18,8 +18,9 @@
 //!
 //! # What no contract refuses
 //!
-//! - `delta` reports `NoMemory` without need, even for a peer that lacks nothing. Tests run it with ample memory, and
-//!   once at full size. They compare exact answers. A clause refuses it for `arrange`, which takes no memory.
+//! - `delta` or `delta_of` reports `NoMemory` without need, even for a peer that lacks nothing. Tests run both with
+//!   ample memory, and once at full size. They compare exact answers. A clause refuses it for `arrange`, which takes no
+//!   memory.
 //! - A call takes longer than it should. Nothing refuses it; `attrdir_bench` measures.
 #![tactic(auto)]
 

@@ -16,9 +16,10 @@ pub(crate) fn add_risen(
     ensures ok { OnOk result (news.new ≡ spec.with_risen news.old holdings.now versions.now) }
     ensures memory { IfErr result (λ fault. fault ≡ Fault.NoMemory) }
 {
-    for (owner, version) in versions {
-        if holdings.upto(owner) > *version {
-            news.add(*owner, *version)?;
+    for pair in versions {
+        let (owner, version) = *pair;
+        if holdings.upto(&owner) > version {
+            news.add(owner, version)?;
         }
     }
     Ok(())

@@ -1,3 +1,3 @@
 pub mod Saying
 pub mod Talking
-pub mod Pushing
+pub mod PushEnds
