@@ -60,10 +60,9 @@ module _ (s : Session) (old : Connection) where
 
   fault_comes : (new : Connection) (fault : Fault) (stream : Stream) → Receives stream new.stream old.input new.input old.left new.left (Err fault) → AwaitsFrom s stream old new (Err fault)
   fault_comes new fault (open_with held) r = record { bytes = r.bytes; consumed = r.consumed; ends = at_reading_first fault refl r.given }
-  fault_comes new fault shut r = (ap Err (same fault r.0), r.1, r.2, r.3)
-    where
-      same : (f : Fault) → Err {A = Option Message} f ≡ Err Closed → f ≡ Closed
-      same f e = cc
+  fault_comes new fault shut r =
+      let same : fault ≡ Closed = cc (r.0) in
+      (ap Err same, r.1, r.2, r.3)
 
   pub awaits_fault : (new : Connection) (fault : Fault) → ReceivesOn old new (Err fault) → Awaits s old new (Err fault)
   awaits_fault new fault received = fault_comes new fault old.stream received
