@@ -1,24 +1,21 @@
 -- A push as far as it has come, and how it ends.
-use Rattle.std.proofs.Common.{◌≡◌, ◌≢◌, ℕ, ◌≤◌, Bool, true, false, List, [], ◌∷◌, ◌++◌, Option, Some, None, Result, Ok, Err, refl, sym, ap, subst, ◌∙◌, append_assoc}
+use Rattle.std.proofs.Common.{◌≡◌, ℕ, true, false, List, [], ◌∷◌, ◌++◌, Option, Some, None, Result, Ok, Err, refl, sym, ap, subst, ◌∙◌, append_assoc}
 use Rattle.std.specs.List.{flat_map}
 use Rattle.std.specs.Io.KnownBytes.{Keeps, Appends, Consumes}
 use Rattle.std.proofs.KnownBytes.{Consumes-trans}
 use Rattle.std.proofs.lemmas.List.{append-nil}
 use Rattle.sb_types.specs.declared.fault.Fault.{Fault}
-use Rattle.sb_types.specs.declared.fault.Fault.TheVariants.{Closed, ReadFailed, WriteFailed}
+use Rattle.sb_types.specs.declared.fault.Fault.TheVariants.{Closed}
 use Rattle.sb_types.specs.Records.{Block}
 use Rattle.sb_codec.specs.declared.message.Message.{Message}
 use Rattle.sb_frames.specs.Frames.{frame, whole, front_of}
 use Rattle.sb_frames.specs.Streams.{Stream, open_with, shut, Hands}
 use Rattle.sb_frames.specs.Connections.{Connection, at_start, KeepsInput, KeepsOutput, ReceivesOn}
-use Rattle.sb_frames.specs.declared.last_write.Outcome.{Outcome}
-use Rattle.sb_frames.specs.Sending.{OnlyWhereFailed}
-use Rattle.sb_frames.specs.Receiving.{is_shut, Receives, ReceivesOpen, OnlyWhereReadFailed}
+use Rattle.sb_frames.specs.Receiving.{is_shut, Receives, ReceivesOpen}
 use Rattle.sb_frames.proofs.Fronts.{front_frame}
 use Rattle.sb_session.specs.declared.pushing.PushEnd.{PushEnd}
 use Rattle.sb_session.specs.declared.pushing.PushEnd.TheVariants.{AfterHello, BeforeHello}
 use Rattle.sb_session.specs.Sessions.{Session}
-use Rattle.sb_session.specs.Taking.{is_session_fault}
 use Rattle.sb_session.specs.Telling.{CutShort}
 use Rattle.sb_session.specs.Pushes.{pushed_by, first_refusal, TakesFirstUnless, Awaiting, before_hello, after_hello, at_first, at_second, at_reading_first, at_reading_second, AwaitsOpen, AwaitsFrom, Awaits, PushesOpen, heard, cut, PushesFrom, Pushes}
 use Rattle.sb_session.proofs.Talking.{stops_later}
@@ -32,21 +29,6 @@ first_refused None s s' fault takes = absurd takes
 pub first_taken : {X : Type 0} (o : Option Fault) (s s' : Session) (x : X) → TakesFirstUnless o s (Ok x) s' → o ≡ None
 first_taken (Some other) s s' x takes = absurd cc (takes.0)
 first_taken None s s' x takes = refl
-
--- a session's fault reports no write and no read
-session_wrote : (X : Type 0) (fault : Fault) (last : Outcome) → is_session_fault fault ≡ true → OnlyWhereFailed {X = X} (Err fault) last
-session_wrote X (WriteFailed count) last is = absurd cc
-session_wrote X _ last is = tt
-
-pub session_unwritten : {X : Type 0} (answer : Result X Fault) (fault : Fault) (last : Outcome) → answer ≡ Err fault → is_session_fault fault ≡ true → OnlyWhereFailed answer last
-session_unwritten {X} answer fault last is of_session = rw is (session_wrote X fault last of_session)
-
-session_read : (X : Type 0) (fault : Fault) (last : Bool) → is_session_fault fault ≡ true → OnlyWhereReadFailed {X = X} (Err fault) last
-session_read X ReadFailed last is = absurd cc
-session_read X _ last is = tt
-
-pub session_unread : {X : Type 0} (answer : Result X Fault) (fault : Fault) (last : Bool) → answer ≡ Err fault → is_session_fault fault ≡ true → OnlyWhereReadFailed answer last
-session_unread {X} answer fault last is of_session = rw is (session_read X fault last of_session)
 
 -- ---- the peer is heard
 
