@@ -22,13 +22,13 @@ use Rattle.sb_session.proofs.Talking.{stops_later}
 
 -- ---- the first message
 
-pub first_refused : {X : Type 0} (o : Option Fault) (s s' : Session) (fault : Fault) → TakesFirstUnless {X = X} o s (Err fault) s' → o ≡ Some fault
-first_refused (Some other) s s' fault takes = cc (takes.0)
-first_refused None s s' fault takes = absurd takes
+pub first_refused : (X : Type 0) (o : Option Fault) (s s' : Session) (fault : Fault) → TakesFirstUnless {X = X} o s (Err fault) s' → o ≡ Some fault
+first_refused X (Some other) s s' fault takes = cc (takes.0)
+first_refused X None s s' fault takes = absurd takes
 
-pub first_taken : {X : Type 0} (o : Option Fault) (s s' : Session) (x : X) → TakesFirstUnless o s (Ok x) s' → o ≡ None
-first_taken (Some other) s s' x takes = absurd cc (takes.0)
-first_taken None s s' x takes = refl
+pub first_taken : (X : Type 0) (o : Option Fault) (s s' : Session) (x : X) → TakesFirstUnless {X = X} o s (Ok x) s' → o ≡ None
+first_taken X (Some other) s s' x takes = absurd cc (takes.0)
+first_taken X None s s' x takes = refl
 
 -- ---- the peer is heard
 
