@@ -240,8 +240,8 @@ fn what_enters_nothing_is_no_news(rt: HostRuntime) {
         (Call::Delta(b"b", 0, b"x"), ended(BlockEnd::Stale)),
         (Call::Delta(b"b", 4, b"x"), ended(BlockEnd::Gap)),
         (Call::Delta(b"c", 4, b"x"), ended(BlockEnd::Gap)),
-        (Call::Delta(b"a", 0, b"x"), ended(BlockEnd::OwnAhead(1))),
         (Call::TakeOfAnother, refused(Fault::WrongOwner)),
+        (Call::Delta(b"a", 0, b"x"), ended(BlockEnd::OwnAhead(1))),
         (Call::News, news(None, None, 0, 0)),
     ];
     answers(&rt, rt.alloc(), &cases);
