@@ -215,7 +215,7 @@ impl<S: DirectoryTag, R: Wait + Drop> Directory<S, R> {
         node.core().deltas(digest)
     }
 
-    /// Takes the news: the owners of whom the node came to hold more since the last call, or since the directory was made. Each has
+    /// Takes the news: the owners whose held version rose since the last call, or since the directory was made. Each has
     /// the version up to which it was held then. Writes that are in a stage are not held yet. An owner is missing if there was no
     /// memory for it. It takes no memory, and is not noted as a call of a seat.
     pub fn take_news<Q: Wait>(&self, rt: &Q) -> Backlog {

@@ -1,4 +1,4 @@
-//! Which owners rose: of whom more is held than before.
+//! Owners whose held version rose.
 ghost use Rattle.std.specs.Prelude.{◌≡◌, IfErr, OnOk};
 ghost use Rattle.sb_directory.specs.Risen as spec;
 

@@ -43,8 +43,8 @@ pub(crate) struct ViewedNode<S: DirectoryTag, R: Wait + Drop> {
     history: History<S>,
     views: ViewWriter<S, R>,
     lacking: LackingOwners,
-    /// Of whom more came to be held since `take_news`, each with the version up to which it was held then. An owner for which
-    /// there was no memory is not there.
+    /// The owners whose held version rose since `take_news`, each with the version up to which it was held then. An owner for
+    /// which there was no memory is not there.
     news: Backlog,
     book: Book<S>,
     // What is left of the ledger once each seat has its part.
@@ -180,7 +180,7 @@ impl<S: DirectoryTag, R: Wait + Drop> ViewedNode<S, R> {
         Ok(Applied { ends, shown })
     }
 
-    /// Takes the news: of whom more came to be held since the last call, each with the version up to which it was held then.
+    /// Takes the news: the owners whose held version rose since the last call, each with the version up to which it was held then.
     pub(crate) fn take_news(&mut self) -> Backlog
         ensures { self.new ≡ self.old }
     {
