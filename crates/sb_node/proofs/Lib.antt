@@ -5,3 +5,4 @@ pub mod Own
 pub mod Sessions
 pub mod Told
 pub mod PushTruth
+pub mod Listed
