@@ -65,12 +65,7 @@ impl DeltaOrder for Breadth {
         Ok(items)
     }
 
-    fn delta_of(
-        &self,
-        alloc: Global,
-        owners: Vec<Cursor<'_>>,
-        budget: u64,
-    ) -> Result<Delta, Fault>
+    fn delta_of(&self, alloc: Global, owners: Vec<Cursor<'_>>, budget: u64) -> Result<Delta, Fault>
         requires least { BUDGET_LEAST ≤ budget }
         requires most { budget ≤ BUDGET_MOST }
         requires owners { AreOffered owners.items }

@@ -30,12 +30,7 @@ pub trait DeltaOrder {
     /// Returns what these owners offer, in this order: the longest prefix that fits a frame of `budget` bytes, 1,024 to
     /// 65,536. If there is an owner, the delta has at least one block. The owners have to be those of `cursors` or of
     /// `cursors_since`, in ascending order of their names. The only fault is `NoMemory`.
-    fn delta_of(
-        &self,
-        alloc: Global,
-        owners: Vec<Cursor<'_>>,
-        budget: u64,
-    ) -> Result<Delta, Fault>
+    fn delta_of(&self, alloc: Global, owners: Vec<Cursor<'_>>, budget: u64) -> Result<Delta, Fault>
         requires least { BUDGET_LEAST ≤ budget }
         requires most { budget ≤ BUDGET_MOST }
         requires owners { AreOffered owners.items }

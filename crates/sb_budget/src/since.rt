@@ -11,11 +11,7 @@ use sb_types::{Fault, Name};
 use std::alloc::Global;
 
 /// Makes the cursor of what is offered of an owner above a version, if the owner is held above it and its floor is not.
-fn cursor_since<'a>(
-    holdings: &'a Holdings,
-    owner: &'a Name,
-    version: u64,
-) -> Option<Cursor<'a>>
+fn cursor_since<'a>(holdings: &'a Holdings, owner: &'a Name, version: u64) -> Option<Cursor<'a>>
     ensures part { result ≡ part_since owner.now (table_of holdings.now owner.now) version }
 {
     let table = holdings.table(owner)?;
