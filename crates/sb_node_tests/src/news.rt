@@ -47,7 +47,12 @@ fn lacks(
 ) {
     let delta = got(rt, core.news(&backlog_of(rt, alloc, owners)));
     let (_, is_all) = tells(&delta, wanted.0);
-    same_at(rt, &owners, &(is_all, delta.blocks().len()), &(true, wanted.1));
+    same_at(
+        rt,
+        &owners,
+        &(is_all, delta.blocks().len()),
+        &(true, wanted.1),
+    );
 }
 
 #[test]
@@ -109,9 +114,17 @@ fn news_is_taken(rt: HostRuntime) {
     let mut peer = node(&rt, alloc, name(&rt, b"m"), 1_024, Order::Breadth);
     let delta = got(&rt, core.news(&backlog_of(&rt, alloc, &[(a, 1), (b, 0)])));
     let found = applied(&rt, &mut peer, &delta);
-    same(&rt, &found.ends(), &[BlockEnd::Gap, BlockEnd::Taken(2)].as_slice());
+    same(
+        &rt,
+        &found.ends(),
+        &[BlockEnd::Gap, BlockEnd::Taken(2)].as_slice(),
+    );
     let found = applied(&rt, &mut peer, &delta);
-    same(&rt, &found.ends(), &[BlockEnd::Gap, BlockEnd::Stale].as_slice());
+    same(
+        &rt,
+        &found.ends(),
+        &[BlockEnd::Gap, BlockEnd::Stale].as_slice(),
+    );
     same(&rt, &[peer.upto(&a), peer.upto(&b)], &[0, 2]);
 }
 
@@ -120,7 +133,11 @@ fn long_block(rt: &impl Abort, alloc: Global, owner: Name, letters: &[u8]) -> Bl
     let mut entries = Vec::new(alloc);
     for (index, letter) in letters.iter().enumerate() {
         let slot = longest(rt, alloc);
-        push(rt, &mut entries, Entry::new(key(rt, &[*letter]), index as u64 + 1, slot));
+        push(
+            rt,
+            &mut entries,
+            Entry::new(key(rt, &[*letter]), index as u64 + 1, slot),
+        );
     }
     got(rt, Block::new(owner, 0, 0, letters.len() as u64, entries))
 }
@@ -165,7 +182,11 @@ fn a_floor_is_left_to_digests(rt: HostRuntime) {
     let mut core = node(&rt, alloc, name(&rt, b"n"), 1_024, Order::Breadth);
     let first = take(&rt, alloc, &mut core, purged(&rt, alloc, a));
     let second = take(&rt, alloc, &mut core, fourth(&rt, alloc, a));
-    same(&rt, &[first, second], &[Some(BlockEnd::Taken(0)), Some(BlockEnd::Taken(1))]);
+    same(
+        &rt,
+        &[first, second],
+        &[Some(BlockEnd::Taken(0)), Some(BlockEnd::Taken(1))],
+    );
     lacks(&rt, alloc, &core, &[(a, 0)], (&[], 0));
     lacks(&rt, alloc, &core, &[(a, 2)], (&[], 0));
     lacks(&rt, alloc, &core, &[(a, 3)], (&[(a, 4)], 1));
@@ -219,7 +240,11 @@ fn one_write(alloc: Global) -> Result<Holdings, Fault> {
 fn cursors_at(rt: &impl Abort, alloc: Global, version: u64) -> usize {
     let mut holdings = got(rt, one_write(alloc));
     // Another owner, which is not in the backlog.
-    let end = apply(rt, &mut holdings, &block_of(rt, alloc, name(rt, b"b"), b"x"));
+    let end = apply(
+        rt,
+        &mut holdings,
+        &block_of(rt, alloc, name(rt, b"b"), b"x"),
+    );
     same(rt, &end, &BlockEnd::Taken(1));
     let backlog = backlog_of(rt, alloc, &[(name(rt, b"a"), version)]);
     got(rt, cursors_since(alloc, &holdings, &backlog)).len()

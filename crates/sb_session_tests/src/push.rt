@@ -76,7 +76,11 @@ fn push_on<L: Ledger>(
     let (reader, writer) = streams;
     let mut connection = Connection::new(alloc, reader, writer, reads, Steps::<L>::new(blank));
     let ended = push(&mut connection, session, delta);
-    (ended, connection.has_write_failed(), connection.has_read_failed())
+    (
+        ended,
+        connection.has_write_failed(),
+        connection.has_read_failed(),
+    )
 }
 
 /// What a push reports. If memory was missing in it, the test ends.
@@ -107,7 +111,12 @@ fn ends_so(rt: &impl Abort, alloc: Global, pieces: &[&[u8]], wanted: Result<Push
     for piece in [1, 7, 4_096] {
         terms.piece = piece;
         let found = outcome(rt, alloc, terms);
-        same_at(rt, &(piece, input.len()), &found, &((wanted, false, false), true, 0));
+        same_at(
+            rt,
+            &(piece, input.len()),
+            &found,
+            &((wanted, false, false), true, 0),
+        );
     }
 }
 
@@ -236,20 +245,23 @@ fn a_push_is_taken(rt: HostRuntime) {
     let alloc = rt.alloc();
     let input = joined(&rt, alloc, &[HELLO_A, &DELTA_A, BYE]);
     let mut node = Node::new(&rt, alloc, b"b", false);
-    same(&rt, &served(&rt, &mut node, &input, &[HELLO_B]), &(Ok(Ended::Bye(1)), true));
+    same(
+        &rt,
+        &served(&rt, &mut node, &input, &[HELLO_B]),
+        &(Ok(Ended::Bye(1)), true),
+    );
     same(&rt, &node.upto(&rt, b"a"), &1);
     // The same push again changes nothing.
-    same(&rt, &served(&rt, &mut node, &input, &[HELLO_B]), &(Ok(Ended::Bye(1)), true));
+    same(
+        &rt,
+        &served(&rt, &mut node, &input, &[HELLO_B]),
+        &(Ok(Ended::Bye(1)), true),
+    );
     same(&rt, &node.upto(&rt, b"a"), &1);
 }
 
 /// Takes the first message in a session of a in the cluster c1, and then another.
-fn take_two(
-    rt: &impl Abort,
-    alloc: Global,
-    first: &[u8],
-    second: &[u8],
-) -> [Result<(), Fault>; 2] {
+fn take_two(rt: &impl Abort, alloc: Global, first: &[u8], second: &[u8]) -> [Result<(), Fault>; 2] {
     let mut session = Session::new(name(rt, b"c1"), name(rt, b"a"));
     let answer = session.take_first(&read(rt, alloc, first));
     [answer, session.take_first(&read(rt, alloc, second))]
