@@ -18,18 +18,21 @@
 //!
 //! # What no contract refuses
 //!
-//! - `delta` reports `NoMemory` without need, even for a peer that lacks nothing. Tests run it with ample memory, and
-//!   once at full size. They compare exact answers. A clause refuses it for `arrange`, which takes no memory.
+//! - `delta` or `delta_of` reports `NoMemory` without need, even for a peer that lacks nothing. Tests run both with
+//!   ample memory, and once at full size. They compare exact answers. A clause refuses it for `arrange`, which takes no
+//!   memory.
 //! - A call takes longer than it should. Nothing refuses it; `attrdir_bench` measures.
 #![tactic(auto)]
 
 ghost use Rattle.std.specs.Prelude.{◌≡◌, ◌≤◌, ◌<◌, length, IfOk, IfErr, IsOk, IsPermutation, IsSorted};
+ghost use Rattle.sb_holdings.specs.Held.{Held};
+ghost use Rattle.sb_digest.specs.Digests.{Digest};
 ghost use Rattle.sb_budget.specs.Available.{available_for};
 ghost use Rattle.sb_budget.specs.Orders.{IsOffer, AscendsByOwner};
-ghost use Rattle.sb_budget.specs.Parts.{IsDeltaBy};
+ghost use Rattle.sb_budget.specs.Parts.{AreParts, AreOffered, IsDeltaBy};
 ghost use Rattle.sb_breadth.specs.Breadth.{by_rank};
 
-use sb_budget::{DeltaOrder, Offered, Turns, cursors, cut_in_turns};
+use sb_budget::{Cursor, DeltaOrder, Offered, Turns, cursors, cut_in_turns};
 use sb_digest::Digest;
 use sb_holdings::Holdings;
 use sb_types::{BUDGET_LEAST, BUDGET_MOST, Delta, Fault};
@@ -62,6 +65,19 @@ impl DeltaOrder for Breadth {
         Ok(items)
     }
 
+    fn delta_of(&self, alloc: Global, owners: Vec<Cursor<'_>>, budget: u64) -> Result<Delta, Fault>
+        requires least { BUDGET_LEAST ≤ budget }
+        requires most { budget ≤ BUDGET_MOST }
+        requires owners { AreOffered owners.items }
+        ensures order { (held : Held) (digest : Digest) → AreParts held digest owners.entry.items → IfOk result (IsDeltaBy (IsSorted by_rank) budget held digest) }
+        ensures delta { (held : Held) (digest : Digest) → AreParts held digest owners.entry.items → IfOk result (IsDeltaBy AscendsByOwner budget held digest) }
+        ensures goes { (held : Held) (digest : Digest) → AreParts held digest owners.entry.items →
+            IfOk result (λ delta. 0 < length (available_for held digest) → 0 < length delta) }
+        ensures memory { IfErr result (λ fault. fault ≡ Fault.NoMemory) }
+    {
+        cut_in_turns(alloc, owners, Turns::Last, budget)
+    }
+
     fn delta(
         &self,
         alloc: Global,
@@ -77,6 +93,6 @@ impl DeltaOrder for Breadth {
         ensures memory { IfErr result (λ fault. fault ≡ Fault.NoMemory) }
     {
         let owners = cursors(alloc, holdings, digest)?;
-        cut_in_turns(alloc, owners, Turns::Last, budget)
+        self.delta_of(alloc, owners, budget)
     }
 }

@@ -203,11 +203,11 @@ filter_all : (es : List (List ℕ × Holder)) → filter (λ p. is_from None p.0
 filter_all [] = refl
 filter_all (e ∷ es) = ap (λ r. e ∷ r) (filter_all es)
 
-keys_shown : (es : List (List ℕ × Holder)) → keys_of (each_shown es) ≡ keys_of es
+pub keys_shown : (es : List (List ℕ × Holder)) → keys_of (each_shown es) ≡ keys_of es
 keys_shown [] = refl
 keys_shown (e ∷ es) = ap (λ r. e.0 ∷ r) (keys_shown es)
 
-all_tables : (held : Held) → tables_from None held ≡ each_shown (entries held.owners)
+pub all_tables : (held : Held) → tables_from None held ≡ each_shown (entries held.owners)
 all_tables held = ap each_shown (filter_all (entries held.owners))
 
 module _ (held : Held) (up : IsStrictlySortedBy text_cmp (keys_of (tables_from None held))) where
@@ -215,7 +215,7 @@ module _ (held : Held) (up : IsStrictlySortedBy text_cmp (keys_of (tables_from N
   names_rise = subst (IsStrictlySortedBy text_cmp) (ap keys_of (all_tables held) ∙ keys_shown (entries held.owners)) up
 
   -- what holds of what is shown of each holder holds of each table
-  each_table : (P : Holder → Type 0) (Q : Table → Type 0) → ((h : Holder) → P h → Q h.shown) → ((owner : List ℕ) → IfSome (get held.owners owner) P) → (p : List ℕ × Table) → Stands (tables_from None held) p → Q p.1
+  pub each_table : (P : Holder → Type 0) (Q : Table → Type 0) → ((h : Holder) → P h → Q h.shown) → ((owner : List ℕ) → IfSome (get held.owners owner) P) → (p : List ℕ × Table) → Stands (tables_from None held) p → Q p.1
   each_table P Q shown each p s =
       let from = mapped_from (λ (q : List ℕ × Holder). (q.0, q.1.shown)) (entries held.owners) p (subst (λ (ts : List (List ℕ × Table)). Stands ts p) (all_tables held) s) in
       let h = from.0 in

@@ -13,3 +13,5 @@ pub mod PartLemmas
 pub mod TurnLemmas
 pub mod ListingLemmas
 pub mod CursorLemmas
+pub mod BacklogLemmas
+pub mod SinceLemmas

@@ -7,3 +7,4 @@ pub mod Available
 pub mod Parts
 pub mod Turns
 pub mod Cursors
+pub mod Backlogs

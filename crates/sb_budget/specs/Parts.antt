@@ -42,6 +42,10 @@ pub record AreParts (held : Held) (digest : Digest) (parts : List Part) : Type 0
   pub chains : All (λ p. (p.next.rank ≡ 0) × IsChain p.next p.later) parts
   pub names : AllPairs (λ p q. slice_cmp nat_cmp p.next.owner q.next.owner ≡ Less) parts
 
+-- they are what some node offers in answer to some digest
+abbrev pub AreOffered : List Part → Type 0
+AreOffered parts = (held : Held) × (digest : Digest) × AreParts held digest parts
+
 -- the longest prefix within the budget, of a listing of all that is available, in which each owner's items keep their
 -- order
 pub record IsDeltaBy (IsListing : List Offered → Type 0) (budget : ℕ) (held : Held) (digest : Digest) (blocks : List Block) : Type 0 where

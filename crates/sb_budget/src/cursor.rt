@@ -77,7 +77,7 @@ fn count_above(table: &Table, after: u64) -> u64
 
 impl<'a> Cursor<'a> {
     /// Makes the cursor of what is offered of a table above a version, if the table is held above that.
-    fn new(owner: &'a Name, table: &'a Table, after: u64) -> Option<Cursor<'a>>
+    pub(crate) fn new(owner: &'a Name, table: &'a Table, after: u64) -> Option<Cursor<'a>>
         ensures part { result ≡ part_of (ranked_of owner.now table.now after) }
     {
         if table.upto() <= after {

@@ -2,7 +2,7 @@
 //!
 //! `available` lists what a peer lacks, by its digest. `cut` makes the longest delta of a list that fits a budget. A
 //! `DeltaOrder` decides what is sent first. A running node makes no list: its order calls `cursors` and `cut_in_turns`,
-//! which make the same delta owner by owner. The crate uses `sb_holdings` and `sb_digest`. `sb_breadth` and `sb_depth`
+//! which make the same delta owner by owner. `cursors_since` takes a `Backlog` in place of a digest. The crate uses `sb_holdings` and `sb_digest`. `sb_breadth` and `sb_depth`
 //! are the two orders.
 //!
 //! ```rust
@@ -24,15 +24,16 @@
 //!
 //! # What no contract refuses
 //!
-//! - `available`, `cut`, `cursors`, `cut_in_turns`, or `push` or `finish` of a `DeltaBuilder`, reports `NoMemory`
-//!   without need, even for a peer that lacks nothing. Tests run each with ample memory, and once at full size. They
-//!   compare exact answers.
+//! - `available`, `cut`, `cursors`, `cursors_since`, `cut_in_turns`, `add` of a `Backlog`, or `push` or `finish` of a
+//!   `DeltaBuilder`, reports `NoMemory` without need, even for a peer that lacks nothing. Tests run each with ample
+//!   memory, and once at full size. They compare exact answers.
 //! - A cursor looks up entries although nothing of its owner is sent, or a call takes more time or room than it should.
 //!   Nothing refuses it; `attrdir_bench` measures.
 //! - `Debug` prints another text. Nothing refuses it.
 #![tactic(auto)]
 
 mod availability;
+mod backlog;
 mod block_builder;
 mod cursor;
 mod cutting;
@@ -41,9 +42,11 @@ mod head;
 mod laws;
 mod offered;
 mod order;
+mod since;
 mod turns;
 
 pub use availability::available;
+pub use backlog::Backlog;
 pub use cursor::{Cursor, cursors};
 pub use cutting::cut;
 pub use delta_builder::DeltaBuilder;
@@ -51,4 +54,5 @@ pub use head::Head;
 pub use laws::{available_by_number, available_by_owner, cuts_are_honest, offers_are_honest};
 pub use offered::Offered;
 pub use order::{DeltaOrder, orders_keep_owners};
+pub use since::cursors_since;
 pub use turns::{Turns, cut_in_turns};

@@ -5,8 +5,11 @@ ghost use Rattle.sb_budget.specs.Available.{available_for};
 ghost use Rattle.sb_budget.specs.Cut.{items_of_all, CanCut};
 ghost use Rattle.sb_budget.specs.Offers.{of_owner};
 ghost use Rattle.sb_budget.specs.Orders.{offered_by, IsOffer, AscendsByOwner};
-ghost use Rattle.sb_budget.specs.Parts.{IsDeltaBy};
+ghost use Rattle.sb_budget.specs.Parts.{AreParts, AreOffered, IsDeltaBy};
+ghost use Rattle.sb_holdings.specs.Held.{Held};
+ghost use Rattle.sb_digest.specs.Digests.{Digest};
 
+use crate::cursor::Cursor;
 use crate::offered::Offered;
 use sb_digest::Digest;
 use sb_holdings::Holdings;
@@ -22,6 +25,18 @@ pub trait DeltaOrder {
         requires { IsOffer items.items }
         ensures each_once { IfOk result (λ ordered. IsPermutation items.items ordered.items) }
         ensures ascending { IfOk result (λ ordered. AscendsByOwner ordered.items) }
+        ensures memory { IfErr result (λ fault. fault ≡ Fault.NoMemory) };
+
+    /// Returns what these owners offer, in this order: the longest prefix that fits a frame of `budget` bytes, 1,024 to
+    /// 65,536. If there is an owner, the delta has at least one block. The owners have to be those of `cursors` or of
+    /// `cursors_since`, in ascending order of their names. The only fault is `NoMemory`.
+    fn delta_of(&self, alloc: Global, owners: Vec<Cursor<'_>>, budget: u64) -> Result<Delta, Fault>
+        requires least { BUDGET_LEAST ≤ budget }
+        requires most { budget ≤ BUDGET_MOST }
+        requires owners { AreOffered owners.items }
+        ensures delta { (held : Held) (digest : Digest) → AreParts held digest owners.entry.items → IfOk result (IsDeltaBy AscendsByOwner budget held digest) }
+        ensures goes { (held : Held) (digest : Digest) → AreParts held digest owners.entry.items →
+            IfOk result (λ delta. 0 < length (available_for held digest) → 0 < length delta) }
         ensures memory { IfErr result (λ fault. fault ≡ Fault.NoMemory) };
 
     /// Returns what a peer that sent this digest lacks, in this order. It is the longest prefix that fits a frame of

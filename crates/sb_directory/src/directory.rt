@@ -4,6 +4,7 @@ ghost use mathlib.Core.List.{IsPrefix};
 ghost use Rattle.sb_types.specs.Faults.{Gives};
 ghost use Rattle.sb_holdings.specs.Held.{shown_of};
 ghost use Rattle.sb_holdings.specs.Treats.{Treats};
+ghost use Rattle.sb_budget.specs.Backlogs.{digest_since};
 ghost use Rattle.sb_session.specs.Handlers.{tells, gives, IsRefusal};
 ghost use Rattle.sb_node.specs.Cores.{own_keys};
 ghost use Rattle.sb_views.specs.Histories.{node_after};
@@ -21,6 +22,7 @@ use crate::seat::ReaderSeat;
 use crate::shares::seat_all;
 use crate::tag::DirectoryTag;
 use crate::viewed_node::ViewedNode;
+use sb_budget::Backlog;
 use sb_digest::Digest;
 use sb_log::Committed;
 use sb_node::NodeCore;
@@ -211,6 +213,33 @@ impl<S: DirectoryTag, R: Wait + Drop> Directory<S, R> {
         let mut node = self.node.lock(rt);
         node.note_call(seat);
         node.core().deltas(digest)
+    }
+
+    /// Takes the news: the owners whose held version rose since the last call, or since the directory was made. Each has
+    /// the version up to which it was held then. Writes that are in a stage are not held yet. An owner is missing if there was no
+    /// memory for it. It takes no memory, and is not noted as a call of a seat.
+    pub fn take_news<Q: Wait>(&self, rt: &Q) -> Backlog {
+        self.node.lock(rt).take_news()
+    }
+
+    /// What a peer with this backlog lacks, as of the node, whatever is in the backlog: the answer to the digest of a peer that has
+    /// all that the node holds, but of each owner in the backlog only what is up to its version there. An owner whose floor is above
+    /// that version is left out. `NoMemory`. Either way it is the seat's last call.
+    pub fn news<Q: Wait>(
+        &self,
+        rt: &Q,
+        seat: &mut ReaderSeat<S>,
+        backlog: &Backlog,
+    ) -> Result<Delta, Fault>
+        ensures answer { AnswersAfter S.opening S.settings seat.new.last_call
+            (gives (digest_since (node_after S.opening seat.new.last_call).held backlog.now) result) }
+        ensures begins { spec.Begins seat.new.last_call seat.old }
+        ensures seat { seat.new ≡ spec.with_last_call seat.old seat.new.last_call }
+        ensures memory { IfErr result (λ fault. fault ≡ Fault.NoMemory) }
+    {
+        let mut node = self.node.lock(rt);
+        node.note_call(seat);
+        node.core().news(backlog)
     }
 
     /// The greatest version under the own name with which a block came and that the node never wrote; none if no block did. It is the

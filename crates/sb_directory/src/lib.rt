@@ -64,6 +64,9 @@
 //! - `Directory::unwatch` drops nothing and returns `Ok`. Tests refuse it.
 //! - `Directory::poll` returns that there is no note, repeats one, makes one up with a held version, or drops its
 //!   watch. Tests refuse it. Private clauses cover one call under the lock, not a second that nobody asked for.
+//! - `Directory::take_news` leaves out an owner whose held version rose, has one whose version did not rise, or has a
+//!   wrong version. A delta for any backlog is honest. Clauses of `add_risen` and tests in
+//!   `crates/sb_directory_tests` refuse it.
 //! - Views find no memory, or `enter` is refused, so `shown` is never true. Tests refuse it.
 //! - `refresh` returns true before all that others' calls made is published. No clause can state it across the
 //!   lock.
@@ -77,6 +80,7 @@ mod lacking_owners;
 mod laws;
 mod notes;
 mod receipt;
+mod risen;
 mod seat;
 mod seat_handler;
 mod shares;

@@ -18,9 +18,11 @@ use crate::lacked::catch_up;
 use crate::lacking_owners::LackingOwners;
 use crate::notes::{push_note, push_notes_since, versions_of};
 use crate::receipt::{Applied, Closing, Receipt};
+use crate::risen::add_risen;
 use crate::seat::ReaderSeat;
 use crate::shares::join_all;
 use crate::tag::DirectoryTag;
+use sb_budget::Backlog;
 use sb_log::Committed;
 use sb_node::NodeCore;
 use sb_types::{Delta, Fault};
@@ -28,6 +30,7 @@ use sb_views::{EventRef, History, ViewWriter};
 use sb_watch::{Filter, Hub, Polled, WatchId};
 use std::alloc::Global;
 use std::marker::Model;
+use std::mem;
 use std::sync::Wait;
 use std::sync::ledger::{Book, Share};
 
@@ -40,6 +43,9 @@ pub(crate) struct ViewedNode<S: DirectoryTag, R: Wait + Drop> {
     history: History<S>,
     views: ViewWriter<S, R>,
     lacking: LackingOwners,
+    /// The owners whose held version rose since `take_news`, each with the version up to which it was held then. An owner for
+    /// which there was no memory is not there.
+    news: Backlog,
     book: Book<S>,
     // What is left of the ledger once each seat has its part.
     rest: Share<S>,
@@ -87,6 +93,7 @@ impl<S: DirectoryTag, R: Wait + Drop> ViewedNode<S, R> {
             history,
             views,
             lacking: LackingOwners::new(alloc),
+            news: Backlog::new(alloc),
             book,
             rest,
             alloc,
@@ -126,6 +133,8 @@ impl<S: DirectoryTag, R: Wait + Drop> ViewedNode<S, R> {
         self.lacking.add(me, since)?;
         self.core.take_own(committed)?;
         self.history.add(EventRef::TookOwn(entry));
+        let (version, _) = since;
+        let _ = self.news.add(me, version);
         push_note(&mut self.hub, &me, entry);
         seat.count(&mut self.book);
         Ok(Receipt {
@@ -164,10 +173,18 @@ impl<S: DirectoryTag, R: Wait + Drop> ViewedNode<S, R> {
         self.lacking.add_owners(self.core.holdings(), blocks)?;
         let ends = self.core.apply(delta)?;
         self.history.add(EventRef::Applied(delta, &ends));
+        let _ = add_risen(&mut self.news, self.core.holdings(), &versions);
         push_notes_since(&mut self.hub, self.core.holdings(), versions);
         seat.count(&mut self.book);
         let shown = self.refresh(seat);
         Ok(Applied { ends, shown })
+    }
+
+    /// Takes the news: the owners whose held version rose since the last call, each with the version up to which it was held then.
+    pub(crate) fn take_news(&mut self) -> Backlog
+        ensures { self.new ≡ self.old }
+    {
+        mem::replace(&mut self.news, Backlog::new(self.alloc))
     }
 
     /// Notes a call of a seat, which changes nothing else.
@@ -290,6 +307,7 @@ impl<S: DirectoryTag, R: Wait + Drop> ViewedNode<S, R> {
             mut history,
             views: _views,
             lacking: _lacking,
+            news: _news,
             mut book,
             rest,
             alloc: _,

@@ -205,3 +205,61 @@ fn a_peer_has_later_writes(rt: HostRuntime) {
     };
     run_seated(&rt, core, run);
 }
+
+/// The news of a node: of a and of b, how many owners, and how many entries they are offered.
+fn news(of_a: Option<u64>, of_b: Option<u64>, owners: usize, entries: usize) -> Answer {
+    Answer::News(of_a, of_b, owners, entries)
+}
+
+/// Own writes and those of others are news once, from what was held when news was taken last.
+#[test]
+fn news_is_taken_once(rt: HostRuntime) {
+    let cases = [
+        (Call::News, news(None, None, 0, 0)),
+        (Call::Write(b"x"), Answer::Shown),
+        (Call::News, news(Some(0), None, 1, 1)),
+        (Call::News, news(None, None, 0, 0)),
+        (Call::Write(b"x"), Answer::Shown),
+        (Call::Write(b"y"), Answer::Shown),
+        (Call::Delta(b"b", 0, b"xyz"), taken(3)),
+        (Call::Delta(b"b", 3, b"x"), taken(1)),
+        // Of b, the first write under x was replaced by the fourth.
+        (Call::News, news(Some(1), Some(0), 2, 2 + 3)),
+        (Call::Delta(b"b", 4, b"z"), taken(1)),
+        (Call::News, news(None, Some(4), 1, 1)),
+    ];
+    answers(&rt, rt.alloc(), &cases);
+}
+
+/// What enters nothing is no news: a stale block, a gap, the own name, and a write that is refused.
+#[test]
+fn what_enters_nothing_is_no_news(rt: HostRuntime) {
+    let cases = [
+        (Call::Delta(b"b", 0, b"x"), taken(1)),
+        (Call::News, news(None, Some(0), 1, 1)),
+        (Call::Delta(b"b", 0, b"x"), ended(BlockEnd::Stale)),
+        (Call::Delta(b"b", 4, b"x"), ended(BlockEnd::Gap)),
+        (Call::Delta(b"c", 4, b"x"), ended(BlockEnd::Gap)),
+        (Call::TakeOfAnother, refused(Fault::WrongOwner)),
+        (Call::Delta(b"a", 0, b"x"), ended(BlockEnd::OwnAhead(1))),
+        (Call::News, news(None, None, 0, 0)),
+    ];
+    answers(&rt, rt.alloc(), &cases);
+}
+
+/// What goes to a stage is news once the stage replaces the table. It is left to rounds, since the floor is above the version
+/// that was held.
+#[test]
+fn a_stage_is_no_news(rt: HostRuntime) {
+    let cases = [
+        (Call::Delta(b"b", 0, b"x"), taken(1)),
+        (Call::News, news(None, Some(0), 1, 1)),
+        (Call::Floor(3, 2, b"xy"), taken(2)),
+        (Call::News, news(None, None, 0, 0)),
+        (Call::Floor(3, 3, b"xyz"), taken(1)),
+        (Call::News, news(None, Some(1), 1, 0)),
+        (Call::Delta(b"b", 3, b"w"), taken(1)),
+        (Call::News, news(None, Some(3), 1, 1)),
+    ];
+    answers(&rt, rt.alloc(), &cases);
+}

@@ -3,12 +3,13 @@
 use crate::making::{commit, delta_of, delta_with_floor, first_of, key, name, node_of, prefix};
 use crate::reached::Seated;
 use crate::{got, same_at, there};
+use sb_budget::Backlog;
 use sb_digest::Digest;
 use sb_directory::DirectoryTag;
 use sb_holdings::{BlockEnd, Report};
 use sb_log::{Committed, PlainLog};
 use sb_table::Table;
-use sb_types::{Delta, Fault};
+use sb_types::{Delta, Fault, Name};
 use sb_watch::{Filter, Note, Polled, WatchId};
 use std::alloc::Global;
 use std::process::Abort;
@@ -50,6 +51,8 @@ pub(crate) enum Call {
     Rows,
     /// A digest of all owners is made, and the delta for a peer that holds nothing.
     Tell,
+    /// The news is taken, and the delta for a peer with that backlog is made.
+    News,
 }
 
 /// What a call answers.
@@ -70,6 +73,9 @@ pub(crate) enum Answer {
     Rows(usize),
     /// How far the digest reports that a and b are held, and how many blocks the delta has.
     Told(u64, u64, usize),
+    /// Up to which versions the news says that a and b were held, if it has them. Then how many owners it has, and how many
+    /// entries the delta has.
+    News(Option<u64>, Option<u64>, usize, usize),
     Refused(Fault),
 }
 
@@ -171,6 +177,7 @@ impl<S: DirectoryTag, H: Wait + Drop> Desk<S, H> {
             Call::Read => self.read(rt),
             Call::Rows => Answer::Rows(self.node.read(rt).2),
             Call::Tell => self.tell(rt),
+            Call::News => self.news(rt),
         }
     }
 
@@ -282,6 +289,18 @@ impl<S: DirectoryTag, H: Wait + Drop> Desk<S, H> {
         Answer::Told(of_a, of_b, self.blocks_for_nothing(rt))
     }
 
+    fn news<Q: Wait + Abort>(&mut self, rt: &Q) -> Answer {
+        let backlog = self.node.take_news(rt);
+        let delta = got(rt, self.node.news(rt, &backlog));
+        let (of_a, of_b) = (name(rt, b"a"), name(rt, b"b"));
+        Answer::News(
+            version_in(&backlog, of_a),
+            version_in(&backlog, of_b),
+            owners_in(&backlog),
+            entries_in(&delta),
+        )
+    }
+
     /// How far the digest of all owners reports that a and b are held.
     fn told<Q: Wait + Abort>(&mut self, rt: &Q) -> (u64, u64) {
         let digest = got(rt, self.node.digest(rt, true));
@@ -296,6 +315,35 @@ impl<S: DirectoryTag, H: Wait + Drop> Desk<S, H> {
         let delta = got(rt, self.node.deltas(rt, &nothing(rt, self.alloc)));
         delta.blocks().len()
     }
+}
+
+/// The version of an owner in a backlog, if it is there.
+fn version_in(backlog: &Backlog, wanted: Name) -> Option<u64> {
+    let mut found = None;
+    for (owner, version) in backlog.owners() {
+        if *owner == wanted {
+            found = Some(*version);
+        }
+    }
+    found
+}
+
+/// How many owners are in a backlog.
+fn owners_in(backlog: &Backlog) -> usize {
+    let mut count: usize = 0;
+    for _ in backlog.owners() {
+        count = count.saturating_add(1);
+    }
+    count
+}
+
+/// How many entries a delta has.
+fn entries_in(delta: &Delta) -> usize {
+    let mut count: usize = 0;
+    for block in delta.blocks() {
+        count = count.saturating_add(block.entries().len());
+    }
+    count
 }
 
 /// Ends the test if memory was missing for a call, for a block, or to show what happened.

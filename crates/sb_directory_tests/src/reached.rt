@@ -3,6 +3,7 @@ ghost use Rattle.std.specs.Prelude.{◌≡◌};
 
 use crate::making::{name, prefix};
 use crate::{got, same, there};
+use sb_budget::Backlog;
 use sb_digest::Digest;
 use sb_directory::{Directory, DirectoryTag, ReaderSeat};
 use sb_holdings::Report;
@@ -107,6 +108,19 @@ impl<S: DirectoryTag, H: Wait + Drop> Seated<S, H> {
     ) -> Result<Delta, Fault> {
         let seat = there(rt, self.seat.as_mut());
         self.directory.deltas(rt, seat, digest)
+    }
+
+    pub(crate) fn take_news<Q: Wait + Abort>(&mut self, rt: &Q) -> Backlog {
+        self.directory.take_news(rt)
+    }
+
+    pub(crate) fn news<Q: Wait + Abort>(
+        &mut self,
+        rt: &Q,
+        backlog: &Backlog,
+    ) -> Result<Delta, Fault> {
+        let seat = there(rt, self.seat.as_mut());
+        self.directory.news(rt, seat, backlog)
     }
 
     pub(crate) fn conflict<Q: Wait + Abort>(&mut self, rt: &Q) -> Option<u64> {

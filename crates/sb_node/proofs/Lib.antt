@@ -4,3 +4,5 @@ pub mod Truth
 pub mod Own
 pub mod Sessions
 pub mod Told
+pub mod PushTruth
+pub mod Listed

@@ -13,6 +13,7 @@ ghost use Rattle.sb_digest.specs.Digests.{Digest};
 ghost use Rattle.sb_codec.specs.declared.message.Message.{Message};
 ghost use Rattle.sb_codec.specs.declared.message.Message.TheVariants as kinds;
 ghost use Rattle.sb_session.specs.declared.replies.Replies.{Replies};
+ghost use Rattle.sb_session.specs.Pushes.{pushed_by};
 ghost use Rattle.sb_session.specs.Sessions.{Session};
 ghost use Rattle.sb_session.specs.Taking.{Takes, Asks};
 ghost use Rattle.sb_session.specs.Talks.{Party, Move, Run, heard_in};
@@ -78,7 +79,8 @@ pub fn sessions_are_replays()
         Takes Steps s core (kinds.Delta blocks) (Ok replies) t new → AreBlocks blocks × AreEnds core blocks replies }
 {}
 
-/// Over a whole session that hears only true messages, what a node holds stays true, and all that it sends is true.
+/// Over a whole session that hears only true messages, what a node holds stays true, and all that it sends is true. All
+/// that it says in a push is true too, if the delta answers some digest, as news does.
 pub fn sessions_keep_truth()
     ensures holds { (writes : List ℕ → List Write) (a : Party Core) (moves : List Move) (said : List Message) (b : Party Core) →
         IsNode a.handler.node → NodeHolds writes a.handler.node → Run Steps a moves said b → AreTrueMessages writes (heard_in moves) →
@@ -86,6 +88,9 @@ pub fn sessions_keep_truth()
     ensures said { (writes : List ℕ → List Write) (a : Party Core) (moves : List Move) (said : List Message) (b : Party Core) →
         IsNode a.handler.node → NodeHolds writes a.handler.node → Run Steps a moves said b → AreTrueMessages writes (heard_in moves) →
         AreTrueMessages writes said }
+    ensures pushed { (writes : List ℕ → List Write) (s : Session) (core : Core) (digest : Digest) (blocks : List Block) →
+        IsNode core.node → NodeHolds writes core.node → IsAnswer core.settings.budget core.node.held digest blocks →
+        AreTrueMessages writes (pushed_by s blocks) }
 {
     calls_keep_truth();
     answers_are_honest();

@@ -26,7 +26,7 @@
 //!
 //! # What no contract refuses
 //!
-//! - `open`, `take_own`, `digest`, `deltas` or `apply` reports `NoMemory` without need, `deltas` even for a peer that
+//! - `open`, `take_own`, `digest`, `deltas`, `news` or `apply` reports `NoMemory` without need, `deltas` even for a peer that
 //!   lacks nothing. Or a block ends by `NoMemory` without need. Tests run each with ample memory, and once at full
 //!   size. They compare exact answers.
 //! - A call takes more time or room than it should. Nothing refuses it; `attrdir_bench` measures.

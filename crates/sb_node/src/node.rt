@@ -13,12 +13,13 @@ ghost use Rattle.sb_holdings.specs.Plain.{IsHoldings, own_answer};
 ghost use Rattle.sb_digest.specs.Builders.{IsLongestFront};
 ghost use Rattle.sb_digest.specs.Pairs.{pairs_from};
 ghost use Rattle.sb_budget.specs.Available.{available_for};
+ghost use Rattle.sb_budget.specs.Backlogs.{digest_since};
 ghost use Rattle.sb_node.specs.Answers.{IsDelta, IsAnswer};
 ghost use Rattle.sb_node.specs.Cores.{with_node, committed_answer, own_keys};
 ghost use Rattle.sb_holdings.specs.Treats.{Treats, took_each};
 
 use sb_breadth::Breadth;
-use sb_budget::DeltaOrder;
+use sb_budget::{Backlog, DeltaOrder, cursors_since};
 use sb_depth::Depth;
 use sb_digest::{Digest, build};
 use sb_holdings::{BlockEnd, Holdings, Report};
@@ -233,6 +234,24 @@ impl NodeCore {
         match self.settings.order() {
             Order::Breadth => Breadth.delta(self.alloc, &self.holdings, digest, budget),
             Order::Depth => Depth.delta(self.alloc, &self.holdings, digest, budget),
+        }
+    }
+
+    /// Returns what a peer with this backlog lacks, in the order of the settings, as `deltas` returns it. It is the answer to
+    /// the digest of a peer that has all that the node holds, but of each owner in the backlog only what is up to its
+    /// version there. An owner whose floor is above that version is left out. The call looks up the owners in the backlog
+    /// alone. The only fault is `NoMemory`.
+    pub fn news(&self, backlog: &Backlog) -> Result<Delta, Fault>
+        ensures delta { IfOk result (IsDelta self.now.settings self.now.node.held (digest_since self.now.node.held backlog.now)) }
+        ensures answer { IfOk result (IsAnswer self.now.settings.budget self.now.node.held (digest_since self.now.node.held backlog.now)) }
+        ensures goes { IfOk result (λ delta. 0 < length (available_for self.now.node.held (digest_since self.now.node.held backlog.now)) → 0 < length delta) }
+        ensures memory { IfErr result (λ fault. fault ≡ Fault.NoMemory) }
+        ensures holdings { IsHoldings self.now.node.held }
+    {
+        let owners = cursors_since(self.alloc, &self.holdings, backlog)?;
+        match self.settings.order() {
+            Order::Breadth => Breadth.delta_of(self.alloc, owners, self.settings.budget()),
+            Order::Depth => Depth.delta_of(self.alloc, owners, self.settings.budget()),
         }
     }
 

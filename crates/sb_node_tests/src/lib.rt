@@ -13,6 +13,8 @@ mod floors;
 #[cfg(test)]
 mod making;
 #[cfg(test)]
+mod news;
+#[cfg(test)]
 mod node;
 #[cfg(test)]
 mod orders;

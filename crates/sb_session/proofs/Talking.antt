@@ -85,7 +85,7 @@ settled hm bytes held e = e ∙ ap (λ (x : List Message). flat_map frame x ++ h
 more_read : (hm : List Message) (bytes held more : List ℕ) → bytes ≡ flat_map frame (hm ++ []) ++ held → bytes ++ more ≡ flat_map frame hm ++ (held ++ more)
 more_read hm bytes held more e = ap (λ (x : List ℕ). x ++ more) (settled hm bytes held e) ∙ append_assoc (flat_map frame hm) held more
 
-stops_later : (fault : Fault) (bytes : List ℕ) (rest : Stream) (to : Option (List ℕ)) (before left less : ℕ) → left ≤ before → Stops fault bytes rest to left less
+pub stops_later : (fault : Fault) (bytes : List ℕ) (rest : Stream) (to : Option (List ℕ)) (before left less : ℕ) → left ≤ before → Stops fault bytes rest to left less
     → Stops fault bytes rest to before less
 stops_later fault bytes rest to before left less fewer (is_bad front new) = is_bad front new
 stops_later fault bytes rest to before left less fewer (no_memory is new) = no_memory is new

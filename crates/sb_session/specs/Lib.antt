@@ -3,3 +3,4 @@ pub mod Sessions
 pub mod Taking
 pub mod Telling
 pub mod Talks
+pub mod Pushes

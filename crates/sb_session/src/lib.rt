@@ -2,7 +2,7 @@
 //!
 //! A `Session` takes the messages of a peer and gives what to send: the delta for a digest, and an own digest if the peer wants
 //! one. `dial` and `serve` run a whole session over a `Connection`. They ask a `Handler` for what a node holds, and `sb_node`
-//! implements that trait.
+//! implements that trait. `push` sends a delta that the peer did not ask for, and asks no handler.
 //!
 //! ```rust
 //! /// Whether the node `a` is greeted by the Hello of `b`, a node of the same cluster.
@@ -23,15 +23,18 @@
 //! - A session takes memory for each reply, or keeps no buffer. Nothing refuses it.
 //! - A session answers a message only after it has read on, so two such ends wait for each other. Tests over
 //!   sockets refuse it, since they do not end then.
-//! - `serve` or `dial` reports a failed read although none failed. Tests refuse it.
+//! - `serve`, `dial` or `push` reports a failed read although none failed. Tests refuse it.
+//! - `push` drops the delta and reports `NoMemory`, or reads less than it may. Tests refuse it.
 #![tactic(auto)]
 
 mod handler;
+mod pushing;
 mod replies;
 mod session;
 mod talk;
 
 pub use handler::Handler;
+pub use pushing::{PushEnd, push};
 pub use replies::Replies;
 pub use session::{Phase, Session};
 pub use talk::{Ended, dial, serve};

@@ -2,6 +2,7 @@ ghost use Rattle.std.specs.Prelude.{◌≡◌, true, Err, OnErr, IfErr};
 ghost use Rattle.sb_session.specs.declared.session.Phase.TheVariants as phases;
 ghost use Rattle.sb_session.specs.Sessions.{new_session, hello_of, in_phase, greeting_refusal};
 ghost use Rattle.sb_session.specs.Taking.{is_session_fault, Takes, Asks, Greets, AnswersDigest};
+ghost use Rattle.sb_session.specs.Pushes.{first_refusal, TakesFirst};
 
 use crate::handler::Handler;
 use crate::replies::Replies;
@@ -129,14 +130,62 @@ impl Session {
         ensures greets { Greets (greeting_refusal self.old hello.now) self.old result self.new }
         ensures fault { IfErr result (λ fault. is_session_fault fault ≡ true) }
     {
-        if hello.cluster != self.cluster {
-            return self.refuse(Fault::WrongCluster);
-        }
-        if hello.node == self.me {
-            return self.refuse(Fault::SameName);
+        if let Some(fault) = self.greeting_fault(hello) {
+            return self.refuse(fault);
         }
         self.phase = Phase::Greeted;
         Ok(Replies::Greeted)
+    }
+
+    /// Why the first Hello is refused, if it is.
+    fn greeting_fault(&self, hello: &Hello) -> Option<Fault>
+        ensures { result ≡ greeting_refusal self.now hello.now }
+    {
+        if hello.cluster != self.cluster {
+            return Some(Fault::WrongCluster);
+        }
+        if hello.node == self.me {
+            return Some(Fault::SameName);
+        }
+        None
+    }
+
+    /// Why a message is refused where nothing but a Hello may come.
+    fn first_fault(&self, message: &Message) -> Option<Fault>
+        ensures { result ≡ first_refusal self.now message.now }
+    {
+        match (self.phase, message) {
+            (Phase::Closed, _) => Some(Fault::Closed),
+            (_, Message::Ask(_)) => Some(Fault::UnknownKind(KIND_ASK)),
+            (_, Message::Rows(_)) => Some(Fault::UnknownKind(KIND_ROWS)),
+            (_, Message::Put(_)) => Some(Fault::UnknownKind(KIND_PUT)),
+            (_, Message::Done(_)) => Some(Fault::UnknownKind(KIND_DONE)),
+            (_, Message::Refused(_)) => Some(Fault::UnknownKind(KIND_REFUSED)),
+            (Phase::Waiting, Message::Hello(hello)) => self.greeting_fault(hello),
+            (Phase::Greeted, Message::Hello(_)) => Some(Fault::SecondHello),
+            (_, Message::Digest(_) | Message::Delta(_) | Message::Bye(_)) => Some(Fault::NoHello),
+        }
+    }
+
+    /// Takes the first message of a peer that is to say nothing but its Hello. It asks no handler. Its faults, in their order:
+    ///
+    /// - `Closed`.
+    /// - `UnknownKind` of the kinds 10 to 14 hex.
+    /// - `NoHello` of a Digest, a Delta or a Bye.
+    /// - `SecondHello`.
+    /// - `WrongCluster` and `SameName` of the Hello.
+    ///
+    /// After each of them the session is closed.
+    pub fn take_first(&mut self, message: &Message) -> Result<(), Fault>
+        ensures takes { TakesFirst self.old message.now result self.new }
+        ensures fault { IfErr result (λ fault. is_session_fault fault ≡ true) }
+    {
+        if let Some(fault) = self.first_fault(message) {
+            self.phase = Phase::Closed;
+            return Err(fault);
+        }
+        self.phase = Phase::Greeted;
+        Ok(())
     }
 
     /// The delta for a digest and, if it wants one, the own next digest. Both are made before either is sent.

@@ -29,7 +29,7 @@ pub enum Ended {
 }
 
 /// Sends one message.
-fn say<R: Read, W: Write, L: Ledger>(
+pub(crate) fn say<R: Read, W: Write, L: Ledger>(
     connection: &mut Connection<R, W, L>,
     message: Message,
 ) -> Result<(), Fault>

@@ -11,6 +11,8 @@ mod frames;
 #[cfg(test)]
 mod hostile;
 #[cfg(test)]
+mod push;
+#[cfg(test)]
 mod receiving;
 #[cfg(test)]
 mod session;

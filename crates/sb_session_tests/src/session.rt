@@ -143,7 +143,7 @@ impl Handler for Node {
 }
 
 /// The message of a frame.
-fn read(rt: &impl Abort, alloc: Global, frame: &[u8]) -> Message {
+pub(crate) fn read(rt: &impl Abort, alloc: Global, frame: &[u8]) -> Message {
     let mut frames = Frames::new(alloc);
     got(rt, frames.feed(frame));
     match got(rt, frames.next()) {

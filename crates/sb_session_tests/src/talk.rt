@@ -20,7 +20,7 @@ use std::sync::ledger::{Blank, Ledger};
 /// A writer that takes one byte in each write, and fails once, at its room. What is written after that it takes again.
 /// Every other write is interrupted.
 #[derive(Drop)]
-struct Room {
+pub(crate) struct Room {
     bytes: [u8; 128],
     written: usize,
     room: usize,
@@ -29,7 +29,7 @@ struct Room {
 }
 
 impl Room {
-    fn new(room: usize) -> Room {
+    pub(crate) fn new(room: usize) -> Room {
         Room {
             bytes: [0; 128],
             written: 0,
@@ -40,7 +40,7 @@ impl Room {
     }
 
     /// Whether these pieces were written, one after another, up to the room.
-    fn has_written(&self, pieces: &[&[u8]]) -> bool {
+    pub(crate) fn has_written(&self, pieces: &[&[u8]]) -> bool {
         let mut at = 0;
         for piece in pieces {
             for byte in *piece {
@@ -213,6 +213,17 @@ fn outcome(rt: &impl Abort, node: &mut Node, terms: Terms<'_>, pieces: &[&[u8]])
     let (ended, has_failed) = talk_telling(rt, node, &mut writer, terms);
     let is_written = writer.has_written(pieces);
     (ended, has_failed, is_written, writer.written)
+}
+
+/// How a talk ends for a node that serves if its peer says this, and whether it wrote exactly these pieces.
+pub(crate) fn served(
+    rt: &impl Abort,
+    node: &mut Node,
+    bytes: &[u8],
+    pieces: &[&[u8]],
+) -> (Result<Ended, Fault>, bool) {
+    let (ended, _, is_written, _) = outcome(rt, node, serving(bytes), pieces);
+    (ended, is_written)
 }
 
 /// What comes of a course under these terms, if so many calls of the handler are allowed.

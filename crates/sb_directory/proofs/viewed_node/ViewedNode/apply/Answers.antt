@@ -36,7 +36,7 @@ invariant_of-self-2 g c =
     let longer : c.add.new.self ≡ inside.history ++ Applied blocks ends ∷ [] = c.add.ensures ∙ ap (λ (l : List Event). l ++ Applied blocks ends ∷ []) c.call_at.ensures.history in
     let versions : c.in_ok-versions.versions.items ≡ versions_of node.held blocks =
     c.in_ok-versions.ensures.versions ∙ (λ i. versions_of (c.holdings.ensures.held i) (c.blocks-blocks.ensures.blocks i)) in
-    let held : c.holdings-3.result.now ≡ new.held = c.holdings-3.ensures.held ∙ ap (λ (k : Core). k.node.held) taken in
+    let held : c.holdings-4.result.now ≡ new.held = c.holdings-4.ensures.held ∙ ap (λ (k : Core). k.node.held) taken in
     let seen : c.push_notes_since.new.hub ≡ with_notes inside.hub (entered_of blocks node.held new.held) =
     c.push_notes_since.ensures ∙ (λ i. with_notes inside.hub (entries_since (versions i) (held i))) in (
       delta-there opening queued more old noting c.holdings.ensures.holdings blocks ends c.in_ok-ends.ensures.delta c.in_ok-ends.ensures.ends after has

@@ -1,0 +1,26 @@
+//! Owners whose held version rose.
+ghost use Rattle.std.specs.Prelude.{◌≡◌, IfErr, OnOk};
+ghost use Rattle.sb_directory.specs.Risen as spec;
+
+use sb_budget::Backlog;
+use sb_holdings::Holdings;
+use sb_types::{Fault, Name};
+
+/// Adds each of these owners that is held above its version to the backlog, with that version. An owner that is there keeps
+/// its version. `NoMemory`, with some of them added.
+pub(crate) fn add_risen(
+    news: &mut Backlog,
+    holdings: &Holdings,
+    versions: &[(Name, u64)],
+) -> Result<(), Fault>
+    ensures ok { OnOk result (news.new ≡ spec.with_risen news.old holdings.now versions.now) }
+    ensures memory { IfErr result (λ fault. fault ≡ Fault.NoMemory) }
+{
+    for pair in versions {
+        let (owner, version) = *pair;
+        if holdings.upto(&owner) > version {
+            news.add(owner, version)?;
+        }
+    }
+    Ok(())
+}
