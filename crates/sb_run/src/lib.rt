@@ -27,6 +27,7 @@
 #![tactic(auto)]
 
 mod accepting;
+mod arrivals;
 mod asking;
 mod bell;
 mod context;
@@ -54,6 +55,7 @@ mod status;
 mod tagged;
 mod threads;
 mod timed;
+mod waiting;
 
 pub use asking::ask_control;
 pub use gate::{Gate, GatePoint, Open};
@@ -62,7 +64,7 @@ pub use node::{NodeConfig, OnLogFault, Pace, Paths, Ran, run_node};
 pub use observer::{Nobody, Observer};
 pub use own_writes::{OwnWrites, Stored};
 pub use peers::{LastRound, Peer};
-pub use pool::{Pooled, Source};
+pub use pool::{Pooled, Source, Taken};
 pub use runtime::Runtime;
 pub use serving::Serving;
 pub use status::Status;

@@ -47,6 +47,8 @@ pub struct Pace {
     pub fanout: u64,
     /// How long a connection may move no byte, in milliseconds; 0 for no limit.
     pub idle: u64,
+    /// How long the session of a peer that has dialed may take, in milliseconds; 0 for no limit.
+    pub session: u64,
     /// The same of a connection to a peer that it dials.
     pub dial_idle: u64,
     /// How long the request of a connection at the control socket may take until it is whole, and then its answer, in

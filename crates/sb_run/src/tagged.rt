@@ -2,6 +2,8 @@
 ghost use Rattle.std.specs.Prelude.{◌≡◌, ◌⊎◌, ◌+◌, ◌≤◌, vec_len, vec_capacity, IsOk, IfOk, IfErr};
 ghost use Rattle.sb_run.specs.Running.{IsEndFault, IsTagOf, IsStarted};
 
+use crate::accepting::Acceptor;
+use crate::arrivals::{Asked, handover};
 use crate::bell::Bell;
 use crate::context::NodeContext;
 use crate::counts::Counts;
@@ -15,7 +17,7 @@ use crate::rounds::{RoundsTag, rounds_channel};
 use crate::runtime::Runtime;
 use crate::seats::{gather_seats, part_seats};
 use crate::sockets::BoundSockets;
-use crate::threads::ThreadsEnd;
+use crate::threads::{Links, ThreadsEnd};
 use sb_directory::{Directory, ReaderSeat};
 use sb_log::WriteLog;
 use sb_node::NodeCore;
@@ -74,9 +76,18 @@ pub(crate) fn run_tagged<
     let (rounds_sender, rounds_receiver) = rounds_channel::<S>(alloc)?;
     let (bell, parker) = Bell::new(alloc)?;
     let dialer = Dialer::new(Peers::new(alloc, paths.peers)?, observer, parker);
-    let sockets = BoundSockets::bind(rt, paths.sock, paths.control, observer)?;
+    let (handover, jobs, requests) = handover(alloc)?;
+    let events = Acceptor::events(alloc)?;
+    let (sockets, poll) = BoundSockets::bind(rt, paths.sock, paths.control, observer)?;
     observer.listening();
-    let (ending, counts) = (EndFlag::new(), Counts::new());
+    let links = Links {
+        acceptor: Acceptor::new(alloc, poll, events, handover),
+        jobs,
+        requests,
+        rounds_sender,
+        rounds_receiver,
+    };
+    let (ending, counts, asked) = (EndFlag::new(), Counts::new(), Asked::new());
     let node = NodeContext {
         rt,
         alloc,
@@ -85,16 +96,10 @@ pub(crate) fn run_tagged<
         ending: &ending,
         bell: &bell,
         counts: &counts,
-        workers: settings.workers(),
+        asked: &asked,
         pace,
     };
-    let finished = dialer.run_threads(
-        &node,
-        start.writes,
-        thread_seats,
-        rounds_sender,
-        rounds_receiver,
-    );
+    let finished = dialer.run_threads(&node, start.writes, thread_seats, links);
     sockets.remove(rt);
     close(rt, directory, finished?, spare)
 }
