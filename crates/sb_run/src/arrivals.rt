@@ -1,5 +1,6 @@
 //! What the thread that accepts hands to the other threads.
-ghost use Rattle.std.specs.Prelude.{◌≡◌, IfErr};
+ghost use Rattle.std.specs.Prelude.{◌≡◌, IfOk, IfErr};
+ghost use Rattle.sb_run.specs.Sources.{IsNumbered};
 
 use crate::ending::EndFlag;
 use crate::node::Pace;
@@ -22,8 +23,8 @@ const HANDED_MOST: usize = 1_024;
 /// What a worker is to do next.
 #[derive(Drop)]
 pub(crate) enum Job {
-    /// To serve the session of this number.
-    Session(u64, UnixStream),
+    /// To serve a session.
+    Session(UnixStream),
     /// To answer a caller's question.
     Question(Ask, UnixStream),
 }
@@ -57,8 +58,6 @@ pub(crate) struct Handover {
     to_owner: Sender<Request>,
     /// How many jobs were handed to the workers.
     handed: u64,
-    /// How many of them are sessions.
-    sessions: u64,
 }
 
 /// The end of the workers.
@@ -74,7 +73,7 @@ pub(crate) struct Requests {
 }
 
 /// The ways from the thread that accepts to the workers and to the calling thread. `NoMemory`.
-pub(crate) fn handover(alloc: Global) -> Result<(Handover, Jobs, Requests), Fault>
+pub(crate) fn new_handover(alloc: Global) -> Result<(Handover, Jobs, Requests), Fault>
     ensures { IfErr result (λ fault. fault ≡ Fault.NoMemory) }
 {
     let (to_workers, from_workers) = bounded::<Job, Global>(alloc, HANDED_MOST)?;
@@ -83,7 +82,6 @@ pub(crate) fn handover(alloc: Global) -> Result<(Handover, Jobs, Requests), Faul
         to_workers,
         to_owner,
         handed: 0,
-        sessions: 0,
     };
     Ok((handover, Jobs { from: from_workers }, Requests { from: from_owner }))
 }
@@ -98,6 +96,13 @@ impl Handover {
         is_given
     }
 
+    /// Hands a request to the calling thread, and says whether there was room.
+    fn give_owner<R: Wait>(&self, rt: &R, message: Message, stream: UnixStream) -> bool {
+        self.to_owner
+            .try_send(rt, Request { message, stream })
+            .is_ok()
+    }
+
     /// Hands a session to the workers. `ReadFailed` where too many wait for one, or where the connection can't be used.
     pub(crate) fn give_session<R: Wait>(
         &mut self,
@@ -107,8 +112,7 @@ impl Handover {
         let Ok(stream) = waiting_stream(stream) else {
             return Err(Fault::ReadFailed);
         };
-        self.sessions = self.sessions.saturating_add(1);
-        if self.give(rt, Job::Session(self.sessions, stream)) {
+        if self.give(rt, Job::Session(stream)) {
             Ok(())
         } else {
             Err(Fault::ReadFailed)
@@ -130,8 +134,14 @@ impl Handover {
         // Each worker asks before it waits, and each job ends the wait of one. So one is free where more was asked than handed.
         let is_worker_free = asked.count.load(Ordering::SeqCst) > self.handed;
         let is_given = match message {
-            Message::Ask(ask) if is_worker_free => self.give(rt, Job::Question(ask, stream)),
-            message => self.to_owner.try_send(rt, Request { message, stream }).is_ok(),
+            Message::Ask(ask) => {
+                if is_worker_free {
+                    self.give(rt, Job::Question(ask, stream))
+                } else {
+                    self.give_owner(rt, Message::Ask(ask), stream)
+                }
+            }
+            message => self.give_owner(rt, message, stream),
         };
         if is_given {
             Ok(())
@@ -159,6 +169,8 @@ pub(crate) struct Arrivals<'a, R> {
     ending: &'a EndFlag,
     asked: &'a Asked,
     pace: Pace,
+    /// How many sessions were taken.
+    sessions: AtomicU64,
 }
 
 impl<'a, R> Arrivals<'a, R> {
@@ -176,16 +188,19 @@ impl<'a, R> Arrivals<'a, R> {
             ending,
             asked,
             pace,
+            sessions: AtomicU64::new(0),
         }
     }
 }
 
 impl<'a, R: Clock> Arrivals<'a, R> {
     /// What a worker takes of a job. `ReadFailed` where the limits of the connection can't be set, or there is no descriptor.
-    fn taken_of(&self, job: Job) -> Result<Taken<Timed<'a, R>, Timed<'a, R>>, Fault> {
+    fn taken_of(&self, job: Job) -> Result<Taken<Timed<'a, R>, Timed<'a, R>>, Fault>
+        ensures { IfOk result (λ taken. IsNumbered taken) }
+    {
         let pace = &self.pace;
         match job {
-            Job::Session(number, stream) => {
+            Job::Session(stream) => {
                 let Ok(input) = stream.try_clone() else {
                     return Err(Fault::ReadFailed);
                 };
@@ -194,7 +209,8 @@ impl<'a, R: Clock> Arrivals<'a, R> {
                 }
                 let input = Timed::new(self.rt, input, pace.idle, pace.session);
                 let output = Timed::new(self.rt, stream, pace.idle, pace.session);
-                Ok(Taken::Session(number, input, output))
+                let before = self.sessions.fetch_add(1, Ordering::SeqCst);
+                Ok(Taken::Session(before.saturating_add(1), input, output))
             }
             Job::Question(ask, stream) => {
                 if limit(&stream, pace.idle).is_err() {

@@ -3,7 +3,7 @@ ghost use Rattle.std.specs.Prelude.{◌≡◌, ◌⊎◌, ◌+◌, ◌≤◌, ve
 ghost use Rattle.sb_run.specs.Running.{IsEndFault, IsTagOf, IsStarted};
 
 use crate::accepting::Acceptor;
-use crate::arrivals::{Asked, handover};
+use crate::arrivals::{Asked, new_handover};
 use crate::bell::Bell;
 use crate::context::NodeContext;
 use crate::counts::Counts;
@@ -76,7 +76,7 @@ pub(crate) fn run_tagged<
     let (rounds_sender, rounds_receiver) = rounds_channel::<S>(alloc)?;
     let (bell, parker) = Bell::new(alloc)?;
     let dialer = Dialer::new(Peers::new(alloc, paths.peers)?, observer, parker);
-    let (handover, jobs, requests) = handover(alloc)?;
+    let (handover, jobs, requests) = new_handover(alloc)?;
     let events = Acceptor::events(alloc)?;
     let (sockets, poll) = BoundSockets::bind(rt, paths.sock, paths.control, observer)?;
     observer.listening();

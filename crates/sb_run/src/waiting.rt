@@ -1,5 +1,5 @@
 //! Connections that wait until they have something to say.
-ghost use Rattle.std.specs.Prelude.{◌≡◌, ◌+◌, ◌≤◌, vec_len, IfOk, IfErr};
+ghost use Rattle.std.specs.Prelude.{◌≡◌, ◌+◌, ◌<◌, ◌≤◌, vec_len, IfSome, IfOk, IfErr};
 
 use mio::net::UnixStream;
 use sb_codec::Message;
@@ -152,7 +152,11 @@ impl WaitingList {
         if self.all.is_empty() {
             return false;
         }
-        let oldest = self.all.iter().position(Waiting::is_silent).unwrap_or(0);
+        let oldest = self
+            .all
+            .iter()
+            .position(|waiting| waiting.is_silent())
+            .unwrap_or(0);
         self.all.remove(oldest);
         true
     }
@@ -166,7 +170,9 @@ impl WaitingList {
     }
 
     /// Where the one of this number stands.
-    fn place_of(&self, number: usize) -> Option<usize> {
+    fn place_of(&self, number: usize) -> Option<usize>
+        ensures { IfSome result (λ place. place < vec_len self.now.all) }
+    {
         self.all.iter().position(|waiting| waiting.number == number)
     }
 
@@ -206,15 +212,22 @@ impl WaitingList {
     /// Closes those whose time is over, and says how many.
     pub(crate) fn close_late(&mut self, now: Instant) -> u64 {
         let mut closed: u64 = 0;
-        while self.first_until().is_some_and(|until| until <= now) {
-            self.all.remove(0);
-            closed += 1;
+        for _ in 0..WAITING_MOST {
+            match self.first_until() {
+                Some(until) if until <= now => {
+                    self.all.remove(0);
+                    closed = closed.saturating_add(1);
+                }
+                _ => break,
+            }
         }
         closed
     }
 
     /// When the time of the oldest is over; none where nobody waits, or waits for ever.
-    pub(crate) fn first_until(&self) -> Option<Instant> {
+    pub(crate) fn first_until(&self) -> Option<Instant>
+        ensures { IfSome result (λ _. 0 < vec_len self.now.all) }
+    {
         self.all.first()?.until
     }
 }
