@@ -23,6 +23,9 @@ const ACCEPT_PAUSE: u64 = 20;
 /// How many connections are accepted at a socket before the others are looked at again.
 const ACCEPTED_AT_ONCE: usize = 64;
 
+/// How many connections are closed where an accept failed.
+const CLOSED_AT_ONCE: usize = 16;
+
 /// How many events one poll gives.
 const EVENTS_AT_ONCE: usize = 256;
 
@@ -46,7 +49,7 @@ enum Left {
 
 /// The connections that wait at both sockets, and where they go from here.
 #[derive(Drop)]
-struct Door {
+struct Backlog {
     peers: WaitingList,
     callers: WaitingList,
     handover: Handover,
@@ -61,10 +64,10 @@ struct Door {
 pub(crate) struct Acceptor {
     poll: Poll,
     events: Events,
-    door: Door,
+    backlog: Backlog,
 }
 
-impl Door {
+impl Backlog {
     fn note_fault(&mut self) {
         self.faults = self.faults.saturating_add(1);
     }
@@ -137,14 +140,21 @@ impl Door {
         Left::More
     }
 
-    /// Closes the oldest connection of the longer list, since a descriptor may be wanting.
-    fn make_room(&mut self) {
-        let list = if self.peers.len() < self.callers.len() {
-            &mut self.callers
+    /// Closes the oldest connection of the longer list. Says whether there was one.
+    fn close_oldest(&mut self) -> bool {
+        if self.peers.len() < self.callers.len() {
+            self.callers.close_oldest()
         } else {
-            &mut self.peers
-        };
-        if list.close_oldest() {
+            self.peers.close_oldest()
+        }
+    }
+
+    /// Closes a few of the oldest connections, since descriptors may be wanting, also to the other threads.
+    fn make_room(&mut self) {
+        for _ in 0..CLOSED_AT_ONCE {
+            if !self.close_oldest() {
+                return;
+            }
             self.note_fault();
         }
     }
@@ -153,12 +163,15 @@ impl Door {
     fn take_up<S: RoundsTag, H: Wait + Drop, Q: Wait>(
         &mut self,
         node: &NodeContext<S, H, Q>,
+        registry: &Registry,
         number: usize,
     ) -> Result<(), Fault> {
         if let Some(stream) = self.peers.take(number) {
             return self.handover.give_session(node.rt, stream);
         }
-        let whole = self.callers.take_request::<Brand>(number, Blank::new(1))?;
+        let whole = self
+            .callers
+            .take_request::<Brand>(registry, number, Blank::new(1))?;
         match whole {
             Some((request, stream)) => {
                 self.handover
@@ -219,7 +232,7 @@ impl Acceptor {
         Acceptor {
             poll,
             events,
-            door: Door {
+            backlog: Backlog {
                 peers: WaitingList::new(alloc),
                 callers: WaitingList::new(alloc),
                 handover,
@@ -238,27 +251,27 @@ impl Acceptor {
         let Acceptor {
             mut poll,
             mut events,
-            mut door,
+            mut backlog,
         } = self;
         for _ in node.rt.forever() {
             let registry = poll.registry();
             let left = [
-                door.accept_at(node, registry, At::Sock),
-                door.accept_at(node, registry, At::Control),
+                backlog.accept_at(node, registry, At::Sock),
+                backlog.accept_at(node, registry, At::Control),
             ];
-            let patience = patience(left, door.time_left(node.rt));
+            let patience = patience(left, backlog.time_left(node.rt));
             if poll.poll(&mut events, patience).is_err() {
                 thread::sleep(node.rt, Duration::from_millis(ACCEPT_PAUSE));
             }
             if node.ending.is_raised() {
-                return door.faults;
+                return backlog.faults;
             }
             for event in &events {
-                if door.take_up(node, event.token().0).is_err() {
-                    door.note_fault();
+                if backlog.take_up(node, poll.registry(), event.token().0).is_err() {
+                    backlog.note_fault();
                 }
             }
-            door.close_late(node.rt);
+            backlog.close_late(node.rt);
         }
         unreachable!()
     }

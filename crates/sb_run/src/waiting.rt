@@ -1,9 +1,12 @@
 //! Connections that wait until they have something to say.
-ghost use Rattle.std.specs.Prelude.{◌≡◌, ◌+◌, ◌<◌, ◌≤◌, vec_len, IfSome, IfOk, IfErr};
+ghost use Rattle.std.specs.Prelude.{◌≡◌, ◌+◌, ◌<◌, ◌≤◌, ◌++◌, ◌∷◌, [], true, vec_len, length, drop, nat_lt, position, MatchBool, MatchOption, OnOk, IfSome, IfOk, IfErr};
+ghost use Rattle.sb_run.specs.declared.waiting.TheConstants.{WAITING_MOST};
+ghost use Rattle.sb_run.specs.Arriving.{ReadsPiece, is_silent, has_number, without_oldest, with_room};
 
 use mio::net::UnixStream;
+use mio::{Interest, Registry, Token};
 use sb_codec::Message;
-use sb_frames::{Frames, Steps, receive};
+use sb_frames::{Frames, Steps, faults_are_of_the_bytes, receive};
 use sb_types::Fault;
 use std::alloc::Global;
 use std::io;
@@ -47,25 +50,30 @@ impl Read for Arrived<'_> {
     }
 }
 
-/// The first message of a stream, by as many reads as are left. `left` is what is left after the call. Its faults are those of
-/// `receive`, and `Truncated` also at an end before the message. After `ReadFailed` the call may be made again.
-fn read_first<R: Read, K: Ledger>(
+/// Makes one read of a stream, if one is left: its first message, once it is whole. None if more is to come. `left` is what is
+/// left after the call. Its faults are those of `receive`, and `Truncated` also at an end before the message. After
+/// `ReadFailed` the call may be made again.
+fn read_piece<R: Read, K: Ledger>(
     reader: &mut R,
     frames: &mut Frames,
     left: &mut u64,
     steps: &mut Steps<K>,
-) -> Result<Message, Fault> {
-    while *left > 0 {
-        *left -= 1;
-        match receive(reader, frames, 1, steps) {
-            Ok(Some(message)) => return Ok(message),
-            Ok(None) => return Err(Fault::Truncated),
-            // The one read gave less than the rest of the message.
-            Err(Fault::TurnsSpent) => {}
-            Err(fault) => return Err(fault),
-        }
+) -> Result<Option<Message>, Fault>
+    ensures reads { ReadsPiece frames.old frames.new (R.remaining reader.old) (R.remaining reader.new) result }
+    ensures counted { steps.new + left.new ≤ steps.old + left.old }
+{
+    faults_are_of_the_bytes();
+    if *left == 0 {
+        return Err(Fault::TurnsSpent);
     }
-    Err(Fault::TurnsSpent)
+    *left -= 1;
+    match receive(reader, frames, 1, steps) {
+        Ok(Some(message)) => Ok(Some(message)),
+        Ok(None) => Err(Fault::Truncated),
+        // The read gave less than the rest of the message.
+        Err(Fault::TurnsSpent) if *left > 0 => Ok(None),
+        Err(fault) => Err(fault),
+    }
 }
 
 /// The moment so many milliseconds from now; none for 0, and where the clock can't be read.
@@ -87,7 +95,11 @@ impl Waiting {
         stream: UnixStream,
         until: Option<Instant>,
         max_reads: u64,
-    ) -> Waiting {
+    ) -> Waiting
+        ensures number { result.number ≡ number }
+        ensures silent { is_silent result ≡ true }
+        ensures reads { result.left ≡ max_reads }
+    {
         Waiting {
             number,
             stream,
@@ -103,26 +115,25 @@ impl Waiting {
     }
 
     /// Whether nothing came of it yet.
-    fn is_silent(&self) -> bool {
+    fn is_silent(&self) -> bool
+        ensures { result ≡ is_silent self.now }
+    {
         self.frames.held() == 0
     }
 
-    /// Reads what has come of its request, without waiting: the request, once it is whole. None if more is to come. Its
-    /// faults are those of `read_first`, after which it is to be closed. Its reads are the first of a ledger.
-    fn read<K: Ledger>(&mut self, blank: Blank) -> Result<Option<Message>, Fault>
-        requires name { blank.name ≡ K.name }
-        requires parts { blank.parts ≡ K.parts }
-        requires some { 0 < blank.parts }
+    /// Makes one read of its request, without waiting: the request, once it is whole. None if more is to come. Its faults
+    /// are those of `read_piece`, after which it is to be closed.
+    fn read<K: Ledger>(&mut self, steps: &mut Steps<K>) -> Result<Option<Message>, Fault>
+        ensures number { self.new.number ≡ self.old.number }
+        ensures counted { steps.new + self.new.left ≤ steps.old + self.old.left }
     {
-        let mut steps = Steps::<K>::new(blank);
         let mut reader = Arrived {
             stream: &self.stream,
             has_waited: false,
         };
-        match read_first(&mut reader, &mut self.frames, &mut self.left, &mut steps) {
-            Ok(request) => Ok(Some(request)),
+        match read_piece(&mut reader, &mut self.frames, &mut self.left, steps) {
             Err(Fault::ReadFailed) if reader.has_waited => Ok(None),
-            Err(fault) => Err(fault),
+            other => other,
         }
     }
 }
@@ -136,19 +147,26 @@ pub(crate) struct WaitingList {
 
 impl WaitingList {
     /// Nobody waits.
-    pub(crate) fn new(alloc: Global) -> WaitingList {
+    pub(crate) fn new(alloc: Global) -> WaitingList
+        ensures { result.all.items ≡ [] }
+    {
         WaitingList {
             all: Vec::new(alloc),
         }
     }
 
     /// How many wait.
-    pub(crate) fn len(&self) -> usize {
+    pub(crate) fn len(&self) -> usize
+        ensures { result ≡ length self.now.all.items }
+    {
         self.all.len()
     }
 
     /// Closes the oldest that has said nothing, or else the oldest. Says whether there was one.
-    pub(crate) fn close_oldest(&mut self) -> bool {
+    pub(crate) fn close_oldest(&mut self) -> bool
+        ensures { MatchBool result ((vec_len self.new.all + 1 ≡ vec_len self.old.all) × (self.new.all.items ≡ without_oldest self.old.all.items))
+            ((self.old.all.items ≡ []) × (self.new.all.items ≡ [])) }
+    {
         if self.all.is_empty() {
             return false;
         }
@@ -161,17 +179,28 @@ impl WaitingList {
         true
     }
 
+    /// Closes the oldest that has said nothing, or else the oldest, where as many wait as may. Says whether it did.
+    fn make_room(&mut self) -> bool
+        ensures room { vec_len self.new.all < WAITING_MOST }
+        ensures { self.new.all.items ≡ with_room WAITING_MOST self.old.all.items }
+    {
+        self.all.len() >= WAITING_MOST && self.close_oldest()
+    }
+
     /// Adds one that is younger than each that waits. Where as many wait as may, the oldest that has said nothing, or else the
     /// oldest, is closed for it. Says whether one was. `NoMemory`, which closes it.
-    pub(crate) fn push(&mut self, waiting: Waiting) -> Result<bool, Fault> {
-        let has_closed = self.all.len() >= WAITING_MOST && self.close_oldest();
+    pub(crate) fn push(&mut self, waiting: Waiting) -> Result<bool, Fault>
+        ensures added { OnOk result (self.new.all.items ≡ with_room WAITING_MOST self.old.all.items ++ waiting ∷ []) }
+        ensures memory { IfErr result (λ fault. fault ≡ Fault.NoMemory) }
+    {
+        let has_closed = self.make_room();
         self.all.push(waiting)?;
         Ok(has_closed)
     }
 
     /// Where the one of this number stands.
     fn place_of(&self, number: usize) -> Option<usize>
-        ensures { IfSome result (λ place. place < vec_len self.now.all) }
+        ensures { result ≡ position (has_number number) self.now.all.items }
     {
         self.all.iter().position(|waiting| waiting.number == number)
     }
@@ -182,10 +211,12 @@ impl WaitingList {
         Some(self.all.remove(place).into_stream())
     }
 
-    /// Reads what has come of the request of this number, and gives it with its connection once it is whole. None if more is to
-    /// come, or if no such one waits here. A fault closes it. Its reads are the first of a ledger.
+    /// Makes one read of the request of this number, and gives it with its connection once it is whole. None if more is to come,
+    /// of which the registry is to report then, or if no such one waits here. A fault closes it. The read is the first of a
+    /// ledger.
     pub(crate) fn take_request<K: Ledger>(
         &mut self,
+        registry: &Registry,
         number: usize,
         blank: Blank,
     ) -> Result<Option<(Message, UnixStream)>, Fault>
@@ -196,8 +227,9 @@ impl WaitingList {
         let Some(place) = self.place_of(number) else {
             return Ok(None);
         };
-        match self.all[place].read::<K>(blank) {
-            Ok(None) => Ok(None),
+        let mut steps = Steps::<K>::new(blank);
+        match self.all[place].read(&mut steps) {
+            Ok(None) => self.wait_on(registry, place, number),
             Ok(Some(request)) => {
                 let stream = self.all.remove(place).into_stream();
                 Ok(Some((request, stream)))
@@ -207,6 +239,26 @@ impl WaitingList {
                 Err(fault)
             }
         }
+    }
+
+    /// Has the registry report the one at this place again. `ReadFailed`, which closes it.
+    fn wait_on(
+        &mut self,
+        registry: &Registry,
+        place: usize,
+        number: usize,
+    ) -> Result<Option<(Message, UnixStream)>, Fault>
+        requires { place < vec_len self.old.all }
+    {
+        let stream = &mut self.all[place].stream;
+        if registry
+            .reregister(stream, Token(number), Interest::READABLE)
+            .is_ok()
+        {
+            return Ok(None);
+        }
+        self.all.remove(place);
+        Err(Fault::ReadFailed)
     }
 
     /// Closes those whose time is over, and says how many.
