@@ -5,7 +5,7 @@ ghost use Rattle.sb_run.specs.Sources.{IsNumbered};
 use crate::ending::EndFlag;
 use crate::node::Pace;
 use crate::pool::{Source, Taken};
-use crate::sockets::{limit, waiting_stream};
+use crate::sockets::{limit, blocking_stream};
 use crate::timed::Timed;
 use crossbeam_channel::{Receiver, Sender, bounded};
 use mio::net;
@@ -109,7 +109,7 @@ impl Handover {
         rt: &R,
         stream: net::UnixStream,
     ) -> Result<(), Fault> {
-        let Ok(stream) = waiting_stream(stream) else {
+        let Ok(stream) = blocking_stream(stream) else {
             return Err(Fault::ReadFailed);
         };
         if self.give(rt, Job::Session(stream)) {
@@ -128,7 +128,7 @@ impl Handover {
         message: Message,
         stream: net::UnixStream,
     ) -> Result<(), Fault> {
-        let Ok(stream) = waiting_stream(stream) else {
+        let Ok(stream) = blocking_stream(stream) else {
             return Err(Fault::ReadFailed);
         };
         // Each worker asks before it waits, and each job ends the wait of one. So one is free where more was asked than handed.
@@ -154,10 +154,11 @@ impl Handover {
 impl Requests {
     /// The next request; none once the node is to end.
     pub(crate) fn next<R: Wait>(&self, rt: &R, ending: &EndFlag) -> Option<Request> {
-        match self.from.recv(rt) {
-            Ok(request) if !ending.is_raised() => Some(request),
-            _ => None,
+        let received = self.from.recv(rt);
+        if ending.is_raised() {
+            return None;
         }
+        received.ok()
     }
 }
 
@@ -235,9 +236,13 @@ impl<'a, R: Wait + Clock + Sync> Source for Arrivals<'a, R> {
 
     fn next(&self) -> Option<Result<Taken<Timed<'a, R>, Timed<'a, R>>, Fault>> {
         self.asked.count.fetch_add(1, Ordering::SeqCst);
-        match self.jobs.from.recv(self.rt) {
-            Ok(job) if !self.ending.is_raised() => Some(self.taken_of(job)),
-            _ => None,
+        let received = self.jobs.from.recv(self.rt);
+        if self.ending.is_raised() {
+            return None;
+        }
+        match received {
+            Ok(job) => Some(self.taken_of(job)),
+            Err(_) => None,
         }
     }
 }

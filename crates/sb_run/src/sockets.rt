@@ -147,11 +147,11 @@ impl<'a> BoundSockets<'a> {
 
 /// Connects to the socket at a path. It does not wait where that has no room for one more connection, and fails.
 pub(crate) fn connect<R: Net>(rt: &R, path: &str) -> io::Result<UnixStream> {
-    waiting_stream(net::UnixStream::connect(rt, path)?)
+    blocking_stream(net::UnixStream::connect(rt, path)?)
 }
 
-/// The same connection, whose reads and writes wait.
-pub(crate) fn waiting_stream(stream: net::UnixStream) -> io::Result<UnixStream> {
+/// The same connection, whose reads and writes block.
+pub(crate) fn blocking_stream(stream: net::UnixStream) -> io::Result<UnixStream> {
     let stream = UnixStream::from(stream);
     stream.set_nonblocking(false)?;
     Ok(stream)
