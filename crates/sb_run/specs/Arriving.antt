@@ -35,6 +35,14 @@ has_number number waiting = waiting.number == number
 abbrev pub without_oldest : List Waiting → List Waiting
 without_oldest all = remove all (unwrap_or (position is_silent all) 0)
 
+abbrev pub without_at : List Waiting → Option ℕ → List Waiting
+without_at all (Some place) = remove all place
+without_at all None = all
+
+-- the list without the one of this number, if it is there
+abbrev pub without_number : ℕ → List Waiting → List Waiting
+without_number number all = without_at all (position (has_number number) all)
+
 -- the list where one more has room
 abbrev pub with_room : ℕ → List Waiting → List Waiting
 with_room most all = if nat_lt (length all) most then all else without_oldest all

@@ -1,7 +1,7 @@
 //! Connections that wait until they have something to say.
-ghost use Rattle.std.specs.Prelude.{◌≡◌, ◌+◌, ◌<◌, ◌≤◌, ◌++◌, ◌∷◌, [], true, vec_len, length, drop, nat_lt, position, MatchBool, MatchOption, OnOk, IfSome, IfOk, IfErr};
+ghost use Rattle.std.specs.Prelude.{◌≡◌, ◌+◌, ◌<◌, ◌≤◌, ◌++◌, ◌∷◌, [], true, vec_len, length, drop, nat_lt, position, is_some, MatchBool, OnOk, IfSome, IfOk, IfErr};
 ghost use Rattle.sb_run.specs.declared.waiting.TheConstants.{WAITING_MOST};
-ghost use Rattle.sb_run.specs.Arriving.{ReadsPiece, is_silent, has_number, without_oldest, with_room};
+ghost use Rattle.sb_run.specs.Arriving.{ReadsPiece, is_silent, has_number, without_oldest, without_number, with_room};
 
 use mio::net::UnixStream;
 use mio::{Interest, Registry, Token};
@@ -138,6 +138,20 @@ impl Waiting {
     }
 }
 
+/// The place of the one of this number.
+fn place_of(all: &[Waiting], number: usize) -> Option<usize>
+    ensures { result ≡ position (has_number number) all.now }
+{
+    all.iter().position(|waiting| waiting.number == number)
+}
+
+/// The place of the oldest that has said nothing.
+fn place_of_silent(all: &[Waiting]) -> Option<usize>
+    ensures { result ≡ position is_silent all.now }
+{
+    all.iter().position(|waiting| waiting.is_silent())
+}
+
 /// The connections that wait at a socket, the oldest first.
 #[derive(Drop)]
 pub(crate) struct WaitingList {
@@ -170,11 +184,7 @@ impl WaitingList {
         if self.all.is_empty() {
             return false;
         }
-        let oldest = self
-            .all
-            .iter()
-            .position(|waiting| waiting.is_silent())
-            .unwrap_or(0);
+        let oldest = place_of_silent(&self.all).unwrap_or(0);
         self.all.remove(oldest);
         true
     }
@@ -198,16 +208,12 @@ impl WaitingList {
         Ok(has_closed)
     }
 
-    /// Where the one of this number stands.
-    fn place_of(&self, number: usize) -> Option<usize>
-        ensures { result ≡ position (has_number number) self.now.all.items }
-    {
-        self.all.iter().position(|waiting| waiting.number == number)
-    }
-
     /// Takes out the one of this number, if it waits here.
-    pub(crate) fn take(&mut self, number: usize) -> Option<UnixStream> {
-        let place = self.place_of(number)?;
+    pub(crate) fn take(&mut self, number: usize) -> Option<UnixStream>
+        ensures taken { is_some result ≡ is_some (position (has_number number) self.old.all.items) }
+        ensures left { self.new.all.items ≡ without_number number self.old.all.items }
+    {
+        let place = place_of(&self.all, number)?;
         Some(self.all.remove(place).into_stream())
     }
 
@@ -224,7 +230,7 @@ impl WaitingList {
         requires parts { blank.parts ≡ K.parts }
         requires some { 0 < blank.parts }
     {
-        let Some(place) = self.place_of(number) else {
+        let Some(place) = place_of(&self.all, number) else {
             return Ok(None);
         };
         let mut steps = Steps::<K>::new(blank);
