@@ -192,7 +192,7 @@ impl WaitingList {
     /// Closes the oldest that has said nothing, or else the oldest, where as many wait as may. Says whether it did.
     fn make_room(&mut self) -> bool
         ensures room { vec_len self.new.all < WAITING_MOST }
-        ensures { self.new.all.items ≡ with_room WAITING_MOST self.old.all.items }
+        ensures left { self.new.all.items ≡ with_room WAITING_MOST self.old.all.items }
     {
         self.all.len() >= WAITING_MOST && self.close_oldest()
     }

@@ -114,7 +114,7 @@ fn play_slow_peer<R: Net + Clock + Abort>(rt: &R, paths: &Paths) -> bool {
 }
 
 /// Whether the play went as it should, and how long it took.
-fn play<R: Net + Clock + Abort>(
+fn run_play<R: Net + Clock + Abort>(
     rt: &R,
     alloc: Global,
     paths: &Paths,
@@ -138,7 +138,7 @@ fn patient() -> Pace {
     patient
 }
 
-/// Plays at a node whose only round lasts until the play is over. Tests that it went as it should within three seconds.
+/// Plays at a node whose only round lasts until the play is over, and then brings a delta. Tests that it went as it should within three seconds.
 fn play_beside<R: Host + Net<Listener = TcpListener, Stream = TcpStream>>(
     rt: &R,
     alloc: Global,
@@ -155,7 +155,7 @@ fn play_beside<R: Host + Net<Listener = TcpListener, Stream = TcpStream>>(
         || run_a(rt, alloc, paths, pace),
         || {
             let dialed = next_of(rt, &listener);
-            let played = play(rt, alloc, paths, kind);
+            let played = run_play(rt, alloc, paths, kind);
             talk(rt, alloc, &mut silent_b(rt, alloc), &dialed, None);
             played
         },
@@ -169,21 +169,21 @@ fn play_beside<R: Host + Net<Listener = TcpListener, Stream = TcpStream>>(
 fn connections_that_say_nothing_hold_up_nobody(rt: HostRuntime) {
     let paths = paths_of("mute.sock", "mute.control", &["mute.b"]);
     let ran = play_beside(&rt, rt.alloc(), &paths, patient(), Play::Silence);
-    same(&rt, &ran.events, &1);
+    same(&rt, &ran.events, &3);
 }
 
 #[test]
 fn a_request_that_is_whole_is_served_first(rt: HostRuntime) {
     let paths = paths_of("half.sock", "half.control", &["half.b"]);
     let ran = play_beside(&rt, rt.alloc(), &paths, patient(), Play::SlowCaller);
-    same(&rt, &(ran.faults, ran.events), &(0, 2));
+    same(&rt, &(ran.faults, ran.events), &(0, 3));
 }
 
 #[test]
 fn callers_are_answered_while_all_workers_wait(rt: HostRuntime) {
     let paths = paths_of("busy.sock", "busy.control", &["busy.b"]);
     let ran = play_beside(&rt, rt.alloc(), &paths, patient(), Play::BusyWorker);
-    same(&rt, &ran.events, &1);
+    same(&rt, &ran.events, &2);
 }
 
 #[test]
@@ -192,7 +192,7 @@ fn a_session_ends_after_its_time(rt: HostRuntime) {
     let mut pace = patient();
     pace.session = 300;
     let ran = play_beside(&rt, rt.alloc(), &paths, pace, Play::SlowPeer);
-    same(&rt, &(ran.faults, ran.events), &(1, 1));
+    same(&rt, &(ran.faults, ran.events), &(1, 2));
 }
 
 /// Whether nothing comes of a request of which half was sent, until the node hangs up, and a whole one is answered before.
@@ -223,5 +223,5 @@ fn a_request_that_is_not_whole_in_time_is_closed(rt: HostRuntime) {
     got(&rt, fs::remove_file(&rt, "late.b"));
     same(&rt, &went, &true);
     let ran = got(&rt, ran);
-    same(&rt, &(ran.faults, ran.events), &(1, 2));
+    same(&rt, &(ran.faults, ran.events), &(1, 3));
 }
