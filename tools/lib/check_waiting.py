@@ -40,7 +40,10 @@ def is_served(node, version):
 
 def is_closed(stream, seconds=0.0):
     """Whether the node has closed a connection on which it says nothing."""
-    return bool(select.select([stream], [], [], seconds)[0])
+    # (select takes no descriptor above 1,023)
+    found = select.poll()
+    found.register(stream, select.POLLIN)
+    return bool(found.poll(seconds * 1000))
 
 
 def close_all(streams):
