@@ -1,4 +1,4 @@
-use Rattle.sb_run.proofs.Asking.{page_later}
+use Rattle.sb_run.proofs.Paging.{page_later}
 use Rattle.sb_run.proofs.serving.Serving.answer_ask.Goals as goal
 
 pub returns-clause-answers : goal.returns-clause-answers
