@@ -1,8 +1,8 @@
 //! The running node: it serves its peers and its clients over sockets, and dials its peers.
 //!
-//! `run_node` runs the node that owns a log: workers serve the peers that connect, one thread dials the peers in turn and
-//! where there is news, and the calling thread answers clients at the control socket. Each write of a client is in the
-//! log before the directory takes it. A program with connections of its own serves them by `Serving`, and asks by
+//! `run_node` runs the node that owns a log: one thread accepts at both sockets, workers serve the peers that connect and
+//! answer questions of clients, one thread dials the peers in turn and where there is news, and the calling thread makes the
+//! writes of clients. Each of them is in the log before the directory takes it. A program with connections of its own serves them by `Serving`, and asks by
 //! `ask_control`.
 //!
 //! ```rust
@@ -27,6 +27,7 @@
 #![tactic(auto)]
 
 mod accepting;
+mod arrivals;
 mod asking;
 mod bell;
 mod context;
@@ -54,6 +55,7 @@ mod status;
 mod tagged;
 mod threads;
 mod timed;
+mod waiting;
 
 pub use asking::ask_control;
 pub use gate::{Gate, GatePoint, Open};
@@ -62,7 +64,7 @@ pub use node::{NodeConfig, OnLogFault, Pace, Paths, Ran, run_node};
 pub use observer::{Nobody, Observer};
 pub use own_writes::{OwnWrites, Stored};
 pub use peers::{LastRound, Peer};
-pub use pool::{Pooled, Source};
+pub use pool::{Pooled, Source, Taken};
 pub use runtime::Runtime;
 pub use serving::Serving;
 pub use status::Status;
