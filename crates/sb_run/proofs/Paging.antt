@@ -15,6 +15,6 @@ pub page_later : (opening : Node) (budget : ℕ) (before : Seat) (ask : asking.A
 page_later opening budget before ask after reply (inl p) = record {
   seen = p.0;
   last_call = subst (λ (xs : List Event). IsPrefix before.last_call xs) (sym p.1) (later-same before).last_call;
-  events = (let e = p.2.0 in omega (arith, e));
+  events = (let e = p.2 in omega (arith, e));
 }
 page_later opening budget before ask after reply (inr p) = subst (λ (seat : Seat). IsLater before seat) (sym p.0) (later-same before)
