@@ -126,14 +126,14 @@ impl<'a, O: Observer> Dialer<'a, O> {
         let exchanges = self.count_exchanges(node, &mut seat);
         let patience = moment_after(node.rt, node.pace.dial_idle);
         let (seat, ended) = dial_peer(node, self.peers.path(index), seat, exchanges);
-        if ended.is_err() {
+        if ended.has_fault() {
             self.faults = self.faults.saturating_add(1);
         }
         let has_waited = node.pace.dial_idle != 0
             && patience.is_some_and(|moment| is_past(node.rt, moment));
         if self
             .peers
-            .note(index, self.rounds, &ended, has_waited, self.observer)
+            .note(index, self.rounds, ended, has_waited, self.observer)
         {
             self.status_due = None;
         }
@@ -241,7 +241,7 @@ impl<'a, O: Observer> Dialer<'a, O> {
         if node.pace.fanout == 0 || !node.bell.take_news() {
             return false;
         }
-        let size = node.pace.fanout.min(self.peers.count_without_fault());
+        let size = node.pace.fanout.min(self.peers.count_for_news());
         if size == 0 {
             return false;
         }
@@ -264,7 +264,7 @@ impl<'a, O: Observer> Dialer<'a, O> {
             return Cause::Turn;
         };
         for _ in node.rt.forever() {
-            if self.burst_left != 0 && self.peers.count_without_fault() != 0 {
+            if self.burst_left != 0 && self.peers.count_for_news() != 0 {
                 self.burst_left = self.burst_left.saturating_sub(1);
                 return Cause::News;
             }
