@@ -6,4 +6,5 @@ pub mod Hellos
 pub mod Pools
 pub mod Running
 pub mod Turns
+pub mod Deliveries
 pub mod Together

@@ -11,7 +11,7 @@ use std::alloc::Global;
 const TURNS_OUT: u64 = 7;
 
 /// A peer that is dialed.
-#[derive(Drop)]
+#[derive(Clone, Copy, Debug, Drop)]
 pub struct Peer<'a> {
     path: &'a str,
     state: PeerState,
@@ -61,7 +61,7 @@ impl<'a> Peer<'a> {
 }
 
 /// Whose turn it is of so many: behind the last comes the first.
-fn turn_of(count: usize, turn: usize) -> usize
+pub(crate) fn turn_of(count: usize, turn: usize) -> usize
     ensures { result ≡ spec.turn_of count turn }
 {
     if turn < count { turn } else { 0 }
@@ -218,6 +218,16 @@ impl<'a> Peers<'a> {
         match self.all.get(index) {
             Some(peer) => peer.path,
             None => "",
+        }
+    }
+
+    /// Whether the peer at this index is dialed for news; false where there is none.
+    pub(crate) fn takes_news(&self, index: usize) -> bool
+        ensures { IfSome (slice_get self.now.all.items index) (λ peer. result ≡ spec.takes_news peer.state) }
+    {
+        match self.all.get(index) {
+            Some(peer) => peer.state.takes_news(),
+            None => false,
         }
     }
 

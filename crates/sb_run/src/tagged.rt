@@ -10,13 +10,12 @@ use crate::ending::EndFlag;
 use crate::node::{Pace, Paths, Ran};
 use crate::observer::Observer;
 use crate::own_writes::OwnWrites;
-use crate::peers::Peers;
 use crate::rounds::{RoundsTag, rounds_channel};
 use crate::runtime::Runtime;
 use crate::seats::{gather_seats, part_seats};
 use crate::sockets::BoundSockets;
 use crate::threads::ThreadsEnd;
-use sb_directory::{Directory, ReaderSeat};
+use sb_directory::Directory;
 use sb_log::WriteLog;
 use sb_node::NodeCore;
 use sb_types::Fault;
@@ -70,10 +69,11 @@ pub(crate) fn run_tagged<
     let Ok((directory, seats)) = made else {
         return Err(Fault::NoMemory);
     };
-    let (thread_seats, spare) = part_seats(seats, settings.workers() as usize)?;
+    let thread_seats = part_seats(seats, settings.workers() as usize)?;
     let (rounds_sender, rounds_receiver) = rounds_channel::<S>(alloc)?;
-    let (bell, parker) = Bell::new(alloc)?;
-    let dialer = Dialer::new(Peers::new(alloc, paths.peers)?, observer, parker);
+    let (bell, parkers) = Bell::new(alloc)?;
+    let threads = thread_seats.news.len();
+    let dialer = Dialer::new(alloc, paths.peers, &pace, threads, observer, parkers)?;
     let sockets = BoundSockets::bind(rt, paths.sock, paths.control, observer)?;
     observer.listening();
     let (ending, counts) = (EndFlag::new(), Counts::new());
@@ -96,7 +96,7 @@ pub(crate) fn run_tagged<
         rounds_receiver,
     );
     sockets.remove(rt);
-    close(rt, directory, finished?, spare)
+    close(rt, directory, finished?)
 }
 
 /// Closes the directory, and says what the node did.
@@ -104,11 +104,10 @@ fn close<S: RoundsTag, R: Wait>(
     rt: &R,
     directory: Directory<S, &R>,
     finished: ThreadsEnd<S>,
-    spare: Vec<ReaderSeat<S>>,
 ) -> Result<Ran, Fault>
     requires parts { S.seats ≡ S.parts }
-    requires all { vec_len spare + (vec_len finished.thread_seats.workers + 2) ≡ S.seats }
-    requires room { S.seats ≤ vec_capacity spare }
+    requires all { vec_len finished.thread_seats.news + (vec_len finished.thread_seats.workers + 2) ≡ S.seats }
+    requires room { S.seats ≤ vec_capacity finished.thread_seats.news }
     ensures ok { IsOk result }
     ensures rounds { IfOk result (λ ran. ran.rounds ≡ S.rounds) }
 {
@@ -117,7 +116,7 @@ fn close<S: RoundsTag, R: Wait>(
         rounds,
         faults,
     } = finished;
-    match directory.close(rt, gather_seats(thread_seats, spare)) {
+    match directory.close(rt, gather_seats(thread_seats)) {
         Ok(closing) => Ok(Ran {
             rounds: rounds.made,
             faults,
