@@ -1,5 +1,5 @@
 -- How news is on its way to peers.
-use Rattle.std.specs.Prelude.{◌≡◌, ◌≢◌, ℕ, Bool, true, false, ◌&&◌, ◌||◌, not, nat_lt, ◌+◌, List, length, Some, slice_get, IfSome}
+use Rattle.std.specs.Prelude.{◌≡◌, ◌≢◌, ℕ, Bool, true, false, ◌&&◌, ◌||◌, not, nat_lt, ◌-◌, List, length, Some, slice_get, IfSome}
 use Rattle.std.specs.List.{filter}
 use Rattle.sb_run.specs.declared.delivery.Delivery.{Delivery}
 
@@ -9,7 +9,7 @@ is_slow_one delivery = delivery.is_open && delivery.is_slow
 
 -- slow peers leave one of so many sessions to others, if there are more than one
 abbrev pub has_room : ℕ → List Delivery → Bool
-has_room most deliveries = nat_lt most 2 || nat_lt (length (filter is_slow_one deliveries) + 1) most
+has_room most deliveries = nat_lt most 2 || nat_lt (length (filter is_slow_one deliveries)) (most - 1)
 
 -- a session for news with a peer can begin: there is news for it, none is under way, and the peer is not slow or there is room
 abbrev pub can_begin : Bool → Delivery → Bool

@@ -91,10 +91,11 @@ impl<'a, O: Observer> Dialing<'a, O> {
         if node.bell.take_new_owner() {
             *exchanges = None;
         }
-        if exchanges.is_none() {
-            *exchanges = digests_of_all(node, seat);
+        if let Some(count) = *exchanges {
+            return count;
         }
-        exchanges.unwrap_or(1)
+        *exchanges = digests_of_all(node, seat);
+        (*exchanges).unwrap_or(1)
     }
 
     /// Makes one round with the peer at this index, which has begun.
@@ -183,7 +184,12 @@ impl<'a, O: Observer> Dialing<'a, O> {
         node: &NodeContext<S, H, Q>,
         seat: &mut ReaderSeat<S>,
     ) {
-        replace_with(seat, self, |seat, dialing| dialing.dial_for_news(node, seat));
+        // `self` is handed in: the prover keeps no clause of a closure that captures a struct with a lifetime.
+        replace_with(
+            seat,
+            self,
+            |seat, dialing| -> (ReaderSeat<S>, ()) { dialing.dial_for_news(node, seat) },
+        );
     }
 }
 

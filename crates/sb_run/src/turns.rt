@@ -63,17 +63,14 @@ impl<'a> Turns<'a> {
     /// Whether the observer is to be told how the node is: a peer is otherwise than before, or a round has ended and it was not
     /// told for a second.
     fn is_status_due<O: Observer, Q: Wait + Clock>(
-        &mut self,
+        &self,
         rt: &Q,
         dialing: &Dialing<'a, O>,
     ) -> bool {
         let mut schedule = dialing.schedule().lock(rt);
         let ended = schedule.counts().ended;
         let has_changed = schedule.take_change();
-        let is_late = match self.status_due {
-            Some(_) => has_come(rt, self.status_due),
-            None => true,
-        };
+        let is_late = self.status_due.is_none() || has_come(rt, self.status_due);
         has_changed || ended != self.reported && is_late
     }
 
@@ -104,7 +101,7 @@ impl<'a> Turns<'a> {
                     log_cause: node.counts.log_cause(),
                     conflict,
                     snapshot: entered.snapshot(),
-                    peers: &self.peers,
+                    peers: self.peers.as_slice(),
                 });
                 entered.leave()
             }
@@ -152,9 +149,9 @@ impl<'a> Turns<'a> {
     /// Waits until the next round in turn is due or the thread is woken, and no longer than until this moment, where one is given.
     fn park<Q: Wait + Clock>(&self, rt: &Q, until: Option<Instant>) {
         let moment = match (self.due, until) {
-            (Some(due), Some(until)) => Some(due.min(until)),
+            (Some(due), Some(until)) if due <= until => Some(due),
             (due, None) => due,
-            (None, until) => until,
+            (_, until) => until,
         };
         match moment {
             Some(moment) => self.parker.park_deadline(rt, moment),
@@ -175,9 +172,10 @@ impl<'a> Turns<'a> {
             if node.ending.is_raised() || has_come(node.rt, self.due) {
                 return current;
             }
-            let step = match self.is_alone {
-                true => dialing.next_news(node),
-                false => NewsStep::Wait(None),
+            let step = if self.is_alone {
+                dialing.next_news(node)
+            } else {
+                NewsStep::Wait(None)
             };
             match step {
                 NewsStep::Dial(index) => {
