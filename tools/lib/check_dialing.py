@@ -25,8 +25,10 @@ def slow_peers(check):
     folder = check.folder()
     far, near = check.node("b", folder=folder).start(), [check.node(it, folder=folder).start() for it in "cd"]
     slow = [SlowProxy(folder / f"slow{at}.sock", far.sock, 1.0) for at in range(3)]
-    peers = [*(it.path for it in slow), *(it.sock for it in near)]
-    node = check.node("a", "--dial-idle", "20000", folder=folder, peers=peers).start()
+    peers = [*(it.sock for it in near), *(it.path for it in slow)]
+    # (three threads for news, of which slow peers leave one to the others)
+    given = ("--dial-idle", "20000", "--fanout", "5", "--workers", "1", "--seats", "6")
+    node = check.node("a", *given, folder=folder, peers=peers).start()
     awaits_lines(node, [f"peer {it.sock}: answers" for it in near])
     times = []
     for at in range(20):

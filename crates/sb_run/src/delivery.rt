@@ -8,13 +8,13 @@ use sb_types::Fault;
 use std::alloc::Global;
 
 /// How news is on its way to one peer.
-#[derive(Clone, Copy, Debug, PartialEq, Eq, Drop)]
+#[derive(Clone, Copy, Drop)]
 pub(crate) struct Delivery {
     /// There is news for it, which no session has begun to bring.
     is_due: bool,
     /// A session for news with it is under way.
     is_open: bool,
-    /// Its last session took long, or there was none yet.
+    /// Its last session took long.
     is_slow: bool,
 }
 
@@ -54,7 +54,7 @@ impl Deliveries {
             all.push(Delivery {
                 is_due: false,
                 is_open: false,
-                is_slow: true,
+                is_slow: false,
             })?;
         }
         Ok(Deliveries { all, most, turn: 0 })

@@ -1,7 +1,7 @@
 //! The running node: it serves its peers and its clients over sockets, and dials its peers.
 //!
-//! `run_node` runs the node that owns a log: workers serve the peers that connect, one thread dials the peers in turn and
-//! where there is news, and the calling thread answers clients at the control socket. Each write of a client is in the
+//! `run_node` runs the node that owns a log: workers serve the peers that connect, one thread dials the peers in turn, others
+//! dial them where there is news, and the calling thread answers clients at the control socket. Each write of a client is in the
 //! log before the directory takes it. A program with connections of its own serves them by `Serving`, and asks by
 //! `ask_control`.
 //!

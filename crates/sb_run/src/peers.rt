@@ -11,7 +11,7 @@ use std::alloc::Global;
 const TURNS_OUT: u64 = 7;
 
 /// A peer that is dialed.
-#[derive(Clone, Copy, Debug, Drop)]
+#[derive(Clone, Copy, Drop)]
 pub struct Peer<'a> {
     path: &'a str,
     state: PeerState,

@@ -17,7 +17,7 @@ use std::time::{Clock, Instant};
 const NEWS_INTERVAL: u64 = 10;
 
 /// How a round ended.
-#[derive(Clone, Copy, Debug)]
+#[derive(Clone, Copy)]
 pub(crate) struct RoundEnd {
     /// How the peer is by it.
     pub(crate) state: PeerState,
@@ -28,7 +28,7 @@ pub(crate) struct RoundEnd {
 }
 
 /// Why a round is made.
-#[derive(Clone, Copy, Debug, PartialEq, Eq)]
+#[derive(Clone, Copy)]
 pub(crate) enum Cause {
     /// It is the peer's turn.
     Turn,
@@ -37,7 +37,7 @@ pub(crate) enum Cause {
 }
 
 /// What a thread that dials for news is to do next.
-#[derive(Clone, Copy, Debug)]
+#[derive(Clone, Copy)]
 pub(crate) enum NewsStep {
     /// Dial the peer at this index.
     Dial(usize),
@@ -46,7 +46,7 @@ pub(crate) enum NewsStep {
 }
 
 /// Which rounds were made.
-#[derive(Clone, Copy, Debug, PartialEq, Eq)]
+#[derive(Clone, Copy)]
 pub(crate) struct RoundCounts {
     /// How many have ended.
     pub(crate) ended: u64,

@@ -103,8 +103,8 @@ fn dial_to_the_end<'a, S: RoundsTag, H: Wait + Drop, Q: Wait + Net + Clock, O: O
 
 impl<O: Observer + Sync> Dialer<'_, O> {
     /// Runs the threads of a node to their end: its workers, those that dial, and the calling one at the control socket.
-    /// `NoMemory` if the thread of the pool, the first for news, or the one that dials in turn can't be made; `StoreFailed` if the log failed and the node is to
-    /// exit then.
+    /// `NoMemory` if the thread of the pool, the first for news, or the one that dials in turn can't be made; `StoreFailed` if the
+    /// log failed and the node is to exit then.
     pub(crate) fn run_threads<
         S: RoundsTag + Send + Sync,
         L: WriteLog + Drop,
