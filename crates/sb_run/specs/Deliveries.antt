@@ -1,19 +1,6 @@
 -- How news is on its way to peers.
-use Rattle.std.specs.Prelude.{◌≡◌, ◌≢◌, ℕ, Bool, true, false, ◌&&◌, ◌||◌, not, nat_lt, ◌-◌, List, length, Some, slice_get, IfSome}
-use Rattle.std.specs.List.{filter}
+use Rattle.std.specs.Prelude.{◌≡◌, ◌≢◌, ℕ, Bool, true, false, ◌||◌, nat_lt, List, Some, slice_get, IfSome}
 use Rattle.sb_run.specs.declared.delivery.Delivery.{Delivery}
-
--- a session for news with a slow peer is under way
-abbrev pub is_slow_one : Delivery → Bool
-is_slow_one delivery = delivery.is_open && delivery.is_slow
-
--- slow peers leave one of so many sessions to others, if there are more than one
-abbrev pub has_room : ℕ → List Delivery → Bool
-has_room most deliveries = nat_lt most 2 || nat_lt (length (filter is_slow_one deliveries)) (most - 1)
-
--- a session for news with a peer can begin: there is news for it, none is under way, and the peer is not slow or there is room
-abbrev pub can_begin : Bool → Delivery → Bool
-can_begin room delivery = delivery.is_due && not delivery.is_open && (not delivery.is_slow || room)
 
 -- there is news for the peer
 abbrev pub with_news : Delivery → Delivery

