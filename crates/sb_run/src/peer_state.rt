@@ -107,7 +107,7 @@ impl PeerState {
     pub(crate) fn has_fault(&self) -> bool
         ensures { result ≡ nat_lt 0 (spec.number_of_state self.now) }
     {
-        self.number() != 0
+        0 < self.number()
     }
 
     /// Whether the peer is dialed for news: it is not down, and had no fault.
