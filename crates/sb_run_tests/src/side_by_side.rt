@@ -61,13 +61,13 @@ fn hear_beside_a_silent_peer<R: Net + Clock + Abort>(
     rt: &R,
     alloc: Global,
     silent: &UnixListener,
-    others: [&UnixListener; 2],
+    first: &UnixListener,
+    second: &UnixListener,
     control: &str,
 ) -> ([(Ended, u64); 2], bool) {
     let unanswered = next_of(rt, silent);
     let began = got(rt, Instant::now(rt));
     holds(rt, "the write is done", put_is_done(rt, control));
-    let [first, second] = others;
     let ends = [serve_next(rt, alloc, first), serve_next(rt, alloc, second)];
     let took = got(rt, began.elapsed(rt));
     thread::sleep(rt, Duration::from_millis(2_500));
@@ -96,7 +96,7 @@ fn a_silent_peer_delays_the_news_to_itself_alone(rt: HostRuntime) {
     let (ran, (ends, was_soon)) = thread::join(
         &rt,
         || run_side_by_side(&rt, alloc, &paths, pace, &states),
-        || hear_beside_a_silent_peer(&rt, alloc, &silent, [&of_b, &of_c], "side.control"),
+        || hear_beside_a_silent_peer(&rt, alloc, &silent, &of_b, &of_c, "side.control"),
     );
     for path in ["side.silent", "side.b", "side.c"] {
         got(&rt, fs::remove_file(&rt, path));
@@ -147,7 +147,7 @@ fn news_during_a_session_for_news_makes_another_behind_it(rt: HostRuntime) {
         all: Mutex::new(Vec::new(alloc)),
     };
     let mut pace = pace(3, 0);
-    pace.pause = 3_000;
+    pace.pause = 5_000;
     let (ran, ends) = thread::join(
         &rt,
         || run_side_by_side(&rt, alloc, &paths, pace, &states),
