@@ -318,11 +318,12 @@ const WORKERS: Part = Part {
     help: "How many connections of peers the node serves at once",
 };
 
-/// Greater: The additional seats stay empty.
-/// Smaller: Fault 5.
+/// The seats beyond workers and 2 are for news: so many peers are told at a time. See [News](#news).
+/// Greater: More slow peers delay nobody else, in more threads.
+/// Smaller: With workers and 2, peers are told one after another. Less: Fault 5.
 pub(crate) const SEATS: Part = Part {
     name: "seats",
-    kind: Kind::NumberElse(Range::Seats(SEATS_MOST), "workers and 2"),
+    kind: Kind::NumberElse(Range::Seats(SEATS_MOST), "workers, fanout and 2"),
     value: "S",
     help: "How many threads read and write the directory",
 };
@@ -350,7 +351,7 @@ const FANOUT: Part = Part {
     name: "fanout",
     kind: Kind::NumberOr(Range::Any, "3"),
     value: "K",
-    help: "How many peers the node dials right away, one after another, if it has news, 0 for none",
+    help: "How many peers the node dials right away, side by side, if it has news, 0 for none",
 };
 
 /// A connection that has said nothing yet holds no worker.
@@ -460,7 +461,14 @@ pub(crate) fn serve_arguments<'a>(
     })
 }
 
-/// The settings of a node. Without `--seats` there are two more seats than workers.
+/// How many seats so many workers and so many sessions for news have use for: two more, but not more than there may be.
+fn seats_for(workers: u64, fanout: u64) -> u64 {
+    let least = workers.saturating_add(2);
+    least.max(least.saturating_add(fanout).min(SEATS_MOST))
+}
+
+/// The settings of a node. Without `--seats` there is a seat for each worker, for each peer that is dialed at once for news, and
+/// two more, as far as there may be so many.
 fn settings_of<'a>(given: &ArgMatches<'a>) -> RawSettings<'a> {
     let workers = WORKERS.number(given);
     let order = match ORDER.value(given) {
@@ -474,7 +482,7 @@ fn settings_of<'a>(given: &ArgMatches<'a>) -> RawSettings<'a> {
         max_version: MAX_VERSION.number(given),
         seats: SEATS
             .number_if_any(given)
-            .unwrap_or(workers.saturating_add(2)),
+            .unwrap_or(seats_for(workers, FANOUT.number(given))),
         workers,
     }
 }

@@ -5,8 +5,7 @@ use crate::metrics::Metrics;
 use crate::metrics_file::MetricsFile;
 use jiff::Timestamp;
 use sb_log::StoreCause;
-use sb_run::{Observer, Status};
-use sb_session::Ended;
+use sb_run::{Observer, PeerState, Status};
 use sb_types::{Fault, KEYS_MOST, OWNERS_MOST};
 use std::fmt;
 use std::sync::atomic::{AtomicBool, Ordering};
@@ -158,18 +157,22 @@ impl Observer for Console<'_, '_> {
         );
     }
 
-    fn dialed(&self, peer: &str, ended: &Result<Ended, Fault>) {
+    fn dialed(&self, peer: &str, state: PeerState) {
         let rt = self.rt;
-        let level = match ended {
-            Ok(Ended::RoundsDone) => Level::Info,
-            _ => Level::Warning,
+        let level = match state {
+            PeerState::Never | PeerState::Answers => Level::Info,
+            PeerState::Down(_) | PeerState::Failed(_) => Level::Warning,
         };
         let head = self.head(level);
-        let _ = match ended {
-            Ok(Ended::RoundsDone) => eprintln!(rt; "{head} peer {peer}: answers"),
-            Ok(_) => eprintln!(rt; "{head} peer {peer}: ended a session before its end"),
-            Err(Fault::ReadFailed) => eprintln!(rt; "{head} peer {peer}: does not answer"),
-            Err(fault) => eprintln!(rt; "{head} peer {peer}: fault {}: {fault}", fault.number()),
+        let _ = match state {
+            PeerState::Never => Ok(()),
+            PeerState::Answers => eprintln!(rt; "{head} peer {peer}: answers"),
+            PeerState::Down(reason) => {
+                eprintln!(rt; "{head} peer {peer}: does not answer: {reason}")
+            }
+            PeerState::Failed(fault) => {
+                eprintln!(rt; "{head} peer {peer}: fault {}: {fault}", fault.number())
+            }
         };
     }
 

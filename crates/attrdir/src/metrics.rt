@@ -1,6 +1,6 @@
 //! What a node tells of itself, in the text format of Prometheus.
 use crate::release::{FRAMES, LOGS, RELEASE};
-use sb_run::{LastRound, Peer, Status};
+use sb_run::{Peer, PeerState, Status};
 use sb_types::{KEYS_MOST, Name, OWNERS_MOST};
 use std::{fmt, str};
 
@@ -106,7 +106,7 @@ const PEER_UP: Metric = Metric {
 const PEER_FAULT: Metric = Metric {
     name: "attrdir_peer_fault",
     kind: "gauge",
-    help: "The number of the fault of the last round with a peer, 0 for none.",
+    help: "The number of the fault by which a peer does not answer or refuses, 0 for none.",
 };
 
 const PEER_ROUNDS_SINCE: Metric = Metric {
@@ -173,11 +173,11 @@ impl OfPeer {
 
     /// Its value, where so many rounds were made.
     fn value(self, peer: &Peer<'_>, rounds: u64) -> u64 {
-        match (self, peer.last()) {
-            (OfPeer::Up, LastRound::Done) => 1,
-            (OfPeer::Fault, LastRound::Failed(number)) => number as u64,
+        match (self, peer.state()) {
+            (OfPeer::Up, PeerState::Answers) => 1,
+            (OfPeer::Up, _) => 0,
+            (OfPeer::Fault, state) => state.number() as u64,
             (OfPeer::RoundsSince, _) => rounds.saturating_sub(peer.round()),
-            _ => 0,
         }
     }
 }

@@ -8,4 +8,5 @@ pub mod Sources
 pub mod Arriving
 pub mod Running
 pub mod Turns
+pub mod Deliveries
 pub mod Together

@@ -52,7 +52,7 @@ impl<S: RoundsTag, H: Wait + Drop, Q: Wait + Clock> NodeContext<'_, S, H, Q> {
 }
 
 impl<S: RoundsTag, H: Wait + Drop, Q> NodeContext<'_, S, H, Q> {
-    /// Tells the dialing thread of a write that the last request made, and the observer of a log that it closed. Whether the node
+    /// Tells the threads that dial of a write that the last request made, and the observer of a log that it closed. Whether the node
     /// is to end with that.
     fn report_writes<L: WriteLog, O: Observer>(
         &self,

@@ -43,7 +43,7 @@ pub struct Pace {
     pub rounds: u64,
     /// How long it waits after each round in turn, in milliseconds.
     pub pause: u64,
-    /// How many peers it dials one after another, without a pause, where it has something new to pass on; 0 for none.
+    /// How many peers it dials side by side where it has something new to pass on; 0 for none.
     pub fanout: u64,
     /// How long a connection may move no byte, in milliseconds; 0 for no limit.
     pub idle: u64,
@@ -97,31 +97,35 @@ fn start_refusal<L: WriteLog>(settings: &Settings, log: &L) -> Option<Fault>
 /// Runs the node that owns a log. It binds both sockets, each at a path where no file is or a socket at which nobody
 /// listens, and tells the observer. One thread accepts at both. Workers serve peers, as many at once as there are workers, and
 /// answer questions of clients. The calling thread makes the own writes, one after another, and answers questions while no
-/// worker is free. One more thread dials the peers in turn, one a round, with a pause after each. A round has as many exchanges of digests and deltas as it takes to tell of all owners that the node
-/// holds: one, where the budget has room for a digest of all. A peer that let a round wait for `dial_idle` milliseconds is
-/// passed over in its next seven turns, unless nobody else is left. The observer is told of a round that ended otherwise
-/// than the one before with that peer. After the last round the node ends, once the connections that are open have ended,
-/// and removes what is at the paths of both sockets, also where another put it there since.
+/// worker is free. One more thread dials the peers in turn, one a round, with a pause after each. A round has as many
+/// exchanges of digests and deltas as it takes to tell of all owners that the node holds: one, where the budget has room for a
+/// digest of all. A peer that let a round wait for `dial_idle` milliseconds is passed over in its next seven turns, unless nobody
+/// else is left. The observer is told of a round by which a peer is otherwise than before. After the last round the node ends,
+/// once the connections that are open have ended, and removes what is at the paths of both sockets, also where another put it
+/// there since.
 ///
-/// Where a client wrote, or a peer told of something new, the node dials the next `fanout` peers one after another, without a
-/// pause, but for those whose last round had a fault. News that comes within ten milliseconds goes together. These are rounds too.
-/// With no pause there is no need of them.
+/// Where a client wrote, or a peer told of something new, the node dials the next `fanout` peers, but for those that are down or
+/// whose last round had a fault. It dials as many of them side by side as there are seats beyond two and one for each worker, and
+/// one after another, between the rounds in turn, where there are no more. No two sessions for news with one peer are under way
+/// at a time; news during one makes another behind it. Peers whose last session took half a second or more leave one of these
+/// seats to others. News that comes within ten milliseconds goes together. These are rounds too. With no pause there is no need
+/// of them.
 ///
 /// A connection takes a worker or the calling thread only once it has something to say: a peer's first bytes, or a client's
 /// whole request. Until then it waits, for `idle` milliseconds at `sock` and for `request` at `control`, or `idle` where that is
 /// 0. At most 1,024 wait at a socket; one more closes the oldest that said nothing, or else the oldest.
 ///
-/// A connection ends with a fault where it said nothing in time or made room for another, where its peer breaks the rules of a session or of the control socket, where it takes
-/// more than `max_reads` reads, where no byte moved for `idle` milliseconds, or for `dial_idle` where the node has dialed, where
-/// a session that a peer dialed took longer than `session`, or where a request or its answer took longer than `request`. That
-/// costs this connection alone.
+/// A connection ends with a fault where it said nothing in time or made room for another, where its peer breaks the rules of a
+/// session or of the control socket, where it takes more than `max_reads` reads, where no byte moved for `idle` milliseconds,
+/// or for `dial_idle` where the node has dialed, where a session that a peer dialed took longer than `session`, or where a
+/// request or its answer took longer than `request`. That costs this connection alone.
 ///
 /// Where a fault of its store closes the log it tells the observer, and goes on or ends, as `on_log_fault` says.
 ///
 /// `BadSetting` where there are fewer seats than two beside one for each worker; `WrongCluster` where the log is of another
 /// cluster than the settings'; the faults of the log's `load`; `NoMemory`; `ReadFailed` where a socket can't be bound;
-/// `NoMemory` where the thread that accepts, that of the pool, or the one that dials, can't be made; `StoreFailed` where the log failed and the
-/// node is to exit then. With each of these no file is left that was not there before. Where the thread of a worker can't be
+/// `NoMemory` where the thread that accepts, that of the pool, the first for news, or the one that dials in turn can't be made;
+/// `StoreFailed` where the log failed and the node is to exit then. With each of these no file is left that was not there before. Where the thread of a worker can't be
 /// made, the node serves fewer peers at once.
 pub fn run_node<
     L: WriteLog + Drop,

@@ -1,9 +1,8 @@
 //! The observer of a running node.
 
+use crate::peer_state::PeerState;
 use crate::status::Status;
 use sb_log::StoreCause;
-use sb_session::Ended;
-use sb_types::Fault;
 
 /// Receives the events of a running node. Each method runs on the thread where the event happened, and that thread waits until it
 /// returns.
@@ -20,7 +19,7 @@ use sb_types::Fault;
 ///         self.is_noted.store(true, Ordering::SeqCst);
 ///     }
 ///
-///     fn dialed(&self, _peer: &str, _ended: &Result<Ended, Fault>) {}
+///     fn dialed(&self, _peer: &str, _state: PeerState) {}
 ///
 ///     fn conflict(&self, _version: u64) {}
 /// }
@@ -46,11 +45,11 @@ pub trait Observer {
     /// Both sockets are bound, and nothing is served or dialed yet. It is told once.
     fn listening(&self);
 
-    /// How a round with the peer at this path ended: `RoundsDone` where all exchanges of digests of this one round were made;
-    /// `ReadFailed` also where the peer could not be reached. Each peer's first
-    /// round is told, and then each that ended otherwise than its round before, be it by another fault; but `WriteFailed` is
-    /// not told behind a refusal of the peer's Hello, since it is the same one.
-    fn dialed(&self, peer: &str, ended: &Result<Ended, Fault>);
+    /// How the peer at this path is, where its last round ended so that it is otherwise than before: it was not dialed yet,
+    /// answered, was down, or had another fault. `Answers` where all exchanges of digests of this one round were made. A peer
+    /// that is down is told once, for its first reason, until a round ends otherwise. One that hangs up unheard behind a
+    /// refused Hello is as it was, since that is the same refusal.
+    fn dialed(&self, peer: &str, state: PeerState);
 
     /// Another node writes under this node's name, of which this version was seen. It is told once, behind a round.
     fn conflict(&self, version: u64);
@@ -64,8 +63,8 @@ pub trait Observer {
         false
     }
 
-    /// How the node is, where it wants to know: behind a round that ended otherwise than the one before with that peer, and
-    /// behind each that ends a second or more after it was told last.
+    /// How the node is, where it wants to know: behind a round by which a peer is otherwise than before, and behind each that
+    /// ends a second or more after it was told last.
     fn status(&self, _status: &Status<'_>) {}
 
     /// At this path lay the socket of a node that no longer runs, and it was removed. It is told before `listening`.
@@ -79,7 +78,7 @@ pub struct Nobody;
 impl Observer for Nobody {
     fn listening(&self) {}
 
-    fn dialed(&self, _peer: &str, _ended: &Result<Ended, Fault>) {}
+    fn dialed(&self, _peer: &str, _state: PeerState) {}
 
     fn conflict(&self, _version: u64) {}
 }

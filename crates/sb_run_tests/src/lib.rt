@@ -23,6 +23,8 @@ mod pooling;
 #[cfg(test)]
 mod running;
 #[cfg(test)]
+mod side_by_side;
+#[cfg(test)]
 mod silence;
 #[cfg(test)]
 mod starting;

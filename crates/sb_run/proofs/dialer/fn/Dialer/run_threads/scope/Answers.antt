@@ -7,5 +7,6 @@ returns g c =
     let at_control = c.answer_requests-at_control in
     record {
       thread_seats = search rules;
+      news = search rules;
       fault = end_fault _ at_control.result.has_left c.receive-rounds.result c.threads_end.result at_control.ensures c.receive-rounds.ensures c.threads_end.ensures.left c.threads_end.ensures.fault;
     }
