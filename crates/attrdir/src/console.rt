@@ -142,6 +142,15 @@ impl Console<'_, '_> {
         );
     }
 
+    /// The log failed when its removals were to be dropped.
+    pub(crate) fn not_purged(&self) {
+        let (rt, head) = (self.rt, self.head(Level::Warning));
+        let _ = eprintln!(rt;
+            "{head} log {}: its removals could not be purged",
+            self.log
+        );
+    }
+
     /// The node ended after its last round.
     pub(crate) fn ended(&self) {
         let (rt, head) = (self.rt, self.head(Level::Info));

@@ -154,7 +154,30 @@ fn is_among(peers: &[Peer<'_>], path: &str) -> bool {
     false
 }
 
-/// What is told of a peer.
+/// What the file has of an owner.
+#[derive(Clone, Copy)]
+enum OfOwner {
+    HeldVersion,
+    Rows,
+}
+
+impl OfOwner {
+    fn metric(self) -> Metric {
+        match self {
+            OfOwner::HeldVersion => HELD_VERSION,
+            OfOwner::Rows => ROWS,
+        }
+    }
+
+    fn value(self, view: &OwnerView) -> u64 {
+        match self {
+            OfOwner::HeldVersion => view.upto(),
+            OfOwner::Rows => view.len() as u64,
+        }
+    }
+}
+
+/// What the file has of a peer.
 #[derive(Clone, Copy)]
 enum OfPeer {
     Up,
@@ -183,15 +206,27 @@ impl OfPeer {
 }
 
 impl Metrics<'_, '_> {
-    /// How many owners the node holds, itself counted, which it holds also where it wrote nothing.
+    /// How many owners the node holds, itself counted, which it holds also if it wrote nothing.
     pub(crate) fn owners(&self) -> usize {
         let mut count: usize = 1;
         for (owner, _) in self.status.snapshot.owners() {
-            if owner.bytes() != self.name.as_bytes() {
-                count = count.saturating_add(1);
-            }
+            count = count.saturating_add(usize::from(!self.is_node(owner)));
+        }
+        for owner in self.status.owners_at_zero {
+            let is_other = !self.is_node(owner) && !self.is_shown(owner);
+            count = count.saturating_add(usize::from(is_other));
         }
         count
+    }
+
+    /// Whether the owner is the node itself.
+    fn is_node(&self, owner: &Name) -> bool {
+        owner.bytes() == self.name.as_bytes()
+    }
+
+    /// Whether the snapshot shows the owner.
+    fn is_shown(&self, owner: &Name) -> bool {
+        self.status.snapshot.upto(owner) != 0
     }
 
     /// A metric of the node.
@@ -254,15 +289,18 @@ impl Metrics<'_, '_> {
         writeln!(f, "{name}{{node=\"{node}\",owner=\"{owner}\"}} {value}")
     }
 
-    /// What it holds of each owner.
-    fn write_owners<W: fmt::Write>(&self, f: &mut fmt::Formatter<W>) -> fmt::Result {
-        write_head(f, &HELD_VERSION)?;
+    /// A metric of each owner: those that the snapshot shows, and then those that are held at version 0, of which it shows
+    /// nothing.
+    fn write_owners<W: fmt::Write>(&self, f: &mut fmt::Formatter<W>, what: OfOwner) -> fmt::Result {
+        let metric = what.metric();
+        write_head(f, &metric)?;
         for (owner, view) in self.status.snapshot.owners() {
-            self.write_of_owner(f, &HELD_VERSION, owner, view.upto())?;
+            self.write_of_owner(f, &metric, owner, what.value(view))?;
         }
-        write_head(f, &ROWS)?;
-        for (owner, view) in self.status.snapshot.owners() {
-            self.write_of_owner(f, &ROWS, owner, view.len() as u64)?;
+        for owner in self.status.owners_at_zero {
+            if !self.is_shown(owner) {
+                self.write_of_owner(f, &metric, owner, 0)?;
+            }
         }
         Ok(())
     }
@@ -287,7 +325,8 @@ impl fmt::Display for Metrics<'_, '_> {
         self.write_release(f)?;
         self.write_course(f)?;
         self.write_room(f)?;
-        self.write_owners(f)?;
+        self.write_owners(f, OfOwner::HeldVersion)?;
+        self.write_owners(f, OfOwner::Rows)?;
         self.write_peers(f, OfPeer::Up)?;
         self.write_peers(f, OfPeer::Fault)?;
         self.write_peers(f, OfPeer::RoundsSince)

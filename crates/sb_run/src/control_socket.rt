@@ -114,7 +114,7 @@ impl<S: RoundsTag, H: Wait + Drop, Q> NodeContext<'_, S, H, Q> {
 
 impl<S: RoundsTag, H: Wait + Drop, Q: Wait + Net + Clock> NodeContext<'_, S, H, Q> {
     /// Serves one connection after another at the control socket, until the node is to end. It ends the node itself if the log
-    /// failed and the node is to exit then.
+    /// failed and the node is to exit then, before the first connection if the log is closed at the start.
     pub(crate) fn serve_control_socket<L: WriteLog + Drop, O: Observer>(
         &self,
         writes: OwnWrites<L>,
@@ -123,11 +123,20 @@ impl<S: RoundsTag, H: Wait + Drop, Q: Wait + Net + Clock> NodeContext<'_, S, H, 
     ) -> ControlEnd<S>
         requires opened { IsOpenedFrom (L.seen writes.log) S.opening }
         ensures { result.has_left ≡ true → self.now.pace.on_log_fault ≡ OnLogFault.Exit }
+        ensures failed { writes.has_failed ≡ true → self.now.pace.on_log_fault ≡ OnLogFault.Exit → result.has_left ≡ true }
     {
         let control = &self.sockets.control;
         let acceptor = Acceptor::new(self.rt, control, self.ending, self.pace.idle, None);
         let (mut writes, mut current) = (writes, seat);
         let mut faults: u64 = 0;
+        if self.report_writes(&mut writes, observer) {
+            self.end();
+            return ControlEnd {
+                seat: current,
+                faults,
+                has_left: true,
+            };
+        }
         for _ in self.rt.forever() {
             let Some(accepted) = acceptor.next() else {
                 return ControlEnd {

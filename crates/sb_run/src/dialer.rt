@@ -4,8 +4,8 @@ use crate::context::NodeContext;
 use crate::dialing::{dial_peer, digests_of_all};
 use crate::observer::Observer;
 use crate::peers::Peers;
+use crate::reporting::RoundCounts;
 use crate::rounds::{Rounds, RoundsTag};
-use crate::status::Status;
 use crossbeam_utils::sync::Parker;
 use sb_directory::ReaderSeat;
 use std::net::Net;
@@ -153,25 +153,11 @@ impl<'a, O: Observer> Dialer<'a, O> {
             return seat;
         }
         self.status_due = moment_after(node.rt, STATUS_INTERVAL);
-        let mut seat = seat;
-        let keys = node.directory.keys(node.rt, &mut seat);
-        let conflict = node.directory.conflict(node.rt, &mut seat);
-        match seat.enter() {
-            Ok(entered) => {
-                self.observer.status(&Status {
-                    rounds: self.rounds,
-                    faults: self.faults,
-                    sessions: node.counts.sessions(),
-                    keys,
-                    log_cause: node.counts.log_cause(),
-                    conflict,
-                    snapshot: entered.snapshot(),
-                    peers: self.peers.all(),
-                });
-                entered.leave()
-            }
-            Err(seat) => seat,
-        }
+        let counts = RoundCounts {
+            rounds: self.rounds,
+            faults: self.faults,
+        };
+        node.report_status(self.observer, counts, self.peers.all(), seat)
     }
 
     /// Publishes what there was no memory to publish before, and tells the observer, once, that another node writes under this

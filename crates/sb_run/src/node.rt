@@ -1,7 +1,7 @@
 //! A node that runs: it serves its peers and its clients, and dials its peers.
-ghost use Rattle.std.specs.Prelude.{◌≡◌, false, None, Err, IfOk, IfErr, IfSome};
+ghost use Rattle.std.specs.Prelude.{◌≡◌, ◌+◌, ◌≤◌, true, false, None, Err, IfOk, IfErr, IfSome, IsErr};
 ghost use Rattle.sb_run.specs.Running as spec;
-ghost use Rattle.sb_run.specs.Running.{IsRunningFault};
+ghost use Rattle.sb_run.specs.Running.{IsReadFrom, IsRunningFault, IsOpenedFault, RunsClosed};
 
 use crate::observer::Observer;
 use crate::own_writes::OwnWrites;
@@ -9,6 +9,7 @@ use crate::runtime::Runtime;
 use crate::tagged::{NodeStart, run_tagged};
 use sb_log::WriteLog;
 use sb_node::NodeCore;
+use sb_table::Table;
 use sb_types::{Fault, Settings};
 use sb_views::NewHistory;
 use std::alloc::Global;
@@ -126,23 +127,74 @@ pub fn run_node<
     ensures fault { IfErr result (IsRunningFault config.entry.settings (L.seen log) config.entry.pace.on_log_fault) }
     ensures rounds { IfOk result (λ ran. ran.rounds ≡ config.entry.pace.rounds) }
 {
+    if let Some(fault) = start_refusal(&config.settings, &log) {
+        return Err(fault);
+    }
+    let mut log = log;
+    let table = log.load(alloc)?;
+    run_opened(rt, alloc, config, OwnWrites::new(log), table, observer)
+}
+
+/// Runs the node that owns a log whose store failed, with the table that was read from it before. All is as with `run_node`,
+/// but that the log is not read: the node refuses writes by `Closed`, and serves its peers and readers. It tells the observer at
+/// once that the log failed, and ends then, if that is what `on_log_fault` says. A log that is open is run by `run_node`.
+pub fn run_closed_node<
+    L: WriteLog + Drop,
+    R: Runtime + Net<Listener = TcpListener, Stream = TcpStream>,
+    O: Observer + Sync,
+>(
+    rt: &R,
+    alloc: Global,
+    config: NodeConfig,
+    log: L,
+    table: Table,
+    observer: &O,
+) -> Result<Ran, Fault>
+    ensures refused { IfSome (spec.start_refusal config.entry.settings (L.seen log)) (λ fault. result ≡ Err fault) }
+    ensures closed { (L.seen log).is_open ≡ false → RunsClosed (spec.start_refusal config.entry.settings (L.seen log)) config.entry.pace.on_log_fault result }
+    ensures open { (L.seen log).is_open ≡ true → IfErr result (IsRunningFault config.entry.settings (L.seen log) config.entry.pace.on_log_fault) }
+    ensures rounds { IfOk result (λ ran. ran.rounds ≡ config.entry.pace.rounds) }
+{
+    if log.cause().is_none() {
+        return run_node(rt, alloc, config, log, observer);
+    }
+    if let Some(fault) = start_refusal(&config.settings, &log) {
+        return Err(fault);
+    }
+    run_opened(rt, alloc, config, OwnWrites::closed(log), table, observer)
+}
+
+/// Runs a node that opens with the table of its own writes, which was read from their log. `NoMemory`; `ReadFailed` if a socket
+/// cannot be bound; `StoreFailed` if the log failed and the node is to exit then.
+fn run_opened<
+    L: WriteLog + Drop,
+    R: Runtime + Net<Listener = TcpListener, Stream = TcpStream>,
+    O: Observer + Sync,
+>(
+    rt: &R,
+    alloc: Global,
+    config: NodeConfig,
+    writes: OwnWrites<L>,
+    table: Table,
+    observer: &O,
+) -> Result<Ran, Fault>
+    requires read { IsReadFrom (L.seen writes.log) table }
+    requires seats { config.settings.workers + 2 ≤ config.settings.seats }
+    ensures fault { IfErr result (IsOpenedFault config.entry.pace.on_log_fault) }
+    ensures exits { writes.has_failed ≡ true → config.entry.pace.on_log_fault ≡ OnLogFault.Exit → IsErr result }
+    ensures rounds { IfOk result (λ ran. ran.rounds ≡ config.entry.pace.rounds) }
+{
     let NodeConfig {
         settings,
         paths,
         pace,
     } = config;
-    if let Some(fault) = start_refusal(&settings, &log) {
-        return Err(fault);
-    }
-    let mut log = log;
-    let me = *log.owner();
-    let table = log.load(alloc)?;
-    let core = NodeCore::open(alloc, settings, me, table)?;
+    let core = NodeCore::open(alloc, settings, *writes.owner(), table)?;
     let start = NodeStart {
         new_history: NewHistory::new(),
         blank: Blank::new(settings.seats()),
         core,
-        writes: OwnWrites::new(log),
+        writes,
     };
     run_tagged::<Brand, L, R, O>(rt, alloc, start, &paths, pace, observer)
 }

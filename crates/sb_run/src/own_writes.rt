@@ -8,7 +8,7 @@ ghost use Rattle.sb_run.specs.OwnWriting.{IsUndisputed, version_of, count_owed, 
 
 use sb_directory::{Directory, DirectoryTag, ReaderSeat, Receipt};
 use sb_log::{Committed, StoreCause, WriteLog};
-use sb_types::{Fault, Key, Slot};
+use sb_types::{Fault, Key, Name, Slot};
 use std::sync::Wait;
 
 /// What became of a write that the log took.
@@ -56,6 +56,27 @@ impl<L: WriteLog> OwnWrites<L> {
             stored: None,
             has_failed: false,
         }
+    }
+
+    /// The own writes of a log whose store failed. Nothing is owed.
+    pub(crate) fn closed(log: L) -> OwnWrites<L>
+        ensures log { result.log ≡ log }
+        ensures owed { result.owed ≡ None }
+        ensures failed { (result.stored ≡ None) × (result.has_failed ≡ true) }
+    {
+        OwnWrites {
+            log,
+            owed: None,
+            stored: None,
+            has_failed: true,
+        }
+    }
+
+    /// Whose writes they are.
+    pub(crate) fn owner(&self) -> &Name
+        ensures { result.now ≡ (L.seen self.now.log).owner }
+    {
+        self.log.owner()
     }
 
     /// The version of the last write that the log took, or that was handed in, since this was last asked; none where there was none.

@@ -2,6 +2,7 @@
 
 use crate::peers::Peer;
 use sb_log::StoreCause;
+use sb_types::Name;
 use sb_views::Snapshot;
 
 /// How a running node is, as the thread that dials finds it.
@@ -21,6 +22,9 @@ pub struct Status<'a> {
     pub conflict: Option<u64>,
     /// What the dialing thread's seat sees of it.
     pub snapshot: Snapshot<'a>,
+    /// The owners that it held at version 0 shortly before, in ascending order: each of which it has a stage alone, and itself
+    /// before its first write. None is listed if memory is missing. The snapshot may show some of them by now.
+    pub owners_at_zero: &'a [Name],
     /// Whom it dials.
     pub peers: &'a [Peer<'a>],
 }

@@ -1,13 +1,13 @@
 //! A running node over a directory of its own, under a tag that names it in proofs.
-ghost use Rattle.std.specs.Prelude.{◌≡◌, ◌⊎◌, ◌+◌, ◌≤◌, vec_len, vec_capacity, IsOk, IfOk, IfErr};
-ghost use Rattle.sb_run.specs.Running.{IsEndFault, IsTagOf, IsStarted};
+ghost use Rattle.std.specs.Prelude.{◌≡◌, ◌⊎◌, ◌+◌, ◌≤◌, vec_len, vec_capacity, IsOk, IsErr, IfOk, IfErr};
+ghost use Rattle.sb_run.specs.Running.{IsOpenedFault, IsTagOf, IsStarted};
 
 use crate::bell::Bell;
 use crate::context::NodeContext;
 use crate::counts::Counts;
 use crate::dialer::Dialer;
 use crate::ending::EndFlag;
-use crate::node::{Pace, Paths, Ran};
+use crate::node::{OnLogFault, Pace, Paths, Ran};
 use crate::observer::Observer;
 use crate::own_writes::OwnWrites;
 use crate::peers::Peers;
@@ -61,7 +61,8 @@ pub(crate) fn run_tagged<
     requires started { IsStarted (L.seen start.writes.log) start.core }
     requires rounds { pace.rounds ≡ S.rounds }
     ensures rounds { IfOk result (λ ran. ran.rounds ≡ pace.rounds) }
-    ensures fault { IfErr result (λ fault. IsEndFault pace.on_log_fault fault ⊎ (fault ≡ Fault.ReadFailed)) }
+    ensures fault { IfErr result (IsOpenedFault pace.on_log_fault) }
+    ensures failed { start.writes.has_failed ≡ true → pace.on_log_fault ≡ OnLogFault.Exit → IsErr result }
 {
     let settings = start.core.settings();
     let all = settings.seats() as usize;

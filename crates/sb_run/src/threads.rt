@@ -1,5 +1,5 @@
 //! The threads of a running node.
-ghost use Rattle.std.specs.Prelude.{◌≡◌, true, false, vec_len, Ok, Err, IfOk, IfErr};
+ghost use Rattle.std.specs.Prelude.{◌≡◌, true, false, vec_len, Ok, Err, IfOk, IfErr, IsErr};
 ghost use Rattle.std.specs.Thread.{IsSend, IsSync};
 ghost use Rattle.sb_run.specs.Running.{IsEndFault, IsOpenedFrom};
 
@@ -7,6 +7,7 @@ use crate::accepting::Acceptor;
 use crate::context::NodeContext;
 use crate::control_socket::ControlEnd;
 use crate::dialer::Dialer;
+use crate::node::OnLogFault;
 use crate::observer::Observer;
 use crate::own_writes::OwnWrites;
 use crate::pool::Pooled;
@@ -100,6 +101,7 @@ impl<O: Observer + Sync> Dialer<'_, O> {
         requires workers { vec_len thread_seats.workers ≡ S.settings.workers }
         ensures thread_seats { IfOk result (λ finished. vec_len finished.thread_seats.workers ≡ vec_len thread_seats.workers) }
         ensures fault { IfErr result (IsEndFault node.now.pace.on_log_fault) }
+        ensures failed { writes.has_failed ≡ true → node.now.pace.on_log_fault ≡ OnLogFault.Exit → IsErr result }
     {
         let observer = self.observer();
         let dialer = self;
@@ -117,6 +119,7 @@ impl<O: Observer + Sync> Dialer<'_, O> {
                     × IsOpenedFrom (L.seen writes.log) S.opening }
                 ensures thread_seats { IfOk result (λ finished. vec_len finished.thread_seats.workers ≡ count) }
                 ensures fault { IfErr result (IsEndFault node.entry.now.pace.on_log_fault) }
+                ensures failed { writes.has_failed ≡ true → node.entry.now.pace.on_log_fault ≡ OnLogFault.Exit → IsErr result }
             {
                 let Ok(pool_thread) = scope.spawn_with(
                     AsMany(count),
