@@ -1,11 +1,11 @@
 //! What a node that runs says on standard error.
-use crate::advice::about_cause;
+use crate::advice::{ABOUT_LOSS, about_cause};
 use crate::log_file::DroppedRemovals;
+use crate::log_watch::LogWatch;
 use crate::metrics::Metrics;
 use crate::metrics_file::MetricsFile;
 use jiff::Timestamp;
-use sb_log::StoreCause;
-use sb_run::{Observer, Status};
+use sb_run::{LogCause, LogLoss, Observer, Status};
 use sb_session::Ended;
 use sb_types::{Fault, KEYS_MOST, OWNERS_MOST};
 use std::fmt;
@@ -51,6 +51,8 @@ pub(crate) struct Console<'r, 'a> {
     pub(crate) rt: &'r HostRuntime,
     pub(crate) name: &'a str,
     pub(crate) log: &'a str,
+    /// The file of its log.
+    pub(crate) watch: LogWatch<'a>,
     pub(crate) sock: &'a str,
     pub(crate) control: &'a str,
     /// Whether each line begins with the time.
@@ -192,14 +194,21 @@ impl Observer for Console<'_, '_> {
         );
     }
 
-    fn log_failed(&self, cause: StoreCause) {
+    fn log_failed(&self, cause: LogCause) {
         let (rt, head) = (self.rt, self.head(Level::Error));
+        let advice = match cause {
+            LogCause::Store(cause) => about_cause(cause),
+            LogCause::Lost(_) => ABOUT_LOSS,
+        };
         let _ = eprintln!(rt;
-            "{head} log {}: fault {}: {cause}; no more writes are taken: {}, and start the node again",
+            "{head} log {}: fault {}: {cause}; no more writes are taken: {advice}, and start the node again",
             self.log,
-            Fault::StoreFailed.number(),
-            about_cause(cause)
+            Fault::StoreFailed.number()
         );
+    }
+
+    fn log_loss(&self) -> Option<LogLoss> {
+        self.watch.loss(self.rt)
     }
 
     fn wants_status(&self) -> bool {

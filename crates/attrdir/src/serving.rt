@@ -3,6 +3,7 @@ use crate::commands::SEATS;
 use crate::console::{Console, Shortage};
 use crate::failure::{Failure, FaultPlace};
 use crate::log_file::{StartPurge, error_of, has_folder, open_log, purge_removals};
+use crate::log_watch::LogWatch;
 use crate::metrics_file::{MetricsFile, may_replace, writes_over};
 use crate::words::name_of;
 use sb_log::{LogError, WriteLog};
@@ -173,6 +174,7 @@ fn console_of<'r, 'a>(rt: &'r HostRuntime, given: &ServeArguments<'a>) -> Consol
         rt,
         name: given.name,
         log: given.log,
+        watch: LogWatch::new(rt, given.log),
         sock: given.sock,
         control: given.control,
         has_time: given.has_time,

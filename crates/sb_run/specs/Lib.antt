@@ -7,3 +7,5 @@ pub mod Pools
 pub mod Running
 pub mod Turns
 pub mod Together
+pub mod Closing
+pub mod LogCauses

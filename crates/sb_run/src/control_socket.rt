@@ -1,10 +1,13 @@
 //! The calling thread of a running node, at its control socket.
 ghost use Rattle.std.specs.Prelude.{◌≡◌, ◌+◌, ◌<◌, ◌≤◌, true, false};
 ghost use Rattle.sb_run.specs.Control.{AnswersOne};
+ghost use Rattle.sb_run.specs.Closing.{seen_by};
 ghost use Rattle.sb_run.specs.Running.{IsOpenedFrom};
 
 use crate::accepting::Acceptor;
+use crate::closable::ClosableLog;
 use crate::context::NodeContext;
+use crate::log_cause::LogCause;
 use crate::node::OnLogFault;
 use crate::observer::Observer;
 use crate::own_writes::OwnWrites;
@@ -103,8 +106,7 @@ impl<S: RoundsTag, H: Wait + Drop, Q> NodeContext<'_, S, H, Q> {
         }
         // A log that failed is closed, so it has a cause.
         let cause = writes.cause().unwrap_or(StoreCause::Other);
-        self.counts.fail_log(cause);
-        observer.log_failed(cause);
+        self.note_log_cause(LogCause::Store(cause), observer);
         match self.pace.on_log_fault {
             OnLogFault::Exit => true,
             OnLogFault::Serve => false,
@@ -113,15 +115,32 @@ impl<S: RoundsTag, H: Wait + Drop, Q> NodeContext<'_, S, H, Q> {
 }
 
 impl<S: RoundsTag, H: Wait + Drop, Q: Wait + Net + Clock> NodeContext<'_, S, H, Q> {
+    /// Reports what the last request did to the log. Whether the node is to end with that, or because the log was closed since;
+    /// then its other threads end too.
+    fn ends_with_log<L: WriteLog, O: Observer>(
+        &self,
+        writes: &mut OwnWrites<L>,
+        observer: &O,
+    ) -> bool
+        ensures exits { result ≡ true → self.now.pace.on_log_fault ≡ OnLogFault.Exit }
+        ensures ends { writes.old.has_failed ≡ true → self.now.pace.on_log_fault ≡ OnLogFault.Exit → result ≡ true }
+    {
+        let has_ended = self.report_writes(writes, observer) || self.ends_by_log();
+        if has_ended {
+            self.end();
+        }
+        has_ended
+    }
+
     /// Serves one connection after another at the control socket, until the node is to end. It ends the node itself if the log
-    /// failed and the node is to exit then, before the first connection if the log is closed at the start.
+    /// takes no more writes and the node is to exit then: before the first connection, if the log is closed at the start.
     pub(crate) fn serve_control_socket<L: WriteLog + Drop, O: Observer>(
         &self,
-        writes: OwnWrites<L>,
+        writes: OwnWrites<ClosableLog<L>>,
         seat: ReaderSeat<S>,
         observer: &O,
     ) -> ControlEnd<S>
-        requires opened { IsOpenedFrom (L.seen writes.log) S.opening }
+        requires opened { IsOpenedFrom (seen_by (L.seen writes.log.log) writes.log.closed_by) S.opening }
         ensures { result.has_left ≡ true → self.now.pace.on_log_fault ≡ OnLogFault.Exit }
         ensures failed { writes.has_failed ≡ true → self.now.pace.on_log_fault ≡ OnLogFault.Exit → result.has_left ≡ true }
     {
@@ -129,8 +148,7 @@ impl<S: RoundsTag, H: Wait + Drop, Q: Wait + Net + Clock> NodeContext<'_, S, H, 
         let acceptor = Acceptor::new(self.rt, control, self.ending, self.pace.idle, None);
         let (mut writes, mut current) = (writes, seat);
         let mut faults: u64 = 0;
-        if self.report_writes(&mut writes, observer) {
-            self.end();
+        if self.ends_with_log(&mut writes, observer) {
             return ControlEnd {
                 seat: current,
                 faults,
@@ -139,25 +157,23 @@ impl<S: RoundsTag, H: Wait + Drop, Q: Wait + Net + Clock> NodeContext<'_, S, H, 
         }
         for _ in self.rt.forever() {
             let Some(accepted) = acceptor.next() else {
+                // The dialing thread ends the node too if it finds the log lost.
                 return ControlEnd {
                     seat: current,
                     faults,
-                    has_left: false,
+                    has_left: self.ends_by_log(),
                 };
             };
-            let blank = Blank::new(1);
-            let (seat, failed) = self.serve_accepted::<L, Brand>(
+            self.close_lost_log(&mut writes, observer);
+            let (seat, failed) = self.serve_accepted::<ClosableLog<L>, Brand>(
                 &mut writes,
                 accepted,
                 current,
-                blank,
+                Blank::new(1),
             );
             current = seat;
-            if failed {
-                faults = faults.saturating_add(1);
-            }
-            if self.report_writes(&mut writes, observer) {
-                self.end();
+            faults = faults.saturating_add(u64::from(failed));
+            if self.ends_with_log(&mut writes, observer) {
                 return ControlEnd {
                     seat: current,
                     faults,

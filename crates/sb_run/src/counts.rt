@@ -1,13 +1,13 @@
 //! What the threads of a running node count for whoever looks at it.
 
-use sb_log::StoreCause;
+use crate::log_cause::LogCause;
 use std::sync::atomic::{AtomicU64, Ordering};
 
 /// What is counted of a node since it started.
 #[derive(Drop)]
 pub(crate) struct Counts {
     sessions: AtomicU64,
-    /// The number of the cause by which the store of the log failed, 0 if it did not.
+    /// The number of the cause by which the log takes no more writes, 0 if it takes them.
     log_cause: AtomicU64,
 }
 
@@ -30,13 +30,19 @@ impl Counts {
         self.sessions.load(Ordering::SeqCst)
     }
 
-    /// The store of the log failed, by this cause, and the log is closed.
-    pub(crate) fn fail_log(&self, cause: StoreCause) {
-        self.log_cause.store(cause.number(), Ordering::SeqCst);
+    /// The log takes no more writes, by this cause. Returns whether no cause was noted before, which then stays.
+    pub(crate) fn fail_log(&self, cause: LogCause) -> bool {
+        let noted = self.log_cause.compare_exchange(
+            0,
+            cause.number(),
+            Ordering::SeqCst,
+            Ordering::SeqCst,
+        );
+        noted.is_ok()
     }
 
-    /// Why the log is closed; none if it is open.
-    pub(crate) fn log_cause(&self) -> Option<StoreCause> {
-        StoreCause::from_number(self.log_cause.load(Ordering::SeqCst))
+    /// Why the log takes no more writes; none if it takes them.
+    pub(crate) fn log_cause(&self) -> Option<LogCause> {
+        LogCause::from_number(self.log_cause.load(Ordering::SeqCst))
     }
 }

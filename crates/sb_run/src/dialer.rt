@@ -193,6 +193,10 @@ impl<'a, O: Observer> Dialer<'a, O> {
         if let Some(index) = next {
             current = self.round(node, current, index);
         }
+        node.look_at_log(self.observer);
+        if node.ends_by_log() {
+            node.end();
+        }
         current = self.tell_status(node, current);
         if cause == Cause::Turn {
             self.refresh_and_report(node, &mut current);

@@ -1,8 +1,10 @@
 //! A node that runs: it serves its peers and its clients, and dials its peers.
 ghost use Rattle.std.specs.Prelude.{◌≡◌, ◌+◌, ◌≤◌, true, false, None, Err, IfOk, IfErr, IfSome, IsErr};
+ghost use Rattle.sb_run.specs.Closing.{seen_by};
 ghost use Rattle.sb_run.specs.Running as spec;
 ghost use Rattle.sb_run.specs.Running.{IsReadFrom, IsRunningFault, IsOpenedFault, RunsClosed};
 
+use crate::closable::ClosableLog;
 use crate::observer::Observer;
 use crate::own_writes::OwnWrites;
 use crate::runtime::Runtime;
@@ -110,12 +112,13 @@ fn start_refusal<L: WriteLog>(settings: &Settings, log: &L) -> Option<Fault>
 /// more than `max_reads` reads, where no byte moved for `idle` milliseconds, or for `dial_idle` where the node has dialed, or
 /// where a request or its answer took longer than `request`. That costs this connection alone.
 ///
-/// Where a fault of its store closes the log it tells the observer, and goes on or ends, as `on_log_fault` says.
+/// Where a fault of its store closes the log it tells the observer, and goes on or ends, as `on_log_fault` says. It does the same
+/// where the observer says that the file of the log is lost: it closes the log then, and refuses writes by `Closed`.
 ///
 /// `BadSetting` where there are fewer seats than two beside one for each worker; `WrongCluster` where the log is of another
 /// cluster than the settings'; the faults of the log's `load`; `NoMemory`; `ReadFailed` where a socket can't be bound;
-/// `NoMemory` where the thread of the pool, or the one that dials, can't be made; `StoreFailed` where the log failed and the
-/// node is to exit then. With each of these no file is left that was not there before. Where the thread of a worker can't be
+/// `NoMemory` where the thread of the pool, or the one that dials, can't be made; `StoreFailed` where the log failed or its
+/// file was lost, and the node is to exit then. With each of these no file is left that was not there before. Where the thread of a worker can't be
 /// made, the node serves fewer peers at once.
 pub fn run_node<
     L: WriteLog + Drop,
@@ -132,7 +135,7 @@ pub fn run_node<
     }
     let mut log = log;
     let table = log.load(alloc)?;
-    run_opened(rt, alloc, config, OwnWrites::new(log), table, observer)
+    run_opened(rt, alloc, config, OwnWrites::new(ClosableLog::new(log)), table, observer)
 }
 
 /// Runs the node that owns a log whose store failed, with the table that was read from it before. All is as with `run_node`,
@@ -161,7 +164,7 @@ pub fn run_closed_node<
     if let Some(fault) = start_refusal(&config.settings, &log) {
         return Err(fault);
     }
-    run_opened(rt, alloc, config, OwnWrites::closed(log), table, observer)
+    run_opened(rt, alloc, config, OwnWrites::closed(ClosableLog::new(log)), table, observer)
 }
 
 /// Runs a node that opens with the table of its own writes, which was read from their log. `NoMemory`; `ReadFailed` if a socket
@@ -174,11 +177,11 @@ fn run_opened<
     rt: &R,
     alloc: Global,
     config: NodeConfig,
-    writes: OwnWrites<L>,
+    writes: OwnWrites<ClosableLog<L>>,
     table: Table,
     observer: &O,
 ) -> Result<Ran, Fault>
-    requires read { IsReadFrom (L.seen writes.log) table }
+    requires read { IsReadFrom (seen_by (L.seen writes.log.log) writes.log.closed_by) table }
     requires seats { config.settings.workers + 2 ≤ config.settings.seats }
     ensures fault { IfErr result (IsOpenedFault config.entry.pace.on_log_fault) }
     ensures exits { writes.has_failed ≡ true → config.entry.pace.on_log_fault ≡ OnLogFault.Exit → IsErr result }

@@ -1,7 +1,7 @@
 //! The observer of a running node.
 
+use crate::log_cause::{LogCause, LogLoss};
 use crate::status::Status;
-use sb_log::StoreCause;
 use sb_session::Ended;
 use sb_types::Fault;
 
@@ -55,9 +55,15 @@ pub trait Observer {
     /// Another node writes under this node's name, of which this version was seen. It is told once, behind a round.
     fn conflict(&self, version: u64);
 
-    /// The store of the node's own log failed at a write, by this cause, and the log is closed. The log has the write or has it
-    /// not. It is told once.
-    fn log_failed(&self, _cause: StoreCause) {}
+    /// The node takes no more writes into its log, by this cause. If the store of the log failed at a write, the log has the write
+    /// or has it not. It is told once.
+    fn log_failed(&self, _cause: LogCause) {}
+
+    /// How the file of the node's log was lost; none if it is there, or if that cannot be seen. It is asked behind each round, and
+    /// before each request at the control socket, until the log fails.
+    fn log_loss(&self) -> Option<LogLoss> {
+        None
+    }
 
     /// Whether it wants to know how the node is.
     fn wants_status(&self) -> bool {

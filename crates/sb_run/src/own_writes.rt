@@ -6,6 +6,7 @@ ghost use Rattle.sb_directory.specs.Seats.{with_last_call};
 ghost use Rattle.sb_directory.specs.Serving.{IsLater};
 ghost use Rattle.sb_run.specs.OwnWriting.{IsUndisputed, version_of, count_owed, count_shared, news_after, IsHeldBack, IsHandedIn, IsStored, IsRefused};
 
+use crate::closable::ClosableLog;
 use sb_directory::{Directory, DirectoryTag, ReaderSeat, Receipt};
 use sb_log::{Committed, StoreCause, WriteLog};
 use sb_types::{Fault, Key, Name, Slot};
@@ -200,5 +201,16 @@ impl<L: WriteLog> OwnWrites<L> {
                 Ok(Stored::Owed(version, fault))
             }
         }
+    }
+}
+
+impl<L: WriteLog> OwnWrites<ClosableLog<L>> {
+    /// Closes the log, by this cause. From here on each write is refused by `Closed`.
+    pub(crate) fn close_log(&mut self, cause: StoreCause)
+        ensures closed { self.new.log.closed_by ≡ Some cause }
+        ensures log { self.new.log.log ≡ self.old.log.log }
+        ensures same { (self.new.owed ≡ self.old.owed) × (self.new.stored ≡ self.old.stored) × (self.new.has_failed ≡ self.old.has_failed) }
+    {
+        self.log.close_by(cause);
     }
 }

@@ -1,7 +1,7 @@
 //! How a running node is.
 
+use crate::log_cause::LogCause;
 use crate::peers::Peer;
-use sb_log::StoreCause;
 use sb_types::Name;
 use sb_views::Snapshot;
 
@@ -17,7 +17,7 @@ pub struct Status<'a> {
     /// How many keys its own table has, removed ones counted.
     pub keys: usize,
     /// Why its log takes no writes; none if it takes them.
-    pub log_cause: Option<StoreCause>,
+    pub log_cause: Option<LogCause>,
     /// The version under its name that another node wrote; none where no such was seen.
     pub conflict: Option<u64>,
     /// What the dialing thread's seat sees of it.

@@ -1,8 +1,10 @@
 //! A running node over a directory of its own, under a tag that names it in proofs.
 ghost use Rattle.std.specs.Prelude.{◌≡◌, ◌⊎◌, ◌+◌, ◌≤◌, vec_len, vec_capacity, IsOk, IsErr, IfOk, IfErr};
+ghost use Rattle.sb_run.specs.Closing.{seen_by};
 ghost use Rattle.sb_run.specs.Running.{IsOpenedFault, IsTagOf, IsStarted};
 
 use crate::bell::Bell;
+use crate::closable::ClosableLog;
 use crate::context::NodeContext;
 use crate::counts::Counts;
 use crate::dialer::Dialer;
@@ -36,7 +38,7 @@ pub(crate) struct NodeStart<L: WriteLog> {
     /// The node as it was opened.
     pub(crate) core: NodeCore,
     /// Its log, and the write in it that is still to be handed to the directory.
-    pub(crate) writes: OwnWrites<L>,
+    pub(crate) writes: OwnWrites<ClosableLog<L>>,
 }
 
 /// Makes the directory and its seats, binds both sockets, runs the threads, and removes the sockets' files. `NoMemory`;
@@ -58,7 +60,7 @@ pub(crate) fn run_tagged<
     requires tagged { IsTagOf S.opening S.settings S.seats S.parts start.core }
     requires name { start.blank.name ≡ S.name }
     requires parts { start.blank.parts ≡ S.parts }
-    requires started { IsStarted (L.seen start.writes.log) start.core }
+    requires started { IsStarted (seen_by (L.seen start.writes.log.log) start.writes.log.closed_by) start.core }
     requires rounds { pace.rounds ≡ S.rounds }
     ensures rounds { IfOk result (λ ran. ran.rounds ≡ pace.rounds) }
     ensures fault { IfErr result (IsOpenedFault pace.on_log_fault) }

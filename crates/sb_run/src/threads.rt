@@ -1,9 +1,11 @@
 //! The threads of a running node.
 ghost use Rattle.std.specs.Prelude.{◌≡◌, true, false, vec_len, Ok, Err, IfOk, IfErr, IsErr};
 ghost use Rattle.std.specs.Thread.{IsSend, IsSync};
+ghost use Rattle.sb_run.specs.Closing.{seen_by};
 ghost use Rattle.sb_run.specs.Running.{IsEndFault, IsOpenedFrom};
 
 use crate::accepting::Acceptor;
+use crate::closable::ClosableLog;
 use crate::context::NodeContext;
 use crate::control_socket::ControlEnd;
 use crate::dialer::Dialer;
@@ -92,12 +94,12 @@ impl<O: Observer + Sync> Dialer<'_, O> {
     >(
         self,
         node: &NodeContext<S, H, Q>,
-        writes: OwnWrites<L>,
+        writes: OwnWrites<ClosableLog<L>>,
         thread_seats: ThreadSeats<S>,
         rounds_sender: RoundsSender<S>,
         rounds_receiver: RoundsReceiver<S>,
     ) -> Result<ThreadsEnd<S>, Fault>
-        requires opened { IsOpenedFrom (L.seen writes.log) S.opening }
+        requires opened { IsOpenedFrom (seen_by (L.seen writes.log.log) writes.log.closed_by) S.opening }
         requires workers { vec_len thread_seats.workers ≡ S.settings.workers }
         ensures thread_seats { IfOk result (λ finished. vec_len finished.thread_seats.workers ≡ vec_len thread_seats.workers) }
         ensures fault { IfErr result (IsEndFault node.now.pace.on_log_fault) }
@@ -116,7 +118,7 @@ impl<O: Observer + Sync> Dialer<'_, O> {
             node.rt,
             move |scope| -> Result<ThreadsEnd<S>, Fault>
                 requires { IsSend S.row × IsSync S.row × IsSend H.row × IsSync H.row × IsSend Q.row × IsSync Q.row × IsSync O.row × (vec_len workers ≡ count)
-                    × IsOpenedFrom (L.seen writes.log) S.opening }
+                    × IsOpenedFrom (seen_by (L.seen writes.log.log) writes.log.closed_by) S.opening }
                 ensures thread_seats { IfOk result (λ finished. vec_len finished.thread_seats.workers ≡ count) }
                 ensures fault { IfErr result (IsEndFault node.entry.now.pace.on_log_fault) }
                 ensures failed { writes.has_failed ≡ true → node.entry.now.pace.on_log_fault ≡ OnLogFault.Exit → IsErr result }
