@@ -2,8 +2,9 @@
 use crate::advice::{ABOUT_LOSS, about_cause};
 use crate::log_file::DroppedRemovals;
 use crate::log_watch::LogWatch;
-use crate::metrics::Metrics;
+use crate::metrics::{Metrics, Series};
 use crate::metrics_file::MetricsFile;
+use crate::troubles::{TroubleLine, TroubleLines};
 use jiff::Timestamp;
 use sb_run::{LogCause, LogLoss, Observer, Status};
 use sb_session::Ended;
@@ -59,15 +60,23 @@ pub(crate) struct Console<'r, 'a> {
     pub(crate) has_time: bool,
     /// The file that tells how the node is.
     pub(crate) metrics: Option<MetricsFile<'a>>,
+    /// Which metrics the file has.
+    pub(crate) series: Series,
+    /// When the node was started, in seconds since 1970; 0 if the clock could not be read.
+    pub(crate) started: u64,
     /// What was said to run out.
     pub(crate) shortage: Shortage,
+    /// What was said of what the node suffers.
+    pub(crate) troubles: TroubleLines,
 }
 
-/// Of what it was said that it runs out.
+/// Of what it was said that nine tenths are used, and that all are.
 #[derive(Drop)]
 pub(crate) struct Shortage {
     keys: AtomicBool,
+    all_keys: AtomicBool,
     owners: AtomicBool,
+    all_owners: AtomicBool,
 }
 
 impl Shortage {
@@ -75,7 +84,9 @@ impl Shortage {
     pub(crate) fn new() -> Shortage {
         Shortage {
             keys: AtomicBool::new(false),
+            all_keys: AtomicBool::new(false),
             owners: AtomicBool::new(false),
+            all_owners: AtomicBool::new(false),
         }
     }
 }
@@ -102,7 +113,7 @@ impl Console<'_, '_> {
         }
     }
 
-    /// Says once that something runs out, where it does.
+    /// Says once that nine tenths of something are used, if that is so.
     fn warn(&self, was_said: &AtomicBool, what: &str, count: usize, most: usize) {
         if is_nearly(count, most) && !was_said.swap(true, Ordering::SeqCst) {
             let (rt, head) = (self.rt, self.head(Level::Warning));
@@ -110,6 +121,74 @@ impl Console<'_, '_> {
                 "{head} node {}: {count} of {most} {what} are used",
                 self.name
             );
+        }
+    }
+
+    /// Says once that all of something are used, if that is so, and what follows of it.
+    fn say_used_up(&self, was_said: &AtomicBool, what: &str, count: usize, most: usize) {
+        if count >= most && !was_said.swap(true, Ordering::SeqCst) {
+            let (rt, head) = (self.rt, self.head(Level::Error));
+            let _ = eprintln!(rt;
+                "{head} node {}: all {most} {what} are used, and no other is taken",
+                self.name
+            );
+        }
+    }
+
+    /// Says of what little is left, and of what nothing.
+    fn report_shortages(&self, keys: usize, owners: usize) {
+        let shortage = &self.shortage;
+        self.warn(&shortage.keys, "keys", keys, KEYS_MOST);
+        self.say_used_up(&shortage.all_keys, "keys", keys, KEYS_MOST);
+        self.warn(&shortage.owners, "owners", owners, OWNERS_MOST);
+        self.say_used_up(&shortage.all_owners, "owners", owners, OWNERS_MOST);
+    }
+
+    /// Prints how many times a trouble happened since the last line about it, if a line is due.
+    fn say_trouble(&self, level: Level, line: &TroubleLine, count: u64, now: u64, what: &str) {
+        if let Some(times) = line.take(count, now) {
+            let (rt, head) = (self.rt, self.head(level));
+            let _ = eprintln!(rt; "{head} node {}: {times} {what}", self.name);
+        }
+    }
+
+    /// Prints what the node suffered since the last lines about it, each trouble at most once in a minute.
+    fn report_troubles(&self, status: &Status<'_>) {
+        let (troubles, now, lines) = (&status.troubles, status.uptime, &self.troubles);
+        if let Some(times) = lines.session_faults.take(troubles.session_faults, now) {
+            let (rt, head) = (self.rt, self.head(Level::Warning));
+            let _ = eprintln!(rt;
+                "{head} node {}: {times} sessions that other nodes dialed ended with a fault, the last with fault {}",
+                self.name, troubles.last_session_fault
+            );
+        }
+        for (level, line, count, what) in [
+            (
+                Level::Warning,
+                &lines.other_versions,
+                troubles.other_versions,
+                "frames of another version were refused: run the same release at both ends",
+            ),
+            (
+                Level::Warning,
+                &lines.turned_away,
+                troubles.turned_away,
+                "callers were turned away: see whether the process may open more files",
+            ),
+            (
+                Level::Warning,
+                &lines.busy_times,
+                troubles.busy_times,
+                "times all workers were busy for longer than a second: give the node more workers, or end silent peers",
+            ),
+            (
+                Level::Error,
+                &lines.full_writes,
+                troubles.full_writes,
+                "writes were refused because all keys are used",
+            ),
+        ] {
+            self.say_trouble(level, line, count, now, what);
         }
     }
 
@@ -219,14 +298,11 @@ impl Observer for Console<'_, '_> {
         let metrics = Metrics {
             name: self.name,
             status,
+            started: self.started,
+            series: self.series,
         };
-        self.warn(&self.shortage.keys, "keys", status.keys, KEYS_MOST);
-        self.warn(
-            &self.shortage.owners,
-            "owners",
-            metrics.owners(),
-            OWNERS_MOST,
-        );
+        self.report_shortages(status.keys, metrics.owners());
+        self.report_troubles(status);
         if let Some(file) = &self.metrics {
             self.write_metrics(file, &metrics);
         }

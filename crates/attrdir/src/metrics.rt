@@ -2,6 +2,7 @@
 use crate::release::{FRAMES, LOGS, RELEASE};
 use sb_run::{LastRound, Peer, Status};
 use sb_types::{KEYS_MOST, Name, OWNERS_MOST};
+use sb_views::OwnerView;
 use std::{fmt, str};
 
 /// How the node of this name is, in the text format of Prometheus.
@@ -9,6 +10,18 @@ use std::{fmt, str};
 pub(crate) struct Metrics<'a, 's> {
     pub(crate) name: &'a str,
     pub(crate) status: &'a Status<'s>,
+    /// When the node was started, in seconds since 1970.
+    pub(crate) started: u64,
+    pub(crate) series: Series,
+}
+
+/// Which of the metrics that grow with the cluster the file has.
+#[derive(Clone, Copy)]
+pub(crate) struct Series {
+    /// Those of each owner.
+    pub(crate) has_owners: bool,
+    /// Those of each peer.
+    pub(crate) has_peers: bool,
 }
 
 /// A metric: its name, its type, and what it says.
@@ -23,6 +36,12 @@ const BUILD_INFO: Metric = Metric {
     name: "attrdir_build_info",
     kind: "gauge",
     help: "1, with the release, the version of frames and the form of logs.",
+};
+
+const START_TIME: Metric = Metric {
+    name: "attrdir_start_time_seconds",
+    kind: "gauge",
+    help: "When the node was started, in seconds since 1970.",
 };
 
 const ROUNDS: Metric = Metric {
@@ -41,6 +60,42 @@ const SESSIONS: Metric = Metric {
     name: "attrdir_sessions_total",
     kind: "counter",
     help: "Connections of peers that it took.",
+};
+
+const SESSION_FAULTS: Metric = Metric {
+    name: "attrdir_session_faults_total",
+    kind: "counter",
+    help: "Sessions that other nodes dialed and that ended with a fault.",
+};
+
+const OTHER_VERSIONS: Metric = Metric {
+    name: "attrdir_other_versions_total",
+    kind: "counter",
+    help: "Frames of another version that it refused.",
+};
+
+const TURNED_AWAY: Metric = Metric {
+    name: "attrdir_turned_away_total",
+    kind: "counter",
+    help: "Connections that it could not accept.",
+};
+
+const WORKERS: Metric = Metric {
+    name: "attrdir_workers",
+    kind: "gauge",
+    help: "Workers that serve its peers.",
+};
+
+const WORKERS_BUSY: Metric = Metric {
+    name: "attrdir_workers_busy",
+    kind: "gauge",
+    help: "Workers that serve a peer.",
+};
+
+const BUSY_TIMES: Metric = Metric {
+    name: "attrdir_all_workers_busy_total",
+    kind: "counter",
+    help: "Times that all workers were busy for longer than a second.",
 };
 
 const LOG_OPEN: Metric = Metric {
@@ -71,6 +126,18 @@ const KEYS_LIMIT: Metric = Metric {
     name: "attrdir_keys_limit",
     kind: "gauge",
     help: "The most keys of an owner.",
+};
+
+const REMOVALS: Metric = Metric {
+    name: "attrdir_removals",
+    kind: "gauge",
+    help: "Removed keys of its own that count until they are purged.",
+};
+
+const FULL_WRITES: Metric = Metric {
+    name: "attrdir_full_writes_total",
+    kind: "counter",
+    help: "Writes that it refused because it has the most keys.",
 };
 
 const OWNERS: Metric = Metric {
@@ -258,21 +325,41 @@ impl Metrics<'_, '_> {
         writeln!(f, "{name}{{node=\"{node}\",cause=\"{cause}\"}} 1")
     }
 
-    /// What the node has done since it started, and whether it takes writes.
+    /// What the node has done and suffered since it started, and whether it takes writes.
     fn write_course<W: fmt::Write>(&self, f: &mut fmt::Formatter<W>) -> fmt::Result {
-        let status = self.status;
+        let (status, troubles) = (self.status, &self.status.troubles);
+        self.write_one(f, &START_TIME, self.started)?;
         self.write_one(f, &ROUNDS, status.rounds)?;
         self.write_one(f, &FAULTS, status.faults)?;
         self.write_one(f, &SESSIONS, status.sessions)?;
+        self.write_one(f, &SESSION_FAULTS, troubles.session_faults)?;
+        self.write_one(f, &OTHER_VERSIONS, troubles.other_versions)?;
+        self.write_one(f, &TURNED_AWAY, troubles.turned_away)?;
+        self.write_one(f, &WORKERS, status.workers)?;
+        self.write_one(f, &WORKERS_BUSY, status.busy_workers)?;
+        self.write_one(f, &BUSY_TIMES, troubles.busy_times)?;
         self.write_one(f, &LOG_OPEN, u64::from(status.log_cause.is_none()))?;
         self.write_log_fault(f)?;
         self.write_one(f, &NAME_CONFLICT, u64::from(status.conflict.is_some()))
+    }
+
+    /// How many of its own keys are removed: those of which the snapshot has no row.
+    fn removals(&self) -> u64 {
+        let mut rows: usize = 0;
+        for (owner, view) in self.status.snapshot.owners() {
+            if self.is_node(owner) {
+                rows = view.len();
+            }
+        }
+        self.status.keys.saturating_sub(rows) as u64
     }
 
     /// How much of what it may have it has.
     fn write_room<W: fmt::Write>(&self, f: &mut fmt::Formatter<W>) -> fmt::Result {
         self.write_one(f, &KEYS, self.status.keys as u64)?;
         self.write_one(f, &KEYS_LIMIT, KEYS_MOST as u64)?;
+        self.write_one(f, &REMOVALS, self.removals())?;
+        self.write_one(f, &FULL_WRITES, self.status.troubles.full_writes)?;
         self.write_one(f, &OWNERS, self.owners() as u64)?;
         self.write_one(f, &OWNERS_LIMIT, OWNERS_MOST as u64)
     }
@@ -325,10 +412,15 @@ impl fmt::Display for Metrics<'_, '_> {
         self.write_release(f)?;
         self.write_course(f)?;
         self.write_room(f)?;
-        self.write_owners(f, OfOwner::HeldVersion)?;
-        self.write_owners(f, OfOwner::Rows)?;
-        self.write_peers(f, OfPeer::Up)?;
-        self.write_peers(f, OfPeer::Fault)?;
-        self.write_peers(f, OfPeer::RoundsSince)
+        if self.series.has_owners {
+            self.write_owners(f, OfOwner::HeldVersion)?;
+            self.write_owners(f, OfOwner::Rows)?;
+        }
+        if self.series.has_peers {
+            self.write_peers(f, OfPeer::Up)?;
+            self.write_peers(f, OfPeer::Fault)?;
+            self.write_peers(f, OfPeer::RoundsSince)?;
+        }
+        Ok(())
     }
 }

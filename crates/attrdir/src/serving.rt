@@ -4,8 +4,11 @@ use crate::console::{Console, Shortage};
 use crate::failure::{Failure, FaultPlace};
 use crate::log_file::{StartPurge, error_of, has_folder, open_log, purge_removals};
 use crate::log_watch::LogWatch;
+use crate::metrics::Series;
 use crate::metrics_file::{MetricsFile, may_replace, writes_over};
+use crate::troubles::TroubleLines;
 use crate::words::name_of;
+use jiff::Timestamp;
 use sb_log::{LogError, WriteLog};
 use sb_run::{NodeConfig, Pace, Paths, Ran, Runtime, run_closed_node, run_node};
 use sb_table::Table;
@@ -37,6 +40,8 @@ pub(crate) struct ServeArguments<'a> {
     pub(crate) has_time: bool,
     /// The path of the file for metrics.
     pub(crate) metrics: Option<&'a str>,
+    /// Which metrics that file has.
+    pub(crate) series: Series,
 }
 
 /// Prints what the node did. `WriteFailed` if standard output does not take it.
@@ -179,7 +184,13 @@ fn console_of<'r, 'a>(rt: &'r HostRuntime, given: &ServeArguments<'a>) -> Consol
         control: given.control,
         has_time: given.has_time,
         metrics,
+        series: given.series,
+        started: match Timestamp::now(rt) {
+            Ok(now) => now.as_second().max(0) as u64,
+            Err(_) => 0,
+        },
         shortage: Shortage::new(),
+        troubles: TroubleLines::new(),
     }
 }
 

@@ -21,8 +21,9 @@ pub(crate) struct Acceptor<'a, R> {
     ending: &'a EndFlag,
     idle: u64,
     accepted: AtomicU64,
-    /// Counts the connections too, where they are those of peers.
-    counts: Option<&'a Counts>,
+    counts: &'a Counts,
+    /// Whether the connections are those of peers, which are counted.
+    are_sessions: bool,
 }
 
 /// A connection that was accepted, as a reader and a writer. Each fails once it was idle for so many milliseconds.
@@ -37,14 +38,15 @@ fn reader_and_writer(
 }
 
 impl<'a, R> Acceptor<'a, R> {
-    /// Accepts at a socket. A connection fails once it was idle for so many milliseconds; 0 for no limit. `counts` is there
-    /// where the connections are those of peers.
+    /// Accepts at a socket. A connection fails once it was idle for so many milliseconds; 0 for no limit. It counts the connections
+    /// if they are those of peers, and those that could not be accepted.
     pub(crate) fn new(
         rt: &'a R,
         socket: &'a BoundSocket<'a>,
         ending: &'a EndFlag,
         idle: u64,
-        counts: Option<&'a Counts>,
+        counts: &'a Counts,
+        are_sessions: bool,
     ) -> Acceptor<'a, R> {
         Acceptor {
             rt,
@@ -53,6 +55,7 @@ impl<'a, R> Acceptor<'a, R> {
             idle,
             accepted: AtomicU64::new(0),
             counts,
+            are_sessions,
         }
     }
 }
@@ -73,12 +76,13 @@ impl<R: Clock> Source for Acceptor<'_, R> {
         match reader_and_writer(accepted, self.idle) {
             Ok((input, output)) => {
                 let before = self.accepted.fetch_add(1, Ordering::SeqCst);
-                if let Some(counts) = self.counts {
-                    counts.add_session();
+                if self.are_sessions {
+                    self.counts.add_session();
                 }
                 Some(Ok((before.saturating_add(1), input, output)))
             }
             Err(_) => {
+                self.counts.add_turned_away();
                 thread::sleep(self.rt, Duration::from_millis(ACCEPT_PAUSE));
                 Some(Err(Fault::ReadFailed))
             }

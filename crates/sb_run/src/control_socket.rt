@@ -55,6 +55,9 @@ impl<S: RoundsTag, H: Wait + Drop, Q: Wait + Clock> NodeContext<'_, S, H, Q> {
     {
         let serving = self.serving();
         let (seat, ended) = serving.serve_control(connection, writes, seat);
+        if let Err(fault) = &ended {
+            self.counts.note_version(fault);
+        }
         (seat, ended.is_err())
     }
 
@@ -101,6 +104,9 @@ impl<S: RoundsTag, H: Wait + Drop, Q> NodeContext<'_, S, H, Q> {
         if let Some(version) = writes.take_stored() {
             self.bell.ring(version == 1);
         }
+        if writes.take_full() {
+            self.counts.add_full_write();
+        }
         if !writes.take_failure() {
             return false;
         }
@@ -145,7 +151,8 @@ impl<S: RoundsTag, H: Wait + Drop, Q: Wait + Net + Clock> NodeContext<'_, S, H, 
         ensures failed { writes.has_failed ≡ true → self.now.pace.on_log_fault ≡ OnLogFault.Exit → result.has_left ≡ true }
     {
         let control = &self.sockets.control;
-        let acceptor = Acceptor::new(self.rt, control, self.ending, self.pace.idle, None);
+        let (idle, counts) = (self.pace.idle, self.counts);
+        let acceptor = Acceptor::new(self.rt, control, self.ending, idle, counts, false);
         let (mut writes, mut current) = (writes, seat);
         let mut faults: u64 = 0;
         if self.ends_with_log(&mut writes, observer) {

@@ -42,6 +42,8 @@ pub struct OwnWrites<L: WriteLog> {
     stored: Option<u64>,
     /// Whether a write closed the log by a fault of its store, where it was not asked for since.
     has_failed: bool,
+    /// Whether a write was refused because there are too many keys, where it was not asked for since.
+    was_full: bool,
 }
 
 impl<L: WriteLog> OwnWrites<L> {
@@ -56,6 +58,7 @@ impl<L: WriteLog> OwnWrites<L> {
             owed: None,
             stored: None,
             has_failed: false,
+            was_full: false,
         }
     }
 
@@ -70,6 +73,7 @@ impl<L: WriteLog> OwnWrites<L> {
             owed: None,
             stored: None,
             has_failed: true,
+            was_full: false,
         }
     }
 
@@ -98,6 +102,16 @@ impl<L: WriteLog> OwnWrites<L> {
         has_failed
     }
 
+    /// Whether a write was refused since this was last asked because there are too many keys.
+    pub(crate) fn take_full(&mut self) -> bool
+        ensures full { (result ≡ self.old.was_full) × (self.new.was_full ≡ false) }
+        ensures same { (self.new.log ≡ self.old.log) × (self.new.owed ≡ self.old.owed) × (self.new.stored ≡ self.old.stored) × (self.new.has_failed ≡ self.old.has_failed) }
+    {
+        let was_full = self.was_full;
+        self.was_full = false;
+        was_full
+    }
+
     /// Why the log is closed; none if it is open.
     pub(crate) fn cause(&self) -> Option<StoreCause>
         ensures { result ≡ L.why self.now.log }
@@ -115,6 +129,7 @@ impl<L: WriteLog> OwnWrites<L> {
         // A log is said to have failed only where this write closed it by a fault of its store.
         ensures failed { self.new.has_failed ≡ true → (self.old.has_failed ≡ true) ⊎ (result ≡ Err Fault.StoreFailed) }
         ensures fails { result ≡ Err Fault.StoreFailed → self.new.has_failed ≡ true }
+        ensures full { result ≡ Err Fault.TableFull → self.new.was_full ≡ true }
         // One that was open and is closed now has failed.
         ensures closes { (L.seen self.old.log).is_open ≡ true → (L.seen self.new.log).is_open ≡ false → self.new.has_failed ≡ true }
     {
@@ -122,6 +137,7 @@ impl<L: WriteLog> OwnWrites<L> {
         match &kept {
             Ok(committed) => self.stored = Some(committed.entry().version()),
             Err(Fault::StoreFailed) => self.has_failed = true,
+            Err(Fault::TableFull) => self.was_full = true,
             Err(_) => {}
         }
         kept

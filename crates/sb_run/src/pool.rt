@@ -72,7 +72,9 @@ impl<S: DirectoryTag, H: Wait + Drop, Q: Wait> Serving<'_, S, H, Q> {
         let served = SeatHandler::new(self.rt, self.directory, seat);
         let mut handler = GatedHandler::new(served, gate, number);
         let session = session_of(self.directory);
+        gate.begun(number);
         let ended = serve(connection, session, &mut handler);
+        gate.ended(number, &ended);
         (handler.into_inner().into_seat(), ended.is_err())
     }
 

@@ -10,6 +10,7 @@ use crate::status::Status;
 use sb_directory::ReaderSeat;
 use sb_types::{Fault, Name, OWNERS_MOST};
 use std::sync::Wait;
+use std::time::Clock;
 
 /// How many rounds the dialing thread made, and how many of them had a fault.
 #[derive(Clone, Copy)]
@@ -44,7 +45,7 @@ fn owners_at_zero<S: RoundsTag, H: Wait + Drop, Q: Wait>(
     Ok(owners)
 }
 
-impl<S: RoundsTag, H: Wait + Drop, Q: Wait> NodeContext<'_, S, H, Q> {
+impl<S: RoundsTag, H: Wait + Drop, Q: Wait + Clock> NodeContext<'_, S, H, Q> {
     /// Reports to the observer how the node is. If memory is missing, no owner at version 0 is listed.
     pub(crate) fn report_status<O: Observer>(
         &self,
@@ -54,6 +55,7 @@ impl<S: RoundsTag, H: Wait + Drop, Q: Wait> NodeContext<'_, S, H, Q> {
         seat: ReaderSeat<S>,
     ) -> ReaderSeat<S> {
         let mut seat = seat;
+        let uptime = self.counts.uptime(self.rt);
         let keys = self.directory.keys(self.rt, &mut seat);
         let conflict = self.directory.conflict(self.rt, &mut seat);
         let at_zero = match owners_at_zero(self, &mut seat) {
@@ -66,6 +68,10 @@ impl<S: RoundsTag, H: Wait + Drop, Q: Wait> NodeContext<'_, S, H, Q> {
                     rounds: counts.rounds,
                     faults: counts.faults,
                     sessions: self.counts.sessions(),
+                    uptime,
+                    workers: self.workers,
+                    busy_workers: self.counts.busy_workers(),
+                    troubles: self.counts.troubles(uptime),
                     keys,
                     log_cause: self.counts.log_cause(),
                     conflict,

@@ -14,6 +14,13 @@ pub struct Status<'a> {
     pub faults: u64,
     /// How many connections of peers it took.
     pub sessions: u64,
+    /// For how long it runs, in milliseconds.
+    pub uptime: u64,
+    /// How many workers serve its peers, and how many of them are busy.
+    pub workers: u64,
+    pub busy_workers: u64,
+    /// What it suffered.
+    pub troubles: Troubles,
     /// How many keys its own table has, removed ones counted.
     pub keys: usize,
     /// Why its log takes no writes; none if it takes them.
@@ -27,4 +34,21 @@ pub struct Status<'a> {
     pub owners_at_zero: &'a [Name],
     /// Whom it dials.
     pub peers: &'a [Peer<'a>],
+}
+
+/// What a node suffered since it started, by how many times.
+#[derive(Clone, Copy, Debug, PartialEq, Eq)]
+pub struct Troubles {
+    /// Sessions that other nodes dialed and that ended with a fault.
+    pub session_faults: u64,
+    /// The number of the fault of the last of them; 0 if there was none.
+    pub last_session_fault: u64,
+    /// Frames of another version that came, at either socket.
+    pub other_versions: u64,
+    /// Connections at either socket that it could not accept.
+    pub turned_away: u64,
+    /// Writes that it refused because it has as many keys as it may.
+    pub full_writes: u64,
+    /// Times that all its workers were busy for longer than a second. The present time counts too.
+    pub busy_times: u64,
 }

@@ -79,7 +79,7 @@ pub(crate) fn run_tagged<
     let dialer = Dialer::new(Peers::new(alloc, paths.peers)?, observer, parker);
     let sockets = BoundSockets::bind(rt, paths.sock, paths.control, observer)?;
     observer.listening();
-    let (ending, counts) = (EndFlag::new(), Counts::new());
+    let (ending, counts) = (EndFlag::new(), Counts::new(rt, settings.workers()));
     let node = NodeContext {
         rt,
         alloc,

@@ -10,6 +10,7 @@ use crate::context::NodeContext;
 use crate::control_socket::ControlEnd;
 use crate::dialer::Dialer;
 use crate::node::OnLogFault;
+use crate::node_gate::NodeGate;
 use crate::observer::Observer;
 use crate::own_writes::OwnWrites;
 use crate::pool::Pooled;
@@ -58,10 +59,16 @@ fn serve_sock<
         socket,
         node.ending,
         node.pace.idle,
-        Some(node.counts),
+        node.counts,
+        true,
     );
+    let gate = NodeGate {
+        clock: node.rt,
+        bell: node.bell,
+        counts: node.counts,
+    };
     let serving = node.serving();
-    match serving.serve_pool(seats, &source, node.bell) {
+    match serving.serve_pool(seats, &source, &gate) {
         Ok(pooled) => pooled,
         Err(_) => unreachable!(),
     }
