@@ -5,6 +5,8 @@
 #[cfg(test)]
 mod asking;
 #[cfg(test)]
+mod closing;
+#[cfg(test)]
 mod desk;
 #[cfg(test)]
 mod examples;
@@ -24,6 +26,8 @@ mod pooling;
 mod running;
 #[cfg(test)]
 mod starting;
+#[cfg(test)]
+mod suffering;
 #[cfg(test)]
 mod telling;
 #[cfg(test)]
