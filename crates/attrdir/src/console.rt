@@ -4,7 +4,7 @@ use crate::log_file::DroppedRemovals;
 use crate::log_watch::LogWatch;
 use crate::metrics::{Metrics, Series};
 use crate::metrics_file::MetricsFile;
-use crate::troubles::{TroubleLine, TroubleLines};
+use crate::troubles::TroubleLines;
 use jiff::Timestamp;
 use sb_run::{LogCause, LogLoss, Observer, Status};
 use sb_session::Ended;
@@ -43,6 +43,16 @@ impl fmt::Display for Head {
             write!(f, "{time:.3} ")?;
         }
         write!(f, "attrdir: {}", self.level)
+    }
+}
+
+/// The number of the last fault of several.
+#[derive(Clone, Copy)]
+struct LastFault(u64);
+
+impl fmt::Display for LastFault {
+    fn fmt<W: fmt::Write>(&self, f: &mut fmt::Formatter<W>) -> fmt::Result {
+        write!(f, "the last by fault {}", self.0)
     }
 }
 
@@ -129,7 +139,7 @@ impl Console<'_, '_> {
         if count >= most && !was_said.swap(true, Ordering::SeqCst) {
             let (rt, head) = (self.rt, self.head(Level::Error));
             let _ = eprintln!(rt;
-                "{head} node {}: all {most} {what} are used, and no other is taken",
+                "{head} node {}: all {most} {what} are used; no other is taken",
                 self.name
             );
         }
@@ -144,52 +154,47 @@ impl Console<'_, '_> {
         self.say_used_up(&shortage.all_owners, "owners", owners, OWNERS_MOST);
     }
 
-    /// Prints how many times a trouble happened since the last line about it, if a line is due.
-    fn say_trouble(&self, level: Level, line: &TroubleLine, count: u64, now: u64, what: &str) {
-        if let Some(times) = line.take(count, now) {
+    /// Prints how many times a trouble happened since the last line about it, if a line is due, and what to do about it.
+    fn print_trouble<A: fmt::Display>(&self, level: Level, what: &str, times: Option<u64>, advice: A) {
+        if let Some(times) = times {
             let (rt, head) = (self.rt, self.head(level));
-            let _ = eprintln!(rt; "{head} node {}: {times} {what}", self.name);
+            let _ = eprintln!(rt; "{head} node {}: {what}: {times}; {advice}", self.name);
         }
     }
 
     /// Prints what the node suffered since the last lines about it, each trouble at most once in a minute.
     fn report_troubles(&self, status: &Status<'_>) {
         let (troubles, now, lines) = (&status.troubles, status.uptime, &self.troubles);
-        if let Some(times) = lines.session_faults.take(troubles.session_faults, now) {
-            let (rt, head) = (self.rt, self.head(Level::Warning));
-            let _ = eprintln!(rt;
-                "{head} node {}: {times} sessions that other nodes dialed ended with a fault, the last with fault {}",
-                self.name, troubles.last_session_fault
-            );
-        }
-        for (level, line, count, what) in [
-            (
-                Level::Warning,
-                &lines.other_versions,
-                troubles.other_versions,
-                "frames of another version were refused: run the same release at both ends",
-            ),
-            (
-                Level::Warning,
-                &lines.turned_away,
-                troubles.turned_away,
-                "callers were turned away: see whether the process may open more files",
-            ),
-            (
-                Level::Warning,
-                &lines.busy_times,
-                troubles.busy_times,
-                "times all workers were busy for longer than a second: give the node more workers, or end silent peers",
-            ),
-            (
-                Level::Error,
-                &lines.full_writes,
-                troubles.full_writes,
-                "writes were refused because all keys are used",
-            ),
-        ] {
-            self.say_trouble(level, line, count, now, what);
-        }
+        self.print_trouble(
+            Level::Warning,
+            "sessions of other nodes ended with a fault",
+            lines.session_faults.take(troubles.session_faults, now),
+            LastFault(troubles.last_session_fault),
+        );
+        self.print_trouble(
+            Level::Warning,
+            "frames of another version refused",
+            lines.other_versions.take(troubles.other_versions, now),
+            "run the same release at both ends",
+        );
+        self.print_trouble(
+            Level::Warning,
+            "callers turned away",
+            lines.turned_away.take(troubles.turned_away, now),
+            "let the process open more files",
+        );
+        self.print_trouble(
+            Level::Warning,
+            "times that all workers were busy for longer than a second",
+            lines.busy_times.take(troubles.busy_times, now),
+            "give it more --workers, or end silent peers",
+        );
+        self.print_trouble(
+            Level::Error,
+            "writes refused since all keys are used",
+            lines.full_writes.take(troubles.full_writes, now),
+            "see RUNBOOK, Keys used up",
+        );
     }
 
     /// Writes the file of metrics, and says where it can't be written, and where it can again.
