@@ -35,6 +35,7 @@ impl<S: RoundsTag, H: Wait + Drop, Q> NodeContext<'_, S, H, Q> {
         writes: &mut OwnWrites<ClosableLog<L>>,
         observer: &O,
     )
+        ensures log { writes.new.log.log ≡ writes.old.log.log }
         ensures owed { writes.new.owed ≡ writes.old.owed }
         ensures failed { writes.new.has_failed ≡ writes.old.has_failed }
     {
