@@ -442,6 +442,11 @@ const METRICS_PEERS: Part = Part {
     help: "Of which peers the file has how the last round ended",
 };
 
+/// Whether an option says all.
+fn is_all(which: &str) -> bool {
+    matches!(which, "all")
+}
+
 /// What the command line gives for a node. `NoMemory`.
 pub(crate) fn serve_arguments<'a>(
     alloc: Global,
@@ -462,8 +467,8 @@ pub(crate) fn serve_arguments<'a>(
         has_time: LOG_TIME.is_given(given),
         metrics: METRICS.value_if_any(given),
         series: Series {
-            has_owners: METRICS_OWNERS.value(given) == "all",
-            has_peers: METRICS_PEERS.value(given) == "all",
+            has_owners: is_all(METRICS_OWNERS.value(given)),
+            has_peers: is_all(METRICS_PEERS.value(given)),
         },
     })
 }
