@@ -130,6 +130,7 @@ impl<S: RoundsTag, H: Wait + Drop, Q: Wait + Net + Clock> NodeContext<'_, S, H, 
     ) -> bool
         ensures exits { result ≡ true → self.now.pace.on_log_fault ≡ OnLogFault.Exit }
         ensures ends { writes.old.has_failed ≡ true → self.now.pace.on_log_fault ≡ OnLogFault.Exit → result ≡ true }
+        ensures same { (writes.new.log ≡ writes.old.log) × (writes.new.owed ≡ writes.old.owed) }
     {
         let has_ended = self.report_writes(writes, observer) || self.ends_by_log();
         if has_ended {
