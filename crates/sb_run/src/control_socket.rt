@@ -148,7 +148,7 @@ impl<S: RoundsTag, H: Wait + Drop, Q: Wait + Net + Clock> NodeContext<'_, S, H, 
         observer: &O,
     ) -> ControlEnd<S>
         requires opened { IsOpenedFrom (seen_by (L.seen writes.log.log) writes.log.closed_by) S.opening }
-        ensures { result.has_left ≡ true → self.now.pace.on_log_fault ≡ OnLogFault.Exit }
+        ensures exits { result.has_left ≡ true → self.now.pace.on_log_fault ≡ OnLogFault.Exit }
         ensures failed { writes.has_failed ≡ true → self.now.pace.on_log_fault ≡ OnLogFault.Exit → result.has_left ≡ true }
     {
         let control = &self.sockets.control;
