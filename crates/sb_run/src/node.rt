@@ -130,7 +130,8 @@ pub fn run_node<
     ensures fault { IfErr result (IsRunningFault config.entry.settings (L.seen log) config.entry.pace.on_log_fault) }
     ensures rounds { IfOk result (λ ran. ran.rounds ≡ config.entry.pace.rounds) }
 {
-    if let Some(fault) = start_refusal(&config.settings, &log) {
+    let settings = config.settings;
+    if let Some(fault) = start_refusal(&settings, &log) {
         return Err(fault);
     }
     let mut log = log;
@@ -161,7 +162,8 @@ pub fn run_closed_node<
     if log.cause().is_none() {
         return run_node(rt, alloc, config, log, observer);
     }
-    if let Some(fault) = start_refusal(&config.settings, &log) {
+    let settings = config.settings;
+    if let Some(fault) = start_refusal(&settings, &log) {
         return Err(fault);
     }
     run_opened(rt, alloc, config, OwnWrites::closed(ClosableLog::new(log)), table, observer)
