@@ -155,7 +155,13 @@ impl Console<'_, '_> {
     }
 
     /// Prints how many times a trouble happened since the last line about it, if a line is due, and what to do about it.
-    fn print_trouble<A: fmt::Display>(&self, level: Level, what: &str, times: Option<u64>, advice: A) {
+    fn print_trouble<A: fmt::Display + Drop>(
+        &self,
+        level: Level,
+        what: &str,
+        times: Option<u64>,
+        advice: A,
+    ) {
         if let Some(times) = times {
             let (rt, head) = (self.rt, self.head(level));
             let _ = eprintln!(rt; "{head} node {}: {what}: {times}; {advice}", self.name);
@@ -231,10 +237,7 @@ impl Console<'_, '_> {
     /// The log failed when its removals were to be dropped.
     pub(crate) fn not_purged(&self) {
         let (rt, head) = (self.rt, self.head(Level::Warning));
-        let _ = eprintln!(rt;
-            "{head} log {}: its removals could not be purged",
-            self.log
-        );
+        let _ = eprintln!(rt; "{head} log {}: its removals could not be purged", self.log);
     }
 
     /// The node ended after its last round.

@@ -65,9 +65,9 @@ impl BusyWorkers {
     pub(crate) fn times_until(&self, now: u64) -> u64 {
         let since = self.since.load(Ordering::SeqCst);
         if self.busy() >= self.workers && is_long(since, now) {
-            let counted =
-                self.since
-                    .compare_exchange(since, COUNTED, Ordering::SeqCst, Ordering::SeqCst);
+            let counted = self
+                .since
+                .compare_exchange(since, COUNTED, Ordering::SeqCst, Ordering::SeqCst);
             if counted.is_ok() {
                 self.times.fetch_add(1, Ordering::SeqCst);
             }

@@ -115,12 +115,9 @@ impl Counts {
 
     /// The log takes no more writes, by this cause. Returns whether no cause was noted before, which then stays.
     pub(crate) fn fail_log(&self, cause: LogCause) -> bool {
-        let noted = self.log_cause.compare_exchange(
-            0,
-            cause.number(),
-            Ordering::SeqCst,
-            Ordering::SeqCst,
-        );
+        let noted = self
+            .log_cause
+            .compare_exchange(0, cause.number(), Ordering::SeqCst, Ordering::SeqCst);
         noted.is_ok()
     }
 

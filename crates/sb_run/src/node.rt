@@ -130,13 +130,29 @@ pub fn run_node<
     ensures fault { IfErr result (IsRunningFault config.entry.settings (L.seen log) config.entry.pace.on_log_fault) }
     ensures rounds { IfOk result (λ ran. ran.rounds ≡ config.entry.pace.rounds) }
 {
-    let settings = config.settings;
+    let NodeConfig {
+        settings,
+        paths,
+        pace,
+    } = config;
     if let Some(fault) = start_refusal(&settings, &log) {
         return Err(fault);
     }
+    let config = NodeConfig {
+        settings,
+        paths,
+        pace,
+    };
     let mut log = log;
     let table = log.load(alloc)?;
-    run_opened(rt, alloc, config, OwnWrites::new(ClosableLog::new(log)), table, observer)
+    run_opened(
+        rt,
+        alloc,
+        config,
+        OwnWrites::new(ClosableLog::new(log)),
+        table,
+        observer,
+    )
 }
 
 /// Runs the node that owns a log whose store failed, with the table that was read from it before. All is as with `run_node`,
@@ -162,11 +178,27 @@ pub fn run_closed_node<
     if log.cause().is_none() {
         return run_node(rt, alloc, config, log, observer);
     }
-    let settings = config.settings;
+    let NodeConfig {
+        settings,
+        paths,
+        pace,
+    } = config;
     if let Some(fault) = start_refusal(&settings, &log) {
         return Err(fault);
     }
-    run_opened(rt, alloc, config, OwnWrites::closed(ClosableLog::new(log)), table, observer)
+    let config = NodeConfig {
+        settings,
+        paths,
+        pace,
+    };
+    run_opened(
+        rt,
+        alloc,
+        config,
+        OwnWrites::closed(ClosableLog::new(log)),
+        table,
+        observer,
+    )
 }
 
 /// Runs a node that opens with the table of its own writes, which was read from their log. `NoMemory`; `ReadFailed` if a socket

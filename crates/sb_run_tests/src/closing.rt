@@ -9,7 +9,8 @@ use crate::starting::log_of_two;
 use crate::{got, same};
 use sb_log::{Committed, StoreCause, WriteLog};
 use sb_run::{
-    LogCause, LogLoss, NodeConfig, Observer, OnLogFault, Pace, Paths, Ran, run_closed_node, run_node,
+    LogCause, LogLoss, NodeConfig, Observer, OnLogFault, Pace, Paths, Ran, run_closed_node,
+    run_node,
 };
 use sb_session::Ended;
 use sb_table::Table;

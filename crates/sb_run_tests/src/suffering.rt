@@ -1,11 +1,10 @@
 //! What a running node reports of what it suffers, and of owners of whom it holds nothing yet.
 
-use crate::got;
 use crate::making::{key, name, new_log, settings, weight};
 use crate::peers::{hears_only, next_of, reach, talk};
 use crate::running::{answer_by, pace, paths_of};
-use crate::same;
 use crate::waking::silent_b;
+use crate::{got, same};
 use sb_log::{PlainLog, WriteLog};
 use sb_run::{NodeConfig, Observer, Paths, Status, Troubles, run_node};
 use sb_session::Ended;
