@@ -6,6 +6,7 @@
 //! holds without the option, if it has no default.
 use crate::failure::FaultPlace;
 use crate::help;
+use crate::metrics::Series;
 use crate::part::{Kind, Part, Range};
 use crate::serving::ServeArguments;
 use clap::ArgMatches;
@@ -439,6 +440,26 @@ const METRICS: Part = Part {
     help: "The file in which the node reports how it is, in the text format of Prometheus",
 };
 
+/// With none the file stays small in a large cluster: a thousand nodes that hold each other make two million series.
+const METRICS_OWNERS: Part = Part {
+    name: "metrics-owners",
+    kind: Kind::OneOf(&["all", "none"], "all"),
+    value: "WHICH",
+    help: "Of which owners the file has the held version and the number of rows",
+};
+
+const METRICS_PEERS: Part = Part {
+    name: "metrics-peers",
+    kind: Kind::OneOf(&["all", "none"], "all"),
+    value: "WHICH",
+    help: "Of which peers the file has how the last round ended",
+};
+
+/// Whether an option says all.
+fn is_all(which: &str) -> bool {
+    matches!(which, "all")
+}
+
 /// What the command line gives for a node. `NoMemory`.
 pub(crate) fn serve_arguments<'a>(
     alloc: Global,
@@ -458,6 +479,10 @@ pub(crate) fn serve_arguments<'a>(
         purge_removals: PURGE_REMOVALS.number(given),
         has_time: LOG_TIME.is_given(given),
         metrics: METRICS.value_if_any(given),
+        series: Series {
+            has_owners: is_all(METRICS_OWNERS.value(given)),
+            has_peers: is_all(METRICS_PEERS.value(given)),
+        },
     })
 }
 
@@ -533,6 +558,8 @@ const SERVE_TASK: Task = Task {
         PURGE_REMOVALS,
         LOG_TIME,
         METRICS,
+        METRICS_OWNERS,
+        METRICS_PEERS,
     ],
 };
 

@@ -36,6 +36,7 @@ mod failure;
 mod help;
 mod keeping;
 mod log_file;
+mod log_watch;
 mod metrics;
 mod metrics_file;
 mod one_row;
@@ -44,6 +45,7 @@ mod part;
 mod pausing;
 mod release;
 mod serving;
+mod troubles;
 mod watching;
 mod words;
 

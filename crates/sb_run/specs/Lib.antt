@@ -10,3 +10,5 @@ pub mod Running
 pub mod Turns
 pub mod Deliveries
 pub mod Together
+pub mod Closing
+pub mod LogCauses

@@ -3,6 +3,7 @@ ghost use Rattle.std.specs.Prelude.{◌≡◌, IfErr};
 
 use crate::arrivals::Handover;
 use crate::context::NodeContext;
+use crate::counts::Counts;
 use crate::rounds::RoundsTag;
 use crate::sockets::WAKER_TOKEN;
 use crate::waiting::{Waiting, WaitingList, deadline_after};
@@ -72,6 +73,12 @@ impl Backlog {
         self.faults = self.faults.saturating_add(1);
     }
 
+    /// Notes that a connection was not accepted, or was closed to make room for others.
+    fn turn_away(&mut self, counts: &Counts) {
+        counts.add_turned_away();
+        self.note_fault();
+    }
+
     /// Lets a connection wait at this socket until it has something to say. `ReadFailed`, `NoMemory`; both close it.
     fn admit<S: RoundsTag, H: Wait + Drop, Q: Clock>(
         &mut self,
@@ -103,7 +110,7 @@ impl Backlog {
             At::Control => &mut self.callers,
         };
         if list.push(waiting)? {
-            self.note_fault();
+            self.turn_away(node.counts);
         }
         Ok(())
     }
@@ -126,13 +133,13 @@ impl Backlog {
                         node.counts.add_session();
                     }
                     if self.admit(node, registry, at, stream).is_err() {
-                        self.note_fault();
+                        self.turn_away(node.counts);
                     }
                 }
                 Err(error) if error.kind() == io::ErrorKind::WouldBlock => return Left::Nothing,
                 Err(_) => {
-                    self.note_fault();
-                    self.make_room();
+                    self.turn_away(node.counts);
+                    self.make_room(node.counts);
                     return Left::Failed;
                 }
             }
@@ -150,12 +157,12 @@ impl Backlog {
     }
 
     /// Closes a few of the oldest connections, since descriptors may be wanting, also to the other threads.
-    fn make_room(&mut self) {
+    fn make_room(&mut self, counts: &Counts) {
         for _ in 0..CLOSED_AT_ONCE {
             if !self.close_oldest() {
                 return;
             }
-            self.note_fault();
+            self.turn_away(counts);
         }
     }
 
@@ -267,7 +274,9 @@ impl Acceptor {
                 return backlog.faults;
             }
             for event in &events {
-                if backlog.take_up(node, poll.registry(), event.token().0).is_err() {
+                let number = event.token().0;
+                if let Err(fault) = backlog.take_up(node, poll.registry(), number) {
+                    node.counts.note_version(&fault);
                     backlog.note_fault();
                 }
             }

@@ -120,8 +120,20 @@ impl<'a, O: Observer> Dialing<'a, O> {
         self.schedule
             .lock(node.rt)
             .end_round(index, cause, end, self.observer);
+        self.look_at_log(node);
         node.bell.wake();
         seat
+    }
+
+    /// Looks whether the file of the log is lost, behind a round, and ends the node if it is to exit then.
+    pub(crate) fn look_at_log<S: RoundsTag, H: Wait + Drop, Q: Wait>(
+        &self,
+        node: &NodeContext<S, H, Q>,
+    ) {
+        node.look_at_log(self.observer);
+        if node.ends_by_log() {
+            node.end();
+        }
     }
 
     /// How many rounds had a fault, once all that are to be made have ended.

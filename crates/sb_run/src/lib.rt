@@ -41,8 +41,8 @@
 //! - A node removes a socket at which somebody listens. Tests and `tools/check-node` refuse it.
 //! - `Timed::left` does not call `time_between`, or a read or a write waits longer than it grants. Tests refuse it.
 //! - The loop that accepts connections ends if one accept fails. Only `tools/check-node` refuses it.
-//! - `Turns`, `Schedule`, `Counts` or `Peers` gives the observer a wrong state, or reports too seldom or never. The
-//!   tests of `sb_run` and `tools/check-node` refuse it.
+//! - `Turns`, `Schedule`, `Counts`, `BusyWorkers` or `Peers` gives the observer a wrong state, or reports too seldom or
+//!   never. The tests of `sb_run` and `tools/check-node` refuse it.
 //! - If a peer is passed over, another than the next is dialed, or nobody. `next_in_turn` covers the first turn
 //!   alone. The tests of `sb_run` and `tools/check-node` refuse it.
 //! - No burst is dialed, or its peers are dialed one after another. The tests of `sb_run` and `tools/check-node`
@@ -58,7 +58,11 @@
 //!   `tools/check-node` refuses it.
 //! - A request or session may take too long, because its time never begins, or because it goes on once its time is
 //!   over. The tests of `sb_run` and `tools/check-node` refuse it.
-//! - A log that failed does not end a node that must exit. Only `tools/check-node` refuses it.
+//! - A log that failed while the node runs does not end a node that must exit. Tests and `tools/check-node` refuse it.
+//! - A node never asks whether the file of its log is lost, or goes on writing to it. Tests and `tools/check-node`
+//!   refuse it.
+//! - `run_closed_node` opens with another table than it was given. No clause promises what a node shows. Tests refuse
+//!   it.
 //! - `Peers::note` does not tell the observer, or loses the last peer. Tests refuse it.
 //! - `OwnWrites::put` owes a write for missing memory although it could share it. Tests refuse it.
 //! - What could not be published for missing memory waits for the next event, since `refresh` always reports
@@ -91,6 +95,8 @@ mod accepting;
 mod arrivals;
 mod asking;
 mod bell;
+mod busy;
+mod closable;
 mod context;
 mod control;
 mod control_socket;
@@ -102,8 +108,11 @@ mod ending;
 mod gate;
 mod greeting;
 mod laws;
+mod log_cause;
+mod log_watch;
 mod moments;
 mod node;
+mod node_gate;
 mod observer;
 mod one_message;
 mod own_writes;
@@ -111,6 +120,7 @@ mod peer_reader;
 mod peer_state;
 mod peers;
 mod pool;
+mod reporting;
 mod rounds;
 mod runtime;
 mod schedule;
@@ -127,7 +137,8 @@ mod waiting;
 pub use asking::ask_control;
 pub use gate::{Gate, GatePoint, Open};
 pub use laws::{running_nodes_keep_truth, running_nodes_tell_truth};
-pub use node::{NodeConfig, OnLogFault, Pace, Paths, Ran, run_node};
+pub use log_cause::{LogCause, LogLoss};
+pub use node::{NodeConfig, OnLogFault, Pace, Paths, Ran, run_closed_node, run_node};
 pub use observer::{Nobody, Observer};
 pub use own_writes::{OwnWrites, Stored};
 pub use peer_state::{DownReason, PeerState};
@@ -135,4 +146,4 @@ pub use peers::Peer;
 pub use pool::{Pooled, Source, Taken};
 pub use runtime::Runtime;
 pub use serving::Serving;
-pub use status::Status;
+pub use status::{Status, Troubles};

@@ -1,14 +1,17 @@
 //! A node that runs: it serves its peers and its clients, and dials its peers.
-ghost use Rattle.std.specs.Prelude.{◌≡◌, false, None, Err, IfOk, IfErr, IfSome};
+ghost use Rattle.std.specs.Prelude.{◌≡◌, ◌+◌, ◌≤◌, true, false, None, Err, IfOk, IfErr, IfSome, IsErr};
+ghost use Rattle.sb_run.specs.Closing.{seen_by};
 ghost use Rattle.sb_run.specs.Running as spec;
-ghost use Rattle.sb_run.specs.Running.{IsRunningFault};
+ghost use Rattle.sb_run.specs.Running.{IsReadFrom, IsRunningFault, IsOpenedFault, RunsClosed};
 
+use crate::closable::ClosableLog;
 use crate::observer::Observer;
 use crate::own_writes::OwnWrites;
 use crate::runtime::Runtime;
 use crate::tagged::{NodeStart, run_tagged};
 use sb_log::WriteLog;
 use sb_node::NodeCore;
+use sb_table::Table;
 use sb_types::{Fault, Settings};
 use sb_views::NewHistory;
 use std::alloc::Global;
@@ -120,12 +123,14 @@ fn start_refusal<L: WriteLog>(settings: &Settings, log: &L) -> Option<Fault>
 /// or for `dial_idle` where the node has dialed, where a session that a peer dialed took longer than `session`, or where a
 /// request or its answer took longer than `request`. That costs this connection alone.
 ///
-/// Where a fault of its store closes the log it tells the observer, and goes on or ends, as `on_log_fault` says.
+/// Where a fault of its store closes the log it tells the observer, and goes on or ends, as `on_log_fault` says. It does the same
+/// where the observer says that the file of the log is lost: it closes the log then, and refuses writes by `Closed`.
 ///
 /// `BadSetting` where there are fewer seats than two beside one for each worker; `WrongCluster` where the log is of another
 /// cluster than the settings'; the faults of the log's `load`; `NoMemory`; `ReadFailed` where a socket can't be bound;
 /// `NoMemory` where the thread that accepts, that of the pool, the first for news, or the one that dials in turn can't be made;
-/// `StoreFailed` where the log failed and the node is to exit then. With each of these no file is left that was not there before. Where the thread of a worker can't be
+/// `StoreFailed` where the log failed or its file was lost, and the node is to exit then. With each of these no file is left that
+/// was not there before. Where the thread of a worker can't be
 /// made, the node serves fewer peers at once.
 pub fn run_node<
     L: WriteLog + Drop,
@@ -145,15 +150,100 @@ pub fn run_node<
     if let Some(fault) = start_refusal(&settings, &log) {
         return Err(fault);
     }
+    let config = NodeConfig {
+        settings,
+        paths,
+        pace,
+    };
     let mut log = log;
-    let me = *log.owner();
     let table = log.load(alloc)?;
-    let core = NodeCore::open(alloc, settings, me, table)?;
+    run_opened(
+        rt,
+        alloc,
+        config,
+        OwnWrites::new(ClosableLog::new(log)),
+        table,
+        observer,
+    )
+}
+
+/// Runs the node that owns a log whose store failed, with the table that was read from it before. All is as with `run_node`,
+/// but that the log is not read: the node refuses writes by `Closed`, and serves its peers and readers. It tells the observer at
+/// once that the log failed, and ends then, if that is what `on_log_fault` says. A log that is open is run by `run_node`.
+pub fn run_closed_node<
+    L: WriteLog + Drop,
+    R: Runtime + Net<Listener = TcpListener, Stream = TcpStream>,
+    O: Observer + Sync,
+>(
+    rt: &R,
+    alloc: Global,
+    config: NodeConfig,
+    log: L,
+    table: Table,
+    observer: &O,
+) -> Result<Ran, Fault>
+    ensures refused { IfSome (spec.start_refusal config.entry.settings (L.seen log)) (λ fault. result ≡ Err fault) }
+    ensures closed { (L.seen log).is_open ≡ false → RunsClosed (spec.start_refusal config.entry.settings (L.seen log)) config.entry.pace.on_log_fault result }
+    ensures open { (L.seen log).is_open ≡ true → IfErr result (IsRunningFault config.entry.settings (L.seen log) config.entry.pace.on_log_fault) }
+    ensures rounds { IfOk result (λ ran. ran.rounds ≡ config.entry.pace.rounds) }
+{
+    if log.cause().is_none() {
+        return run_node(rt, alloc, config, log, observer);
+    }
+    let NodeConfig {
+        settings,
+        paths,
+        pace,
+    } = config;
+    if let Some(fault) = start_refusal(&settings, &log) {
+        return Err(fault);
+    }
+    let config = NodeConfig {
+        settings,
+        paths,
+        pace,
+    };
+    run_opened(
+        rt,
+        alloc,
+        config,
+        OwnWrites::closed(ClosableLog::new(log)),
+        table,
+        observer,
+    )
+}
+
+/// Runs a node that opens with the table of its own writes, which was read from their log. `NoMemory`; `ReadFailed` if a socket
+/// cannot be bound; `StoreFailed` if the log failed and the node is to exit then.
+fn run_opened<
+    L: WriteLog + Drop,
+    R: Runtime + Net<Listener = TcpListener, Stream = TcpStream>,
+    O: Observer + Sync,
+>(
+    rt: &R,
+    alloc: Global,
+    config: NodeConfig,
+    writes: OwnWrites<ClosableLog<L>>,
+    table: Table,
+    observer: &O,
+) -> Result<Ran, Fault>
+    requires read { IsReadFrom (seen_by (L.seen writes.log.log) writes.log.closed_by) table }
+    requires seats { config.settings.workers + 2 ≤ config.settings.seats }
+    ensures fault { IfErr result (IsOpenedFault config.entry.pace.on_log_fault) }
+    ensures exits { writes.has_failed ≡ true → config.entry.pace.on_log_fault ≡ OnLogFault.Exit → IsErr result }
+    ensures rounds { IfOk result (λ ran. ran.rounds ≡ config.entry.pace.rounds) }
+{
+    let NodeConfig {
+        settings,
+        paths,
+        pace,
+    } = config;
+    let core = NodeCore::open(alloc, settings, *writes.owner(), table)?;
     let start = NodeStart {
         new_history: NewHistory::new(),
         blank: Blank::new(settings.seats()),
         core,
-        writes: OwnWrites::new(log),
+        writes,
     };
     run_tagged::<Brand, L, R, O>(rt, alloc, start, &paths, pace, observer)
 }

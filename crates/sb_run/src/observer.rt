@@ -1,8 +1,8 @@
 //! The observer of a running node.
 
+use crate::log_cause::{LogCause, LogLoss};
 use crate::peer_state::PeerState;
 use crate::status::Status;
-use sb_log::StoreCause;
 
 /// Receives the events of a running node. Each method runs on the thread where the event happened, and that thread waits until it
 /// returns.
@@ -54,9 +54,15 @@ pub trait Observer {
     /// Another node writes under this node's name, of which this version was seen. It is told once, behind a round.
     fn conflict(&self, version: u64);
 
-    /// The store of the node's own log failed at a write, by this cause, and the log is closed. The log has the write or has it
-    /// not. It is told once.
-    fn log_failed(&self, _cause: StoreCause) {}
+    /// The node takes no more writes into its log, by this cause. If the store of the log failed at a write, the log has the write
+    /// or has it not. It is told once.
+    fn log_failed(&self, _cause: LogCause) {}
+
+    /// How the file of the node's log was lost; none if it is there, or if that cannot be seen. It is asked behind each round, and
+    /// before each request that the calling thread answers, until the log fails.
+    fn log_loss(&self) -> Option<LogLoss> {
+        None
+    }
 
     /// Whether it wants to know how the node is.
     fn wants_status(&self) -> bool {

@@ -1,15 +1,17 @@
 //! A running node over a directory of its own, under a tag that names it in proofs.
-ghost use Rattle.std.specs.Prelude.{◌≡◌, ◌⊎◌, ◌+◌, ◌≤◌, vec_len, vec_capacity, IsOk, IfOk, IfErr};
-ghost use Rattle.sb_run.specs.Running.{IsEndFault, IsTagOf, IsStarted};
+ghost use Rattle.std.specs.Prelude.{◌≡◌, ◌⊎◌, ◌+◌, ◌≤◌, vec_len, vec_capacity, IsOk, IsErr, IfOk, IfErr};
+ghost use Rattle.sb_run.specs.Closing.{seen_by};
+ghost use Rattle.sb_run.specs.Running.{IsOpenedFault, IsTagOf, IsStarted};
 
 use crate::accepting::Acceptor;
 use crate::arrivals::{Asked, new_handover};
 use crate::bell::Bell;
+use crate::closable::ClosableLog;
 use crate::context::NodeContext;
 use crate::counts::Counts;
 use crate::dialer::Dialer;
 use crate::ending::EndFlag;
-use crate::node::{Pace, Paths, Ran};
+use crate::node::{OnLogFault, Pace, Paths, Ran};
 use crate::observer::Observer;
 use crate::own_writes::OwnWrites;
 use crate::rounds::{RoundsTag, rounds_channel};
@@ -37,7 +39,7 @@ pub(crate) struct NodeStart<L: WriteLog> {
     /// The node as it was opened.
     pub(crate) core: NodeCore,
     /// Its log, and the write in it that is still to be handed to the directory.
-    pub(crate) writes: OwnWrites<L>,
+    pub(crate) writes: OwnWrites<ClosableLog<L>>,
 }
 
 /// Makes the directory, and gives a seat to each thread; those beyond are for news, in a list with room for all. `NoMemory`.
@@ -88,10 +90,11 @@ pub(crate) fn run_tagged<
     requires tagged { IsTagOf S.opening S.settings S.seats S.parts start.core }
     requires name { start.blank.name ≡ S.name }
     requires parts { start.blank.parts ≡ S.parts }
-    requires started { IsStarted (L.seen start.writes.log) start.core }
+    requires started { IsStarted (seen_by (L.seen start.writes.log.log) start.writes.log.closed_by) start.core }
     requires rounds { pace.rounds ≡ S.rounds }
     ensures rounds { IfOk result (λ ran. ran.rounds ≡ pace.rounds) }
-    ensures fault { IfErr result (λ fault. IsEndFault pace.on_log_fault fault ⊎ (fault ≡ Fault.ReadFailed)) }
+    ensures fault { IfErr result (IsOpenedFault pace.on_log_fault) }
+    ensures failed { start.writes.has_failed ≡ true → pace.on_log_fault ≡ OnLogFault.Exit → IsErr result }
 {
     let (rounds_sender, rounds_receiver) = rounds_channel::<S>(alloc)?;
     let (bell, parkers) = Bell::new(alloc)?;
@@ -117,7 +120,8 @@ pub(crate) fn run_tagged<
         rounds_sender,
         rounds_receiver,
     };
-    let (ending, counts, asked) = (EndFlag::new(), Counts::new(), Asked::new());
+    let workers = directory.settings().workers();
+    let (ending, counts, asked) = (EndFlag::new(), Counts::new(rt, workers), Asked::new());
     let node = NodeContext {
         rt,
         alloc,

@@ -1,13 +1,17 @@
 //! The threads of a running node.
-ghost use Rattle.std.specs.Prelude.{◌≡◌, true, false, vec_len, vec_capacity, Ok, Err, IfOk, IfErr};
+ghost use Rattle.std.specs.Prelude.{◌≡◌, true, false, vec_len, vec_capacity, Ok, Err, IfOk, IfErr, IsErr};
 ghost use Rattle.std.specs.Thread.{IsSend, IsSync};
+ghost use Rattle.sb_run.specs.Closing.{seen_by};
 ghost use Rattle.sb_run.specs.Running.{IsEndFault, IsOpenedFrom};
 
 use crate::accepting::Acceptor;
 use crate::arrivals::{Arrivals, Jobs, Requests};
+use crate::closable::ClosableLog;
 use crate::context::NodeContext;
 use crate::control_socket::ControlEnd;
 use crate::dialer::{Dialer, Dialing};
+use crate::node::OnLogFault;
+use crate::node_gate::NodeGate;
 use crate::observer::Observer;
 use crate::own_writes::OwnWrites;
 use crate::pool::Pooled;
@@ -81,9 +85,20 @@ fn serve_arrivals<
 >(node: &NodeContext<S, H, Q>, jobs: Jobs, seats: Vec<ReaderSeat<S>>) -> Pooled<S>
     ensures { vec_len result.seats ≡ vec_len seats }
 {
-    let source = Arrivals::new(node.rt, jobs, node.ending, node.asked, node.pace);
+    let source = Arrivals::new(
+        node.rt,
+        jobs,
+        node.ending,
+        node.asked,
+        node.pace,
+        node.counts,
+    );
+    let gate = NodeGate {
+        bell: node.bell,
+        counts: node.counts,
+    };
     let serving = node.serving();
-    match serving.serve_pool(seats, &source, node.bell) {
+    match serving.serve_pool(seats, &source, &gate) {
         Ok(pooled) => pooled,
         Err(_) => unreachable!(),
     }
@@ -117,16 +132,17 @@ impl<O: Observer + Sync> Dialer<'_, O> {
     >(
         self,
         node: &NodeContext<S, H, Q>,
-        writes: OwnWrites<L>,
+        writes: OwnWrites<ClosableLog<L>>,
         thread_seats: ThreadSeats<S>,
         links: Links<S>,
     ) -> Result<ThreadsEnd<S>, Fault>
-        requires opened { IsOpenedFrom (L.seen writes.log) S.opening }
+        requires opened { IsOpenedFrom (seen_by (L.seen writes.log.log) writes.log.closed_by) S.opening }
         requires workers { vec_len thread_seats.workers ≡ S.settings.workers }
         ensures thread_seats { IfOk result (λ finished. vec_len finished.thread_seats.workers ≡ vec_len thread_seats.workers) }
         ensures news { IfOk result (λ finished. (vec_len finished.thread_seats.news ≡ vec_len thread_seats.news)
             × (vec_capacity finished.thread_seats.news ≡ vec_capacity thread_seats.news)) }
         ensures fault { IfErr result (IsEndFault node.now.pace.on_log_fault) }
+        ensures failed { writes.has_failed ≡ true → node.now.pace.on_log_fault ≡ OnLogFault.Exit → IsErr result }
     {
         let Dialer {
             dialing: shared,
@@ -157,11 +173,12 @@ impl<O: Observer + Sync> Dialer<'_, O> {
             move |scope| -> Result<ThreadsEnd<S>, Fault>
                 requires { IsSend S.row × IsSync S.row × IsSend H.row × IsSync H.row × IsSend Q.row × IsSync Q.row × IsSync O.row × (vec_len workers ≡ count)
                     × (vec_len news ≡ for_news.count) × (vec_capacity news ≡ for_news.room)
-                    × IsOpenedFrom (L.seen writes.log) S.opening }
+                    × IsOpenedFrom (seen_by (L.seen writes.log.log) writes.log.closed_by) S.opening }
                 ensures thread_seats { IfOk result (λ finished. vec_len finished.thread_seats.workers ≡ count) }
                 ensures news { IfOk result (λ finished. (vec_len finished.thread_seats.news ≡ for_news.count)
                     × (vec_capacity finished.thread_seats.news ≡ for_news.room)) }
                 ensures fault { IfErr result (IsEndFault node.entry.now.pace.on_log_fault) }
+                ensures failed { writes.has_failed ≡ true → node.entry.now.pace.on_log_fault ≡ OnLogFault.Exit → IsErr result }
             {
                 let Ok(accepting_thread) = scope.spawn(move || acceptor.accept_all(node)) else {
                     return Err(Fault::NoMemory);

@@ -8,7 +8,6 @@ use crate::observer::Observer;
 use crate::peers::Peer;
 use crate::rounds::{Rounds, RoundsTag};
 use crate::schedule::{Cause, NewsStep, Schedule};
-use crate::status::Status;
 use crossbeam_utils::sync::Parker;
 use sb_directory::ReaderSeat;
 use sb_types::Fault;
@@ -88,25 +87,7 @@ impl<'a> Turns<'a> {
         self.status_due = moment_after(node.rt, STATUS_INTERVAL);
         let counts = dialing.schedule().lock(node.rt).report(&mut self.peers);
         self.reported = counts.ended;
-        let mut seat = seat;
-        let keys = node.directory.keys(node.rt, &mut seat);
-        let conflict = node.directory.conflict(node.rt, &mut seat);
-        match seat.enter() {
-            Ok(entered) => {
-                observer.status(&Status {
-                    rounds: counts.ended,
-                    faults: counts.faults,
-                    sessions: node.counts.sessions(),
-                    keys,
-                    log_cause: node.counts.log_cause(),
-                    conflict,
-                    snapshot: entered.snapshot(),
-                    peers: self.peers.as_slice(),
-                });
-                entered.leave()
-            }
-            Err(seat) => seat,
-        }
+        node.report_status(observer, counts, self.peers.as_slice(), seat)
     }
 
     /// Publishes what there was no memory to publish before, and tells the observer, once, that another node writes under this
@@ -138,7 +119,10 @@ impl<'a> Turns<'a> {
         let mut current = seat;
         match next {
             Some(index) => current = dialing.round(node, current, index, Cause::Turn),
-            None => dialing.schedule().lock(node.rt).count_round(false),
+            None => {
+                dialing.schedule().lock(node.rt).count_round(false);
+                dialing.look_at_log(node);
+            }
         }
         current = self.tell_status(node, dialing, current);
         self.refresh_and_report(node, dialing.observer(), &mut current);

@@ -5,6 +5,8 @@
 #[cfg(test)]
 mod asking;
 #[cfg(test)]
+mod closing;
+#[cfg(test)]
 mod desk;
 #[cfg(test)]
 mod examples;
@@ -28,6 +30,8 @@ mod side_by_side;
 mod silence;
 #[cfg(test)]
 mod starting;
+#[cfg(test)]
+mod suffering;
 #[cfg(test)]
 mod telling;
 #[cfg(test)]

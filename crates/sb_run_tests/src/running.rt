@@ -1,7 +1,7 @@
 //! A node that runs with its sockets.
 
 use crate::making::{name, new_log, settings};
-use crate::peers::{hears_only, next_of, node_with, put_is_done, reach, talk};
+use crate::peers::{hears_only, next_of, node_with, put_is_done, reach, serve_as_b, talk};
 use crate::{got, holds, same};
 use sb_log::PlainLog;
 use sb_run::{
@@ -242,13 +242,6 @@ fn dial_as_c<R: Net + Abort>(rt: &R, alloc: Global, sock: &str) -> (Ended, u64) 
     let stream = reach(rt, sock);
     let by_c = talk(rt, alloc, &mut of_c, &stream, Some(2));
     (by_c, of_c.upto(&name(rt, b"a")))
-}
-
-/// b serves the node. Returns how the session ends, and how far b holds a and c then.
-fn serve_as_b(rt: &impl Abort, alloc: Global, dialed: &UnixStream) -> (Ended, u64, u64) {
-    let mut of_b = node_with(rt, alloc, b"b", b"w");
-    let by_b = talk(rt, alloc, &mut of_b, dialed, None);
-    (by_b, of_b.upto(&name(rt, b"a")), of_b.upto(&name(rt, b"c")))
 }
 
 /// Plays the owner, c which dials, and b which is dialed. When the node dials, it has bound its sockets.
