@@ -1,9 +1,9 @@
 //! The running node: it serves its peers and its clients over sockets, and dials its peers.
 //!
-//! `run_node` runs the node that owns a log: one thread accepts at both sockets, workers serve the peers that connect and
-//! answer questions of clients, one thread dials the peers in turn, others dial them where there is news, and the calling
-//! thread makes the writes of clients. Each of them is in the log before the directory takes it. A program with connections of
-//! its own serves them by `Serving`, and asks by
+//! `run_node` runs the node that owns a log. One thread accepts at both sockets. Workers serve the peers that connect, and
+//! answer questions of clients. One thread dials the peers in turn, and others dial them if there is news. The calling thread
+//! makes the writes of clients: each is in the log before the directory takes it. `run_closed_node` runs a node whose log takes
+//! no writes. A program with connections of its own serves them by `Serving`, and asks by
 //! `ask_control`.
 //!
 //! ```rust

@@ -97,41 +97,49 @@ fn start_refusal<L: WriteLog>(settings: &Settings, log: &L) -> Option<Fault>
     None
 }
 
-/// Runs the node that owns a log. It binds both sockets, each at a path where no file is or a socket at which nobody
-/// listens, and tells the observer. One thread accepts at both. Workers serve peers, as many at once as there are workers, and
+/// Runs the node that owns a log. It binds both sockets, each at a path that has no file or a socket without a listener, and
+/// reports that to the observer. One thread accepts at both. Workers serve peers, as many at once as there are workers, and
 /// answer questions of clients. The calling thread makes the own writes, one after another, and answers questions while no
-/// worker is free. One more thread dials the peers in turn, one a round, with a pause after each. A round has as many
-/// exchanges of digests and deltas as it takes to tell of all owners that the node holds: one, where the budget has room for a
-/// digest of all. A peer that let a round wait for `dial_idle` milliseconds is passed over in its next seven turns, unless nobody
-/// else is left. The observer is told of a round by which a peer is otherwise than before. After the last round the node ends,
-/// once the connections that are open have ended, and removes what is at the paths of both sockets, also where another put it
-/// there since.
+/// worker is free. One more thread dials the peers in turn, one a round, with a pause after each.
 ///
-/// Where a client wrote, or a peer told of something new, the node dials the next `fanout` peers, but for those that are down or
-/// whose last round had a fault. It dials as many of them side by side as there are seats beyond two and one for each worker, and
-/// one after another, between the rounds in turn, where there are no more. No two sessions for news with one peer are under way
-/// at a time; news during one makes another behind it. Peers whose last session took half a second or more leave one of these
-/// seats to others. News that comes within ten milliseconds goes together. These are rounds too. With no pause there is no need
-/// of them.
+/// A round has as many exchanges of digests and deltas as it takes to name all owners that the node holds: one, if the budget
+/// has room for a digest of all. A peer that let a round wait for `dial_idle` milliseconds is passed over in its next seven
+/// turns, unless nobody else is left. The observer gets each change of a peer's state. After the last round the node waits for
+/// the connections that are open, and ends. It removes what is at the paths of both sockets, even if another put it there since.
+///
+/// After a write of a client, or something new from a peer, the node dials the next `fanout` peers, except those that are down
+/// or had a fault in their last round. The seats beyond two and one for each worker are for this: so many peers are dialed side
+/// by side. Without such seats they are dialed one after another, between the rounds in turn. A peer has at most one session for
+/// news at a time; news during one makes another after it. Peers whose last session took half a second or more leave one of
+/// these seats to others. News that comes within ten milliseconds goes together. These are rounds too. With no pause there is
+/// no need of them.
 ///
 /// A connection takes a worker or the calling thread only once it has something to say: a peer's first bytes, or a client's
-/// whole request. Until then it waits, for `idle` milliseconds at `sock` and for `request` at `control`, or `idle` where that is
-/// 0. At most 1,024 wait at a socket; one more closes the oldest that said nothing, or else the oldest.
+/// whole request. Until then it waits, for `idle` milliseconds at `sock` and for `request` at `control`, or `idle` if that is
+/// 0. At most 1,024 wait at a socket; one more closes the oldest that sent nothing, or else the oldest.
 ///
-/// A connection ends with a fault where it said nothing in time or made room for another, where its peer breaks the rules of a
-/// session or of the control socket, where it takes more than `max_reads` reads, where no byte moved for `idle` milliseconds,
-/// or for `dial_idle` where the node has dialed, where a session that a peer dialed took longer than `session`, or where a
-/// request or its answer took longer than `request`. That costs this connection alone.
+/// A connection ends with a fault in these cases, which cost this connection alone:
 ///
-/// Where a fault of its store closes the log it tells the observer, and goes on or ends, as `on_log_fault` says. It does the same
-/// where the observer says that the file of the log is lost: it closes the log then, and refuses writes by `Closed`.
+/// - It sent nothing in time, or made room for another.
+/// - Its peer breaks the rules of a session or of the control socket.
+/// - It takes more than `max_reads` reads.
+/// - No byte moved for `idle` milliseconds, or for `dial_idle` if the node has dialed.
+/// - A session that a peer dialed took longer than `session`, or a request or its answer longer than `request`.
 ///
-/// `BadSetting` where there are fewer seats than two beside one for each worker; `WrongCluster` where the log is of another
-/// cluster than the settings'; the faults of the log's `load`; `NoMemory`; `ReadFailed` where a socket can't be bound;
-/// `NoMemory` where the thread that accepts, that of the pool, the first for news, or the one that dials in turn can't be made;
-/// `StoreFailed` where the log failed or its file was lost, and the node is to exit then. With each of these no file is left that
-/// was not there before. Where the thread of a worker can't be
-/// made, the node serves fewer peers at once.
+/// If a fault of its store closes the log, the node reports that to the observer, and goes on or ends, as `on_log_fault` says.
+/// It does the same if the observer finds that the file of the log is lost: it closes the log, and refuses writes by `Closed`.
+///
+/// After each of these faults no file is left that was not there before:
+///
+/// - `BadSetting` if there are fewer seats than two beside one for each worker.
+/// - `WrongCluster` if the log is of another cluster than the settings'.
+/// - The faults of the log's `load`.
+/// - `ReadFailed` if a socket cannot be bound.
+/// - `NoMemory`, also if the thread that accepts, that of the pool, the first for news, or the one that dials in turn cannot be
+///   made.
+/// - `StoreFailed` if the log failed or its file was lost, and the node is to exit then.
+///
+/// If the thread of a worker cannot be made, the node serves fewer peers at once.
 pub fn run_node<
     L: WriteLog + Drop,
     R: Runtime + Net<Listener = TcpListener, Stream = TcpStream>,
