@@ -27,8 +27,8 @@ pub(crate) struct ControlEnd<S: RoundsTag> {
 }
 
 impl<S: RoundsTag, H: Wait + Drop, Q: Wait + Clock> NodeContext<'_, S, H, Q> {
-    /// Answers a request, and says whether that ended with a fault. The answer is taken within the node's `request`. Where that
-    /// limit can't be set nothing is done.
+    /// Answers a request, and says whether that ended with a fault. The answer is taken within the node's `request`. If that
+    /// limit can't be set, nothing is done.
     fn answer_one<L: WriteLog>(
         &self,
         writes: &mut OwnWrites<L>,

@@ -1,9 +1,9 @@
 //! The running node: it serves its peers and its clients over sockets, and dials its peers.
 //!
-//! `run_node` runs the node that owns a log: one thread accepts at both sockets, workers serve the peers that connect and
-//! answer questions of clients, one thread dials the peers in turn and where there is news, and the calling thread makes the
-//! writes of clients. Each of them is in the log before the directory takes it. A program with connections of its own serves them by `Serving`, and asks by
-//! `ask_control`.
+//! `run_node` runs the node that owns a log. One thread accepts at both sockets. Workers serve the peers that connect, and
+//! answer questions of clients. One thread dials the peers, in turn and when there is news. The calling thread makes the
+//! writes of clients: each is in the log before the directory takes it. A program with connections of its own serves them by
+//! `Serving`, and asks by `ask_control`.
 //!
 //! ```rust
 //! /// Runs the node of this name over a log in memory, until it has made its rounds.
