@@ -29,9 +29,9 @@ const SLOW_SESSION: u64 = 500;
 pub(crate) struct Dialing<'a, O> {
     observer: &'a O,
     schedule: Mutex<Schedule<'a>>,
-    /// Where the one of the threads for news waits that is to dial next.
+    /// The thread for news that is to dial next waits at it.
     parker: Mutex<Parker>,
-    /// How many exchanges tell of all owners that the node holds, where that was counted.
+    /// How many exchanges cover all owners that the node holds, if that was counted.
     exchanges: Mutex<Option<u64>>,
 }
 
@@ -81,7 +81,7 @@ impl<'a, O: Observer> Dialing<'a, O> {
         &self.schedule
     }
 
-    /// How many exchanges tell of all owners that the node holds; 1 where memory is wanting to count them.
+    /// How many exchanges cover all owners that the node holds; 1 if there is no memory to count them.
     fn count_exchanges<S: RoundsTag, H: Wait + Drop, Q: Wait>(
         &self,
         node: &NodeContext<S, H, Q>,
@@ -125,7 +125,7 @@ impl<'a, O: Observer> Dialing<'a, O> {
         seat
     }
 
-    /// Looks whether the file of the log is lost, behind a round, and ends the node if it is to exit then.
+    /// Looks after a round whether the file of the log is lost, and ends the node if it is to exit then.
     pub(crate) fn look_at_log<S: RoundsTag, H: Wait + Drop, Q: Wait>(
         &self,
         node: &NodeContext<S, H, Q>,
