@@ -91,6 +91,7 @@ mod counts;
 mod dialer;
 mod dialing;
 mod ending;
+mod first_message;
 mod gate;
 mod greeting;
 mod laws;
