@@ -1,5 +1,5 @@
 -- Connections that wait, and what is read of a request that comes in pieces.
-use Rattle.std.specs.Prelude.{◌≡◌, ℕ, ◌==◌, Bool, true, List, ◌++◌, ◌∷◌, [], length, remove, position, unwrap_or, if◌then◌else◌, nat_lt, false, Option, Some, None, Result, Ok, Err}
+use Rattle.std.specs.Prelude.{◌≡◌, ℕ, ◌==◌, Bool, true, List, ◌++◌, length, remove, position, unwrap_or, if◌then◌else◌, nat_lt, false, Option, Some, None, Result, Ok, Err}
 use Rattle.std.specs.Io.KnownBytes.{Keeps, Consumes}
 use Rattle.sb_types.specs.declared.fault.Fault.{Fault}
 use Rattle.sb_types.specs.declared.fault.Fault.TheVariants.{ReadFailed}
