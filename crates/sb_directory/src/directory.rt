@@ -222,9 +222,9 @@ impl<S: DirectoryTag, R: Wait + Drop> Directory<S, R> {
         self.node.lock(rt).take_news()
     }
 
-    /// What a peer with this backlog lacks, as of the node, whatever is in the backlog. It is the answer to the digest of a peer
-    /// that has all that the node holds, except of the owners in the backlog. Of each of those it has only what is up to the
-    /// version there. An owner whose floor is above that version is left out. `NoMemory`. Either way it is the seat's last call.
+    /// What a peer with this backlog lacks, as of the node, whatever is in the backlog: the answer to the digest of a peer that has
+    /// all that the node holds, but of each owner in the backlog only what is up to its version there. An owner whose floor is above
+    /// that version is left out. `NoMemory`. Either way it is the seat's last call.
     pub fn news<Q: Wait>(
         &self,
         rt: &Q,
