@@ -121,12 +121,17 @@ impl Waiting {
         self.frames.held() == 0 && self.came.is_empty()
     }
 
-    /// Makes one read of a peer, without waiting. Says whether a worker is to take it. `Truncated` at an end before that,
-    /// `ReadFailed`, `NoMemory`; after each it is to be closed.
+    /// Makes one read of a peer, if one is left, without waiting. Says whether a worker is to take it. `Truncated` at an end
+    /// before that, `ReadFailed`, `TurnsSpent`, `NoMemory`; after each it is to be closed.
     fn hear(&mut self, alloc: Global) -> Result<bool, Fault>
         ensures number { self.new.number ≡ self.old.number }
         ensures begun { IfOk result (λ is_enough. is_enough ≡ has_begun FIRST_MOST self.new.came.items) }
+        ensures counted { IfOk result (λ _. self.new.left + 1 ≡ self.old.left) }
     {
+        if self.left == 0 {
+            return Err(Fault::TurnsSpent);
+        }
+        self.left -= 1;
         let mut buffer = [0u8; FIRST_MOST];
         let mut stream = &self.stream;
         match stream.read(&mut buffer) {
@@ -287,12 +292,7 @@ impl WaitingList {
     }
 
     /// Has the registry report the one at this place again. `ReadFailed`, which closes it.
-    fn wait_on(
-        &mut self,
-        registry: &Registry,
-        place: usize,
-        number: usize,
-    ) -> Result<(), Fault>
+    fn wait_on(&mut self, registry: &Registry, place: usize, number: usize) -> Result<(), Fault>
         requires { place < vec_len self.old.all }
     {
         let stream = &mut self.all[place].stream;
