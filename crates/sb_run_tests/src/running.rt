@@ -37,6 +37,7 @@ pub(crate) fn pace(rounds: u64, idle: u64) -> Pace {
         pause: 0,
         fanout: 3,
         idle,
+        session: 0,
         dial_idle: idle,
         request: 0,
         max_reads: 99,
@@ -289,16 +290,20 @@ fn a_node_beside_its_owner_and_its_peers(rt: HostRuntime) {
     same(&rt, &ran, &whole);
 }
 
-/// Whether no more than a Hello comes on connections on which nothing is sent, until the node hangs up.
+/// Whether nothing comes on connections on which nothing is sent, and no more than a Hello on one on which one byte is
+/// sent, until the node hangs up.
 fn hears_no_more<R: Net + Abort>(rt: &R, paths: &Paths) -> bool {
     let control = reach(rt, paths.control);
-    let sock = reach(rt, paths.sock);
-    let silence = hears_only(rt, &control, 0);
-    let hello = hears_only(rt, &sock, HELLO);
+    let silent = reach(rt, paths.sock);
+    let slow = reach(rt, paths.sock);
+    let mut writer = &slow;
+    got(rt, writer.write_all(&HELLO_OF_C2[..1]));
+    let silence = hears_only(rt, &control, 0) && hears_only(rt, &silent, 0);
+    let hello = hears_only(rt, &slow, HELLO);
     silence && hello
 }
 
-/// Whether no more than a Hello came on the silent connections, and whether the write was done. Then how b's session
+/// Whether no more than that came on the silent connections, and whether the write was done. Then how b's session
 /// ended, and how far b holds a.
 type Heard = (bool, bool, Ended, u64);
 
@@ -331,7 +336,7 @@ fn a_connection_that_says_nothing_ends(rt: HostRuntime) {
     );
     got(&rt, fs::remove_file(&rt, "idle.peer"));
     same(&rt, &heard, &(true, true, Ended::Bye(1), 1));
-    let whole = ran_of(2, 3, 2);
+    let whole = ran_of(2, 4, 2);
     same(&rt, &ran, &whole);
 }
 
