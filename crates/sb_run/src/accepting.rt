@@ -10,12 +10,11 @@ use mio::net::UnixStream;
 use mio::{Events, Interest, Poll, Registry, Token};
 use sb_types::Fault;
 use std::alloc::Global;
-use std::io;
 use std::marker::Brand;
 use std::sync::Wait;
 use std::sync::ledger::Blank;
-use std::thread;
 use std::time::{Clock, Duration, Instant};
+use std::{io, thread};
 
 /// How long the next accept waits after one that failed, in milliseconds: without free descriptors each fails at once.
 const ACCEPT_PAUSE: u64 = 20;
@@ -267,7 +266,10 @@ impl Acceptor {
                 return backlog.faults;
             }
             for event in &events {
-                if backlog.take_up(node, poll.registry(), event.token().0).is_err() {
+                if backlog
+                    .take_up(node, poll.registry(), event.token().0)
+                    .is_err()
+                {
                     backlog.note_fault();
                 }
             }

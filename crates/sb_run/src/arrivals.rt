@@ -5,7 +5,7 @@ ghost use Rattle.sb_run.specs.Sources.{IsNumbered};
 use crate::ending::EndFlag;
 use crate::node::Pace;
 use crate::pool::{Source, Taken};
-use crate::sockets::{limit, blocking_stream};
+use crate::sockets::{blocking_stream, limit};
 use crate::timed::Timed;
 use crossbeam_channel::{Receiver, Sender, bounded};
 use mio::net;
@@ -83,7 +83,11 @@ pub(crate) fn new_handover(alloc: Global) -> Result<(Handover, Jobs, Requests), 
         to_owner,
         handed: 0,
     };
-    Ok((handover, Jobs { from: from_workers }, Requests { from: from_owner }))
+    Ok((
+        handover,
+        Jobs { from: from_workers },
+        Requests { from: from_owner },
+    ))
 }
 
 impl Handover {
