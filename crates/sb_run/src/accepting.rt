@@ -165,8 +165,9 @@ impl Backlog {
         registry: &Registry,
         number: usize,
     ) -> Result<(), Fault> {
-        if let Some(stream) = self.peers.take(number) {
-            return self.handover.give_session(node.rt, stream);
+        let begun = self.peers.take_session(node.alloc, registry, number)?;
+        if let Some((came, stream)) = begun {
+            return self.handover.give_session(node.rt, came, stream);
         }
         let whole = self
             .callers

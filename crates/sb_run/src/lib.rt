@@ -45,8 +45,9 @@
 //! - If a peer is passed over, another than the next is dialed, or nobody. `next_in_turn` covers the first turn
 //!   alone. The tests of `sb_run` and `tools/check-node` refuse it.
 //! - No burst is dialed. The tests of `sb_run` and `tools/check-node` refuse it.
-//! - A silent connection is never closed, is closed too soon, or is handed on though it said nothing. A request that
-//!   is whole is never handed on. The tests of `sb_run` and `tools/check-node` refuse it.
+//! - A silent connection is never closed, or is closed too soon. A Hello or a request that is whole is never handed
+//!   on. The tests of `sb_run` and `tools/check-node` refuse it.
+//! - A session does not read what came before a worker took it, or reads it twice. Tests refuse it.
 //! - A question goes to the owner's thread although a worker is free, or to workers that are busy.
 //!   `tools/check-node` refuses it.
 //! - A request or session may take too long, because its time never begins, or because it goes on once its time is
@@ -91,6 +92,7 @@ mod counts;
 mod dialer;
 mod dialing;
 mod ending;
+mod first_message;
 mod gate;
 mod greeting;
 mod laws;

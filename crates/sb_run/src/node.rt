@@ -108,13 +108,13 @@ fn start_refusal<L: WriteLog>(settings: &Settings, log: &L) -> Option<Fault>
 /// It leaves out those whose last round had a fault. News that comes within ten milliseconds goes together. These are rounds
 /// too. With no pause there is no need of them.
 ///
-/// A connection takes a worker or the calling thread only once it has something to say: a peer's first bytes, or a client's
+/// A connection takes a worker or the calling thread only once it has something to say: a peer's whole Hello, or a client's
 /// whole request. Until then it waits, for `idle` milliseconds at `sock` and for `request` at `control`, or `idle` if that is
 /// 0. At most 1,024 wait at a socket; one more closes the oldest that said nothing, or else the oldest.
 ///
 /// Each of these ends a connection with a fault, and costs this connection alone:
 ///
-/// - It said nothing in time, or made room for another.
+/// - Its Hello or its request was not whole in time, or it made room for another.
 /// - Its peer breaks the rules of a session or of the control socket.
 /// - It takes more than `max_reads` reads.
 /// - No byte moved for `idle` milliseconds, or for `dial_idle` if the node has dialed.
