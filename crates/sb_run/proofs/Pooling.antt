@@ -41,10 +41,11 @@ pub kept_at : (shut : Type 0) (old from to new : Seat) → from ≡ old → to �
 kept_at shut old from to new of gives kept = subst (λ (seat : Seat). IsKept shut seat new) of (subst (IsKept shut from) gives kept)
 
 -- what was written over all of a list is all that it has
-pub kept_written : (shut : Type 0) (old new rest : List Seat) (count : ℕ) → count ≡ length old → AreKept shut old new → AreKept shut old (take count (new ++ rest))
-kept_written shut old new rest count of kept =
-    let whole : take count (new ++ rest) ≡ new = subst (λ (n : ℕ). take n (new ++ rest) ≡ new) (sym (of ∙ sym kept.as_many)) (take-append_seam new rest) in
-    subst (AreKept shut old) (sym whole) kept
+pub kept_written : (shut : Type 0) (old given new rest : List Seat) (count : ℕ) → given ≡ old → count ≡ length old → AreKept shut given new → AreKept shut old (take count (new ++ rest))
+kept_written shut old given new rest count same of kept =
+    let moved : AreKept shut old new = subst (λ (seats : List Seat). AreKept shut seats new) same kept in
+    let whole : take count (new ++ rest) ≡ new = subst (λ (n : ℕ). take n (new ++ rest) ≡ new) (sym (of ∙ sym moved.as_many)) (take-append_seam new rest) in
+    subst (AreKept shut old) (sym whole) moved
 
 -- what holds wherever a list has an element holds where it has some
 pub from_first : {T P : Type 0} (xs : List T) → ((index : ℕ) → T → index < length xs → P) → 0 < length xs → P
