@@ -8,6 +8,7 @@ use crate::moments::{has_come, moment_after};
 use crate::node::Pace;
 use crate::observer::Observer;
 use crate::rounds::RoundsTag;
+use crate::runtime::Runtime;
 use crate::schedule::{Cause, NewsStep, RoundEnd, Schedule};
 use crate::turns::Turns;
 use core::mem::replace_with;
@@ -15,10 +16,9 @@ use crossbeam_utils::sync::Parker;
 use sb_directory::ReaderSeat;
 use sb_types::Fault;
 use std::alloc::Global;
-use std::net::Net;
+use std::net::{Net, TcpListener, TcpStream};
 use std::sync::{Mutex, Wait};
 use std::thread;
-use std::thread::Threads;
 use std::time::Clock;
 
 /// How long a session takes, at least, whose peer is a slow one, in milliseconds.
@@ -35,17 +35,9 @@ pub(crate) struct Dialing<'a, O> {
     exchanges: Mutex<Option<u64>>,
 }
 
-/// What it takes to dial the peers of a node.
-#[derive(Drop)]
-pub(crate) struct Dialer<'a, O> {
-    /// What the threads share.
-    pub(crate) dialing: Dialing<'a, O>,
-    /// What the thread of the turns has alone.
-    pub(crate) turns: Turns<'a>,
-}
-
-impl<'a, O: Observer> Dialer<'a, O> {
-    /// Dials these peers at this pace, with so many threads for news. `NoMemory`.
+impl<'a, O: Observer> Dialing<'a, O> {
+    /// What it takes to dial these peers at this pace, with so many threads for news. The threads share the first part, and the
+    /// one that dials in turn has the second alone. `NoMemory`.
     pub(crate) fn new(
         alloc: Global,
         paths: &[&'a str],
@@ -53,24 +45,21 @@ impl<'a, O: Observer> Dialer<'a, O> {
         threads: usize,
         observer: &'a O,
         parkers: Parkers,
-    ) -> Result<Dialer<'a, O>, Fault>
+    ) -> Result<(Dialing<'a, O>, Turns<'a>), Fault>
         ensures { IfErr result (λ fault. fault ≡ Fault.NoMemory) }
     {
         let Parkers { turns, news } = parkers;
         let schedule = Schedule::new(alloc, paths, pace.rounds, threads)?;
-        Ok(Dialer {
-            turns: Turns::new(alloc, &schedule, threads == 0, turns)?,
-            dialing: Dialing {
-                observer,
-                schedule: Mutex::new(schedule),
-                parker: Mutex::new(news),
-                exchanges: Mutex::new(None),
-            },
-        })
+        let turns = Turns::new(alloc, &schedule, threads == 0, turns)?;
+        let dialing = Dialing {
+            observer,
+            schedule: Mutex::new(schedule),
+            parker: Mutex::new(news),
+            exchanges: Mutex::new(None),
+        };
+        Ok((dialing, turns))
     }
-}
 
-impl<'a, O: Observer> Dialing<'a, O> {
     /// The observer of the node.
     pub(crate) fn observer(&self) -> &'a O {
         self.observer
@@ -197,11 +186,9 @@ impl<'a, O: Observer> Dialing<'a, O> {
         seat: &mut ReaderSeat<S>,
     ) {
         // `self` is handed in: the prover keeps no clause of a closure that captures a struct with a lifetime.
-        replace_with(
-            seat,
-            self,
-            |seat, dialing| -> (ReaderSeat<S>, ()) { dialing.dial_for_news(node, seat) },
-        );
+        replace_with(seat, self, |seat, dialing| -> (ReaderSeat<S>, ()) {
+            dialing.dial_for_news(node, seat)
+        });
     }
 }
 
@@ -210,12 +197,8 @@ impl<O: Observer + Sync> Dialing<'_, O> {
     pub(crate) fn dial_from_all<
         S: RoundsTag + Send + Sync,
         H: Wait + Drop + Send + Sync,
-        Q: Threads + Wait + Net + Clock + Sync,
-    >(
-        &self,
-        node: &NodeContext<S, H, Q>,
-        seats: Vec<ReaderSeat<S>>,
-    ) -> Vec<ReaderSeat<S>>
+        Q: Runtime + Net<Listener = TcpListener, Stream = TcpStream>,
+    >(&self, node: &NodeContext<S, H, Q>, seats: Vec<ReaderSeat<S>>) -> Vec<ReaderSeat<S>>
         ensures { (vec_len result ≡ vec_len seats) × (vec_capacity result ≡ vec_capacity seats) }
     {
         let mut seats = seats;
