@@ -8,7 +8,6 @@ use crate::moments::{has_come, moment_after};
 use crate::node::Pace;
 use crate::observer::Observer;
 use crate::rounds::RoundsTag;
-use crate::runtime::Runtime;
 use crate::schedule::{Cause, NewsStep, RoundEnd, Schedule};
 use crate::turns::Turns;
 use core::mem::replace_with;
@@ -19,6 +18,7 @@ use std::alloc::Global;
 use std::net::{Net, TcpListener, TcpStream};
 use std::sync::{Mutex, Wait};
 use std::thread;
+use std::thread::Threads;
 use std::time::Clock;
 
 /// How long a session takes, at least, whose peer is a slow one, in milliseconds.
@@ -197,7 +197,7 @@ impl<O: Observer + Sync> Dialing<'_, O> {
     pub(crate) fn dial_from_all<
         S: RoundsTag + Send + Sync,
         H: Wait + Drop + Send + Sync,
-        Q: Runtime + Net<Listener = TcpListener, Stream = TcpStream>,
+        Q: Threads + Wait + Clock + Net<Listener = TcpListener, Stream = TcpStream> + Sync,
     >(&self, node: &NodeContext<S, H, Q>, seats: Vec<ReaderSeat<S>>) -> Vec<ReaderSeat<S>>
         ensures { (vec_len result ≡ vec_len seats) × (vec_capacity result ≡ vec_capacity seats) }
     {

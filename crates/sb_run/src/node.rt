@@ -195,6 +195,16 @@ pub fn run_closed_node<
     ensures open { (L.seen log).is_open ≡ true → IfErr result (IsRunningFault config.entry.settings (L.seen log) config.entry.pace.on_log_fault) }
     ensures rounds { IfOk result (λ ran. ran.rounds ≡ config.entry.pace.rounds) }
 {
+    let NodeConfig {
+        settings,
+        paths,
+        pace,
+    } = config;
+    let config = NodeConfig {
+        settings,
+        paths,
+        pace,
+    };
     if log.cause().is_none() {
         run_node(rt, alloc, config, log, observer)
     } else {
