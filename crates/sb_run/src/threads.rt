@@ -306,18 +306,15 @@ impl<'a, O: Observer + Sync> Dialing<'a, O> {
         ensures fault { IfErr result (IsEndFault node.now.pace.on_log_fault) }
         ensures failed { writes.has_failed ≡ true → node.now.pace.on_log_fault ≡ OnLogFault.Exit → IsErr result }
     {
-        let (count, for_news) = (thread_seats.workers.len(), thread_seats.news.len());
-        let room = thread_seats.news.capacity();
         thread::scope(
             thread::scope_env(),
             node.rt,
             move |scope| -> Result<ThreadsEnd<S>, Fault>
                 requires { IsSend S.row × IsSync S.row × IsSend H.row × IsSync H.row × IsSend Q.row × IsSync Q.row × IsSync O.row
-                    × (vec_len thread_seats.workers ≡ count) × (vec_len thread_seats.news ≡ for_news) × (vec_capacity thread_seats.news ≡ room)
                     × IsOpenedFrom (seen_by (L.seen writes.log.log) writes.log.closed_by) S.opening }
-                ensures thread_seats { IfOk result (λ finished. vec_len finished.thread_seats.workers ≡ count) }
-                ensures news { IfOk result (λ finished. (vec_len finished.thread_seats.news ≡ for_news)
-                    × (vec_capacity finished.thread_seats.news ≡ room)) }
+                ensures thread_seats { IfOk result (λ finished. vec_len finished.thread_seats.workers ≡ vec_len thread_seats.workers) }
+                ensures news { IfOk result (λ finished. (vec_len finished.thread_seats.news ≡ vec_len thread_seats.news)
+                    × (vec_capacity finished.thread_seats.news ≡ vec_capacity thread_seats.news)) }
                 ensures fault { IfErr result (IsEndFault node.entry.now.pace.on_log_fault) }
                 ensures failed { writes.has_failed ≡ true → node.entry.now.pace.on_log_fault ≡ OnLogFault.Exit → IsErr result }
             { self.run_within(scope, node, writes, thread_seats, links) },
