@@ -1,7 +1,7 @@
 //! A running node whose callers and peers are silent or slow: nobody waits for them.
 
 use crate::peers::{hears_only, next_of, put_is_done, put_is_done_as, reach, talk};
-use crate::running::{Host, pace, paths_of, run_a};
+use crate::running::{pace, paths_of, run_a};
 use crate::waking::silent_b;
 use crate::{got, same};
 use sb_run::{Pace, Paths, Ran};
@@ -9,7 +9,7 @@ use sb_session::Ended;
 use sb_testing::wire::{ASK, DONE, HELLO_A, HELLO_B, PUT};
 use std::alloc::Global;
 use std::io::{Read, Write};
-use std::net::{Net, TcpListener, TcpStream};
+use std::net::Net;
 use std::os::unix::net::{UnixListener, UnixStream};
 use std::process::Abort;
 use std::time::{Clock, Duration, Instant};
@@ -157,13 +157,7 @@ fn patient() -> Pace {
 }
 
 /// Plays at a node whose only round lasts until the play is over, and then brings a delta. Tests that it went as it should within three seconds.
-fn play_beside<R: Host + Net<Listener = TcpListener, Stream = TcpStream>>(
-    rt: &R,
-    alloc: Global,
-    paths: &Paths,
-    pace: Pace,
-    kind: Play,
-) -> Ran {
+fn play_beside(rt: &HostRuntime, alloc: Global, paths: &Paths, pace: Pace, kind: Play) -> Ran {
     let [peer] = paths.peers else {
         panic!(rt; "not one peer");
     };
