@@ -40,7 +40,7 @@ length-number64 n = refl
 
 content-length : (c : Content) → length (content c) ≡ content_length c
 unfolding content number
-content-length (Word t) = refl
+content-length (Word t) = omega arith
 content-length (Text t) = omega (arith, length-append (number w16 (length t)) t, length-number16 (length t))
 content-length (Number n) = refl
 content-length (Truth b) = refl
