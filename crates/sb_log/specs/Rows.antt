@@ -15,7 +15,6 @@ use Rattle.sb_types.specs.declared.kind.Form.TheVariants as forms
 use Rattle.sb_types.specs.declared.format.TheConstants.{TAG_TEXT}
 use Rattle.sb_types.specs.Kinds as kinds
 use Rattle.sb_types.specs.Kinds.{Content, Word, Number, Truth, tag_of, kind_of, form_of, kind_of_tag, made_value}
-use Rattle.sb_types.specs.Value.{Value}
 use Rattle.sb_types.specs.Limits.{is_entry}
 use Rattle.sb_types.specs.Records.{Entry, Table}
 use Rattle.sb_types.specs.Runs.{last_version, live}
