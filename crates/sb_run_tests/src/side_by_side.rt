@@ -17,10 +17,13 @@ use std::time::{Clock, Duration, Instant};
 use std::{fs, thread};
 
 /// Runs the node a with a new log, a worker, and three threads for news.
-fn run_side_by_side<
-    R: Host + Net<Listener = TcpListener, Stream = TcpStream>,
-    O: Observer + Sync,
->(rt: &R, alloc: Global, paths: &Paths, pace: Pace, observer: &O) -> Result<Ran, Fault> {
+fn run_side_by_side<R: Host + Net<Listener = TcpListener, Stream = TcpStream>, O: Observer + Sync>(
+    rt: &R,
+    alloc: Global,
+    paths: &Paths,
+    pace: Pace,
+    observer: &O,
+) -> Result<Ran, Fault> {
     let config = NodeConfig {
         settings: settings_with(rt, BUDGET_LEAST, 6, 1),
         paths: *paths,
