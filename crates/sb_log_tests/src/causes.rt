@@ -116,7 +116,7 @@ fn a_log_says_why_its_store_failed(rt: HostRuntime) {
         &log_in_memory(&rt, alloc, OWN, Failing),
         &Ok((None, None)),
     );
-    let mut closed = 0;
+    let mut has_closed = false;
     for log in 0..120 {
         let calls = Calls {
             log,
@@ -125,11 +125,11 @@ fn a_log_says_why_its_store_failed(rt: HostRuntime) {
         };
         let visited = log_on_disks(&rt, alloc, &mut new_disks(alloc), calls, OWN, Failing);
         match visited {
-            Ok((None, Some(StoreCause::Io))) => closed += 1,
+            Ok((None, Some(StoreCause::Io))) => has_closed = true,
             // No call of the disk failed.
             Ok((None, None)) => {}
             visited => same_at(&rt, &log, &visited.is_err(), &true),
         }
     }
-    same(&rt, &(closed > 0), &true);
+    same(&rt, &has_closed, &true);
 }
