@@ -116,11 +116,20 @@ fn a_log_says_why_its_store_failed(rt: HostRuntime) {
         &log_in_memory(&rt, alloc, OWN, Failing),
         &Ok((None, None)),
     );
-    let calls = Calls {
-        log: 120,
-        db: u64::MAX,
-        after: After::Failing,
-    };
-    let failed = log_on_disks(&rt, alloc, &mut new_disks(alloc), calls, OWN, Failing);
-    same(&rt, &failed, &Ok((None, Some(StoreCause::Io))));
+    let mut has_closed = false;
+    for log in 0..120 {
+        let calls = Calls {
+            log,
+            db: u64::MAX,
+            after: After::Failing,
+        };
+        let visited = log_on_disks(&rt, alloc, &mut new_disks(alloc), calls, OWN, Failing);
+        match visited {
+            Ok((None, Some(StoreCause::Io))) => has_closed = true,
+            // No call of the disk failed.
+            Ok((None, None)) => {}
+            visited => same_at(&rt, &log, &visited.is_err(), &true),
+        }
+    }
+    same(&rt, &has_closed, &true);
 }
