@@ -1,0 +1,55 @@
+-- A table as it is offered to a peer.
+use Rattle.std.proofs.Common.{◌≡◌, ℕ, suc, ◌≤◌, Bool, true, false, ◌&&◌, ◌||◌, List, [], ◌∷◌, length, nat_lt, refl, sym, ap, ap₂, subst, ◌∙◌, arith}
+use Rattle.std.specs.Prelude.{filter}
+use Rattle.sb_types.specs.declared.entry.Write.{Write}
+use Rattle.sb_types.specs.Records.{Entry, Table}
+use Rattle.sb_types.specs.Runs.{above, is_set, live, IsRun, IsTable}
+use Rattle.sb_types.specs.Writes.{Holds}
+use Rattle.sb_types.proofs.Live.{live-live}
+use Rattle.sb_table.specs.Floors.{raised}
+use Rattle.sb_table.proofs.Order.{run_kept}
+use Rattle.sb_holdings.specs.Held.{nothing}
+use Rattle.sb_holdings.proofs.Telling.{tells_live, tells_raised}
+use Rattle.sb_digest.specs.Digests.{Digest, held_in, floor_in}
+use Rattle.sb_digest.proofs.Telling.{start-least, start-most, start-own}
+use Rattle.sb_budget.specs.Available.{offered_table}
+
+-- ---- tombstones that are left out
+
+if_each : (a b : Bool) (e : Entry) (p : Entry → Bool) (q : Entry → Bool) (es : List Entry) → p e ≡ a → q e ≡ b → filter p (filter q es) ≡ filter q (filter p es) → filter p (filter q (e ∷ es)) ≡ filter q (filter p (e ∷ es))
+if_each true true e p q es pe qe rest = rw (pe, qe) (rw (pe, qe) (ap (λ r. e ∷ r) rest))
+if_each true false e p q es pe qe rest = rw (pe, qe) (rw (pe, qe) rest)
+if_each false true e p q es pe qe rest = rw (pe, qe) (rw (pe, qe) rest)
+if_each false false e p q es pe qe rest = rw (pe, qe) (rw (pe, qe) rest)
+
+-- which of two tests comes first changes nothing
+both_tests : (p q : Entry → Bool) (es : List Entry) → filter p (filter q es) ≡ filter q (filter p es)
+both_tests p q [] = refl
+both_tests p q (e ∷ es) = if_each (p e) (q e) e p q es refl refl (both_tests p q es)
+
+pub live-above : (floor version : ℕ) (es : List Entry) → live floor (above version es) ≡ above version (live floor es)
+live-above floor version es = both_tests (λ e. is_set e.slot || nat_lt floor e.version) (λ e. nat_lt version e.version) es
+
+-- ---- the offered table
+
+module _ (digest : Digest) (owner : List ℕ) (t : Table) (is : IsTable t) where
+  pub offered_is : IsTable (offered_table digest owner t)
+  offered_is =
+      let floor = floor_in digest owner t.floor t.held in
+      record {
+        run = run_kept (λ e. is_set e.slot || nat_lt floor e.version) is.run;
+        floor = start-most digest owner t.floor t.held is.floor;
+        live = live-live floor t.entries;
+      }
+
+  pub offered_holds : (writes : List Write) → Holds writes t → Holds writes (offered_table digest owner t)
+  offered_holds writes h = tells_live (tells_raised (floor_in digest owner t.floor t.held) (start-least digest owner t.floor t.held is.floor) (start-most digest owner t.floor t.held is.floor) is.run h)
+
+  pub offered_own : t.floor ≤ held_in digest owner → offered_table digest owner t ≡ t
+  offered_own far =
+      let same = start-own digest owner t.floor t.held far in
+      ap (λ (floor : ℕ). raised t.held floor t) same ∙ ap (λ (es : List Entry). record { held = t.held; floor = t.floor; entries = es }) is.live
+
+-- of an owner that is not held nothing is offered
+pub offered_nothing : (digest : Digest) (owner : List ℕ) → offered_table digest owner nothing.shown ≡ nothing.shown
+offered_nothing digest owner = ap (λ (floor : ℕ). raised 0 floor nothing.shown) (start-own digest owner 0 0 (omega arith))
