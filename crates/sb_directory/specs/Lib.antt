@@ -4,3 +4,4 @@ pub mod ViewedNodes
 pub mod Seats
 pub mod Serving
 pub mod Handling
+pub mod Purging
