@@ -1,5 +1,5 @@
 -- Of no owner does what is held fall, whatever happens to the node.
-use Rattle.std.proofs.Common.{◌≡◌, ℕ, zero, suc, ◌≤◌, ◌<◌, ◌+◌, Bool, true, false, cond, List, [], ◌∷◌, length, take, flat_map, Option, Some, None, unwrap_or, inl, inr, refl, sym, ap, subst, ◌∙◌, arith, nat_eq, nat_lt, nat_le, nat_cmp, eqb-true, leb-true, ltb-true}
+use Rattle.std.proofs.Common.{◌≡◌, ℕ, zero, suc, ◌≤◌, ◌<◌, ◌+◌, Bool, true, false, cond, ◌&&◌, List, [], ◌∷◌, length, take, flat_map, Option, Some, None, unwrap_or, inl, inr, refl, sym, ap, subst, ◌∙◌, arith, nat_eq, nat_lt, nat_le, nat_cmp, eqb-true, leb-true, ltb-true}
 use Rattle.std.proofs.lemmas.Bool.{and_parts, cond_both}
 use Rattle.std.proofs.lemmas.Cmp.{nat_list_cmp_total}
 use Rattle.std.proofs.lemmas.Grind.{flat_map-append}
@@ -14,8 +14,8 @@ use Rattle.sb_table.specs.Plain.{with_entry}
 use Rattle.sb_holdings.specs.declared.ends.BlockEnd.{BlockEnd}
 use Rattle.sb_holdings.specs.declared.ends.BlockEnd.TheVariants.{Own, OwnAhead, Gap, Stale, OwnersFull, Taken, TooManyKeys, NoMemory}
 use Rattle.sb_holdings.specs.Blocks.{part_above, front}
-use Rattle.sb_holdings.specs.Shown.{joins_shown, shown_with, stage_beyond, own}
-use Rattle.sb_table.specs.Floors.{swapped}
+use Rattle.sb_holdings.specs.Shown.{joins_shown, shown_with, stage_beyond, own, own_purged}
+use Rattle.sb_table.specs.Floors.{raised, swapped}
 use Rattle.sb_holdings.specs.Stages.{new_stage, goes_on, begins, stage_for, stage_with, staged_all, staged_front, staged_refused}
 use Rattle.sb_holdings.specs.Taken.{routed, holder_after_block}
 use Rattle.sb_holdings.specs.Held.{Held, nothing, holder_of, shown_of, with_owner, held_after_taking}
