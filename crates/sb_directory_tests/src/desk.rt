@@ -286,8 +286,8 @@ impl<S: DirectoryTag, H: Wait + Drop> Desk<S, H> {
     fn told<Q: Wait + Abort>(&mut self, rt: &Q) -> (u64, u64) {
         let digest = got(rt, self.node.digest(rt, true));
         (
-            digest.number(&name(rt, b"a"), 0),
-            digest.number(&name(rt, b"b"), 0),
+            digest.start(&name(rt, b"a"), 0, 0).after,
+            digest.start(&name(rt, b"b"), 0, 0).after,
         )
     }
 

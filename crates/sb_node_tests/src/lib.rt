@@ -3,6 +3,8 @@
 #![tactic(auto)]
 
 #[cfg(test)]
+mod as_if_purged;
+#[cfg(test)]
 mod both_ways;
 #[cfg(test)]
 mod budget;
