@@ -19,6 +19,8 @@ mod node;
 #[cfg(test)]
 mod orders;
 #[cfg(test)]
+mod purging;
+#[cfg(test)]
 mod sessions;
 
 #[cfg(test)]
