@@ -233,10 +233,10 @@ fn a_stage_has_room_for_later_keys(rt: HostRuntime) {
     let alloc = rt.alloc();
     let b = Holdings::new(alloc, name(&rt, b"b"), Table::new(alloc));
     let (a, mut b) = (full(&rt, alloc), got(&rt, b));
-    let first = exchange(&rt, alloc, &a, &mut b, 65_536);
+    let first = exchange(&rt, alloc, &a, &mut b, 32_768);
     same(&rt, &(first.0[0], first.0[1], first.2), &(5_096, 0, 0));
     let a = full_again(&rt, alloc);
-    let second = exchange(&rt, alloc, &a, &mut b, 65_536);
+    let second = exchange(&rt, alloc, &a, &mut b, 32_768);
     same(&rt, &(second.0[0], second.0[1]), &(5_096, first.0[2]));
     same(&rt, &second.2, &5_596);
 }
