@@ -1,4 +1,5 @@
 //! A table that a peer needs whole is offered as if it were purged as far as the sender holds it.
+ghost use Rattle.std.specs.Prelude.{◌≤◌, ◌<◌, ◌+◌};
 
 use crate::making::apply;
 use crate::{got, key, name, push, same, there};
@@ -99,7 +100,8 @@ fn exchange(
     to: &mut Holdings,
     budget: u64,
 ) -> Sent
-    requires { (BUDGET_LEAST ≤ budget) × (budget ≤ BUDGET_MOST) }
+    requires least { BUDGET_LEAST ≤ budget }
+    requires most { budget ≤ BUDGET_MOST }
 {
     let digest = got(rt, build(alloc, to, None, true, budget));
     let delta = got(rt, Breadth.delta(alloc, from, &digest, budget));
@@ -194,7 +196,9 @@ fn numbered(rt: &impl Abort, number: u64) -> Key {
 
 /// Adds a flag, or a removal, under each of so many keys from a number on, in versions from `version` on.
 fn add(rt: &impl Abort, entries: &mut Vec<Entry>, from: u64, count: u64, version: u64, set: bool)
-    requires { (from + count < 10_000) × (1 ≤ version) × (version < 10_000) }
+    requires keys { from + count < 10_000 }
+    requires first { 1 ≤ version }
+    requires last { version < 10_000 }
 {
     for at in 0..count {
         let slot = if set {
