@@ -1,6 +1,6 @@
 -- A table as it is offered to a peer.
 use Rattle.std.proofs.Common.{◌≡◌, ℕ, suc, ◌≤◌, Bool, true, false, ◌&&◌, ◌||◌, List, [], ◌∷◌, length, nat_lt, refl, sym, ap, ap₂, subst, ◌∙◌, arith}
-use Rattle.std.specs.Prelude.{filter}
+use Rattle.std.proofs.lemmas.List.Elements.{filter_agree}
 use Rattle.sb_types.specs.declared.entry.Write.{Write}
 use Rattle.sb_types.specs.Records.{Entry, Table}
 use Rattle.sb_types.specs.Runs.{above, is_set, live, IsRun, IsTable}
@@ -9,6 +9,7 @@ use Rattle.sb_types.proofs.Live.{live-live}
 use Rattle.sb_table.specs.Floors.{raised}
 use Rattle.sb_table.proofs.Order.{run_kept}
 use Rattle.sb_holdings.specs.Held.{nothing}
+use Rattle.sb_holdings.proofs.Entering.{filter-filter}
 use Rattle.sb_holdings.proofs.Telling.{tells_live, tells_raised}
 use Rattle.sb_digest.specs.Digests.{Digest, held_in, floor_in}
 use Rattle.sb_digest.proofs.Telling.{start-least, start-most, start-own}
@@ -16,19 +17,19 @@ use Rattle.sb_budget.specs.Available.{offered_table}
 
 -- ---- tombstones that are left out
 
-if_each : (a b : Bool) (e : Entry) (p : Entry → Bool) (q : Entry → Bool) (es : List Entry) → p e ≡ a → q e ≡ b → filter p (filter q es) ≡ filter q (filter p es) → filter p (filter q (e ∷ es)) ≡ filter q (filter p (e ∷ es))
-if_each true true e p q es pe qe rest = rw (pe, qe) (rw (pe, qe) (ap (λ r. e ∷ r) rest))
-if_each true false e p q es pe qe rest = rw (pe, qe) (rw (pe, qe) rest)
-if_each false true e p q es pe qe rest = rw (pe, qe) (rw (pe, qe) rest)
-if_each false false e p q es pe qe rest = rw (pe, qe) (rw (pe, qe) rest)
+and-swapped : (a b : Bool) → (a && b) ≡ (b && a)
+and-swapped true true = refl
+and-swapped true false = refl
+and-swapped false true = refl
+and-swapped false false = refl
 
--- which of two tests comes first changes nothing
-both_tests : (p q : Entry → Bool) (es : List Entry) → filter p (filter q es) ≡ filter q (filter p es)
-both_tests p q [] = refl
-both_tests p q (e ∷ es) = if_each (p e) (q e) e p q es refl refl (both_tests p q es)
-
+-- which of the two tests comes first changes nothing
 pub live-above : (floor version : ℕ) (es : List Entry) → live floor (above version es) ≡ above version (live floor es)
-live-above floor version es = both_tests (λ e. is_set e.slot || nat_lt floor e.version) (λ e. nat_lt version e.version) es
+live-above floor version es =
+    filter-filter (λ x. is_set x.slot || nat_lt floor x.version) (λ x. nat_lt version x.version) es
+    ∙ filter_agree (λ x. nat_lt version x.version && (is_set x.slot || nat_lt floor x.version)) (λ x. (is_set x.slot || nat_lt floor x.version) && nat_lt version x.version)
+    (λ x. and-swapped (nat_lt version x.version) (is_set x.slot || nat_lt floor x.version)) es
+    ∙ sym (filter-filter (λ x. nat_lt version x.version) (λ x. is_set x.slot || nat_lt floor x.version) es)
 
 -- ---- the offered table
 

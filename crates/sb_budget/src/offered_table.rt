@@ -1,5 +1,5 @@
 //! A table as it is offered to one peer.
-ghost use Rattle.std.specs.Prelude.{◌≡◌, ◌≤◌, ◌<◌, ◌^◌, ◌||◌, ◌×◌, [], ◌∷◌, MatchOption, length, nat_lt};
+ghost use Rattle.std.specs.Prelude.{◌≡◌, ◌≤◌, ◌<◌, ◌^◌, ◌||◌, [], ◌∷◌, MatchOption, length, nat_lt};
 ghost use Rattle.std.specs.Iterator.{YieldsFirstRef, item_count};
 ghost use Rattle.sb_types.specs.Runs.{above, is_set, live};
 ghost use Rattle.sb_table.specs.Floors.{IsKeptTable, raised};
@@ -85,7 +85,7 @@ pub(crate) struct OfferedTable<'a> {
 }
 
 impl<'a> Model for OfferedTable<'a> {
-    ghost use Rattle.std.specs.Prelude.{◌≤◌, ◌×◌};
+    ghost use Rattle.std.specs.Prelude.{◌≤◌};
     ghost use Rattle.sb_types.specs.Records as records;
     ghost use Rattle.sb_table.specs.Floors.{raised};
 

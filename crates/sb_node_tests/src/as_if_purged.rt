@@ -1,4 +1,5 @@
 //! A table that a peer needs whole is offered as if it were purged as far as the sender holds it.
+ghost use Rattle.std.specs.Prelude.{◌≤◌, ◌<◌, ◌+◌};
 
 use crate::making::apply;
 use crate::{got, key, name, push, same, there};
@@ -99,7 +100,8 @@ fn exchange(
     to: &mut Holdings,
     budget: u64,
 ) -> Sent
-    requires { (BUDGET_LEAST ≤ budget) × (budget ≤ BUDGET_MOST) }
+    requires least { BUDGET_LEAST ≤ budget }
+    requires most { budget ≤ BUDGET_MOST }
 {
     let digest = got(rt, build(alloc, to, None, true, budget));
     let delta = got(rt, Breadth.delta(alloc, from, &digest, budget));
@@ -194,7 +196,9 @@ fn numbered(rt: &impl Abort, number: u64) -> Key {
 
 /// Adds a flag, or a removal, under each of so many keys from a number on, in versions from `version` on.
 fn add(rt: &impl Abort, entries: &mut Vec<Entry>, from: u64, count: u64, version: u64, set: bool)
-    requires { (from + count < 10_000) × (1 ≤ version) × (version < 10_000) }
+    requires keys { from + count < 10_000 }
+    requires first { 1 ≤ version }
+    requires last { version < 10_000 }
 {
     for at in 0..count {
         let slot = if set {
@@ -233,10 +237,10 @@ fn a_stage_has_room_for_later_keys(rt: HostRuntime) {
     let alloc = rt.alloc();
     let b = Holdings::new(alloc, name(&rt, b"b"), Table::new(alloc));
     let (a, mut b) = (full(&rt, alloc), got(&rt, b));
-    let first = exchange(&rt, alloc, &a, &mut b, 65_536);
+    let first = exchange(&rt, alloc, &a, &mut b, 32_768);
     same(&rt, &(first.0[0], first.0[1], first.2), &(5_096, 0, 0));
     let a = full_again(&rt, alloc);
-    let second = exchange(&rt, alloc, &a, &mut b, 65_536);
+    let second = exchange(&rt, alloc, &a, &mut b, 32_768);
     same(&rt, &(second.0[0], second.0[1]), &(5_096, first.0[2]));
     same(&rt, &second.2, &5_596);
 }
