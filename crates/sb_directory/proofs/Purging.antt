@@ -9,12 +9,17 @@ use Rattle.sb_directory.specs.ViewedNodes.{are_spent}
 use Rattle.sb_directory.specs.Seats.{Refuses, delta_due_after}
 use Rattle.sb_directory.specs.Purging.{own_due_floor, floor_unless_spent, purge_due_after}
 
--- what is refused where nothing but the count of events counts
-refused-by : (spent : Bool) (floor : ℕ) (fault : Fault) → Refuses (cond spent (Err {A = Unit {0}} TurnsSpent) (Ok tt)) fault → Refuses (cond spent (Err {A = Option ℕ} TurnsSpent) (Ok (Some floor))) fault
-refused-by true floor fault r = (r.0, λ other. ap (λ (f : Fault). Err {A = Option ℕ} f) (sym r.0))
+abbrev unit_unless : Bool → Result (Unit {0}) Fault
+unit_unless spent = cond spent (Err TurnsSpent) (Ok tt)
+
+abbrev floor_unless : Bool → ℕ → Result (Option ℕ) Fault
+floor_unless spent floor = cond spent (Err TurnsSpent) (Ok (Some floor))
+
+refused-by : (spent : Bool) (floor : ℕ) (fault : Fault) → Refuses (unit_unless spent) fault → Refuses (floor_unless spent floor) fault
+refused-by true floor fault r = (r.0, λ other. ap (λ (f : Fault). let e : Result (Option ℕ) Fault = Err f in e) (sym r.0))
 refused-by false floor fault r = (tt, λ other. let same : ◌≡◌ {A = Result (Unit {0}) Fault} (Ok tt) (Err fault) = r.1 other in absurd (cc))
 
-taken-by : (spent : Bool) (floor : ℕ) → cond spent (Err {A = Unit {0}} TurnsSpent) (Ok tt) ≡ Ok tt → cond spent (Err {A = Option ℕ} TurnsSpent) (Ok (Some floor)) ≡ Ok (Some floor)
+taken-by : (spent : Bool) (floor : ℕ) → unit_unless spent ≡ Ok tt → floor_unless spent floor ≡ Ok (Some floor)
 taken-by true floor due = absurd (cc)
 taken-by false floor due = refl
 
