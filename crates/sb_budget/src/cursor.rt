@@ -8,7 +8,7 @@ ghost use Rattle.sb_budget.specs.Making.{head_of};
 ghost use Rattle.sb_budget.specs.Parts.{part_of, all_of, AreParts};
 
 use crate::head::Head;
-use crate::offered_table::{Live, OfferedTable};
+use crate::offered_table::{LiveEntries, OfferedTable};
 use sb_digest::Digest;
 use sb_holdings::Holdings;
 use sb_types::{Entry, Fault, Name};
@@ -21,13 +21,13 @@ struct Place<'a> {
     /// How many of the owner's offered entries come before this one.
     rank: u64,
     entry: &'a Entry,
-    later: Live<'a>,
+    later: LiveEntries<'a>,
 }
 
 impl<'a> Place<'a> {
     /// Returns the place at the first entry of a table above a version, if there is one.
-    fn first(table: OfferedTable<'a>, after: u64) -> Option<Place<'a>>
-        ensures { option_map (λ p. record { rank = p.rank; entry = p.entry.now; later = p.later }) result ≡ first_place (above after table.entries) }
+    fn first(table: &OfferedTable<'a>, after: u64) -> Option<Place<'a>>
+        ensures { option_map (λ p. record { rank = p.rank; entry = p.entry.now; later = p.later }) result ≡ first_place (above after table.now.entries) }
     {
         let mut later = table.after(after);
         let entry = later.next()?;
@@ -122,7 +122,7 @@ impl<'a> Cursor<'a> {
         } = self;
         let place = match place {
             Some(place) => Some(place),
-            None => Place::first(table, after),
+            None => Place::first(&table, after),
         };
         let Some(
             Place {

@@ -23,12 +23,12 @@ fn is_live(entry: &Entry, floor: u64) -> bool
 
 /// Iterates over entries in ascending version, without the tombstones (markers of removed keys) up to a floor.
 #[derive(Drop)]
-pub(crate) struct Live<'a> {
+pub(crate) struct LiveEntries<'a> {
     entries: After<'a>,
     floor: u64,
 }
 
-impl<'a> Model for Live<'a> {
+impl<'a> Model for LiveEntries<'a> {
     ghost use Rattle.std.specs.Prelude.{List, length, ◌<◌, ◌^◌};
     ghost use Rattle.sb_types.specs.Runs.{live};
     ghost use Rattle.sb_types.specs.Records as records;
@@ -37,22 +37,21 @@ impl<'a> Model for Live<'a> {
 
     ghost view = { λ it. live it.floor it.entries };
 
-    ghost invariant = { λ it. length it.entries < 2 ^ 63 };
+    ghost invariant = { λ it. length (live it.floor it.entries) < 2 ^ 63 };
 }
 
-impl<'a> Live<'a> {
-    fn new(entries: After<'a>, floor: u64) -> Live<'a>
-        requires { length entries < 2 ^ 63 }
+impl<'a> LiveEntries<'a> {
+    fn new(entries: After<'a>, floor: u64) -> LiveEntries<'a>
+        requires { length (live floor entries) < 2 ^ 63 }
         ensures { result ≡ live floor entries }
     {
-        Live { entries, floor }
+        LiveEntries { entries, floor }
     }
 }
 
 /// Takes the entries up to the first one that is live, and returns that one.
 fn next_live<'a>(entries: &mut After<'a>, floor: u64) -> Option<&'a Entry>
-    ensures first { MatchOption result ((live floor entries.old ≡ []) × (live floor entries.new ≡ [])) (λ entry. live floor entries.old ≡ entry.now ∷ live floor entries.new) }
-    ensures shorter { length entries.new ≤ length entries.old }
+    ensures { MatchOption result ((live floor entries.old ≡ []) × (live floor entries.new ≡ [])) (λ entry. live floor entries.old ≡ entry.now ∷ live floor entries.new) }
 {
     while let Some(entry) = entries.next() {
         if is_live(entry, floor) {
@@ -62,7 +61,7 @@ fn next_live<'a>(entries: &mut After<'a>, floor: u64) -> Option<&'a Entry>
     None
 }
 
-impl<'a> Iterator for Live<'a> {
+impl<'a> Iterator for LiveEntries<'a> {
     type Item = &'a Entry;
 
     ghost next_gives = { YieldsFirstRef (λ it. it) };
@@ -74,7 +73,7 @@ impl<'a> Iterator for Live<'a> {
     }
 }
 
-impl<'a> FusedIterator for Live<'a> {}
+impl<'a> FusedIterator for LiveEntries<'a> {}
 
 /// A table as it is offered to one peer: under a floor between its own and its held version, without the tombstones up
 /// to that floor.
@@ -137,10 +136,10 @@ impl<'a> OfferedTable<'a> {
     }
 
     /// Returns the entries above a version, in ascending version. It takes no memory.
-    pub(crate) fn after(&self, version: u64) -> Live<'a>
+    pub(crate) fn after(&self, version: u64) -> LiveEntries<'a>
         ensures entries { result ≡ above version self.now.entries }
     {
-        Live::new(self.table.after(version), self.floor)
+        LiveEntries::new(self.table.after(version), self.floor)
     }
 
     /// Returns how many entries there are above a version. It takes one step for each, except above version 0 of a table
