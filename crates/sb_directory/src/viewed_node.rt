@@ -189,7 +189,7 @@ impl<S: DirectoryTag, R: Wait + Drop> ViewedNode<S, R> {
         ensures count { IfOk result (λ purge. seat.new.events ≡ seat.old.events + length (purging.purge_events (option_map (λ p. p.floor) purge))) }
         ensures seen { IfOk result (λ purge. IfSome purge (λ p. p.shown ≡ true → seat.new.seen ≡ seat.new.last_call)) }
         ensures refused { IfErr result (spec.Refuses (purging.purge_due_after S.opening least self.old.history)) }
-        ensures some { OnErr result (IsSome (purging.own_due_floor least self.old.core.node)) }
+        ensures some { OnErr result (IsSome (purging.own_due_floor least (node_after S.opening self.old.history))) }
         ensures seat { OnErr result (seat.new ≡ spec.with_last_call seat.old self.old.history) }
         ensures still { result ≡ Ok None → seat.new ≡ spec.with_last_call seat.old self.old.history }
         ensures begins { spec.Begins self.old.history seat.old }
