@@ -223,13 +223,15 @@ impl<S: DirectoryTag, R: Wait + Drop> ViewedNode<S, R> {
             return Err(Fault::TurnsSpent);
         }
         let me = *self.core.name();
-        let since = (self.core.upto(&me), self.core.holdings().floor(&me));
-        self.lacking.add(me, since)?;
+        let (upto, lowest) = (self.core.upto(&me), self.core.holdings().floor(&me));
+        self.lacking.add(me, (upto, lowest))?;
         self.core.purge(floor)?;
         self.history.add(EventRef::Purged(floor));
         seat.count(&mut self.book);
-        let shown = self.refresh(seat);
-        Ok(Purge { floor, shown })
+        Ok(Purge {
+            floor,
+            shown: self.refresh(seat),
+        })
     }
 
     /// Notes a call of a seat, which changes nothing else.
