@@ -228,9 +228,10 @@ impl<S: DirectoryTag, R: Wait + Drop> ViewedNode<S, R> {
         self.core.purge(floor)?;
         self.history.add(EventRef::Purged(floor));
         seat.count(&mut self.book);
+        let is_shown = self.refresh(seat);
         Ok(Purge {
             floor,
-            shown: self.refresh(seat),
+            shown: is_shown,
         })
     }
 
