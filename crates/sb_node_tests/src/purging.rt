@@ -57,9 +57,9 @@ fn a_purge_drops_tombstones_up_to_its_floor(rt: HostRuntime) {
 
 /// Under each of eight keys a node sets a flag and then removes it.
 fn eight_removals(rt: &impl Abort, core: &mut NodeCore, log: &mut PlainLog) {
-    for letter in *b"abcdefgh" {
-        set(rt, core, log, &[letter]);
-        remove(rt, core, log, &[letter]);
+    for letter in b"abcdefgh".iter() {
+        set(rt, core, log, &[*letter]);
+        remove(rt, core, log, &[*letter]);
     }
 }
 
@@ -134,8 +134,8 @@ fn set_all(rt: &impl Abort, core: &mut NodeCore, log: &mut PlainLog, first: u8, 
 #[test]
 fn a_full_table_is_purged(rt: HostRuntime) {
     let (mut core, mut log) = new_node(&rt, rt.alloc());
-    for first in *b"abcdefgh" {
-        set_all(&rt, &mut core, &mut log, first, 512);
+    for first in b"abcdefgh".iter() {
+        set_all(&rt, &mut core, &mut log, *first, 512);
     }
     for at in 0..63 {
         let [second, third] = numbered(at);
