@@ -24,3 +24,21 @@ invariant_of-self-2 g c =
       is.3,
       is.4,
     )
+
+-- the table is not purged; what is lacked stays noted
+pub invariant_of-self-in_err-purge : goal.invariant_of-self-in_err-purge
+invariant_of-self-in_err-purge g c =
+    let opening = g.S.NodeTag.opening in
+    let inside = c.self.inside in
+    let queued = inside.views.queued in
+    let is = c.self.invariant in
+    let old : ViewedNode = record { core = inside.core; hub = inside.hub; history = inside.history; published = inside.views.published } in
+    let noted = added-locked opening queued inside.lacking c.add.new.self old c.name.result.now _ is.0 c.in_ok-add.ensures.ok (since-read _ _ _ _ _ c.upto.ensures.version c.floor.ensures.floor c.holdings.ensures.held) in
+    let same = c.in_err-purge.ensures.err in
+    let history = c.call_at.ensures.history in (
+      subst (λ (l : ViewedNode). IsViewedNode opening queued c.add.new.self l) (λ i. record { core = sym same i; hub = inside.hub; history = sym history i; published = inside.views.published }) noted,
+      is.1 ∙ ap (λ (l : List Event). length l) (sym history),
+      ap (λ (k : Core). k.settings) same ∙ is.2,
+      is.3,
+      is.4,
+    )
