@@ -35,6 +35,9 @@ Order of faults
 - A floor above the last version is 30, and the node stays up. Else `purge` prints the floor that was asked for and takes the
   node down, also where the log's floor is as high already and nothing changes there.
 
+- `trim` is told by what the node holds, not by its log: above that it is 30, and nothing changes. Else it prints the floor
+  that was asked for, also where both floors are as high already.
+
 Floors and stages
 - A block is looked at in this order: its owner is the taker; it tells nothing that is new (`stale`); it joins the table that is
   shown; it joins the stage of its floor, or begins one; else `gap`. A block that would add an owner beside 1,023 others is `owners-full`.
@@ -647,6 +650,17 @@ class World:
         self.stop(node)
         return [b"purged %d" % floor]
 
+    def trim(self, name, floor):
+        """A node drops the removals of its own table up to a floor, and then its log does; the node goes on."""
+        node = self.running(name)
+        if node is None:
+            return NOTHING
+        if floor > node.upto(name):
+            raise Fault(FLOOR_TOO_HIGH)
+        node.held[name].raise_floor(floor)
+        node.log.raise_floor(floor)
+        return [b"trimmed %d" % floor]
+
     def restart(self, name):
         """A node opens anew."""
         if name not in self.nodes:
@@ -821,6 +835,7 @@ FORMS = {
     b"crash": [("NKVE", World.crash)],
     b"restart": [("N", World.restart)],
     b"purge": [("N#", World.purge)],
+    b"trim": [("N#", World.trim)],
     b"connect": [("NC", World.connect)],
     b"ask": [("C", World.ask)],
     b"offer": [("NN#", World.offer)],
