@@ -4,3 +4,4 @@ pub mod Truth
 pub mod Own
 pub mod Sessions
 pub mod Told
+pub mod Removals

@@ -13,6 +13,10 @@ use Rattle.sb_holdings.specs.Nodes.{Node}
 abbrev pub removals : List Entry → List Entry
 removals entries = filter (λ e. not (is_set e.slot)) entries
 
+-- how many of these entries are
+abbrev pub removals_in : List Entry → ℕ
+removals_in entries = length (removals entries)
+
 -- how many of them a full table has at least before it is purged
 abbrev pub FULL_REMOVALS : ℕ
 FULL_REMOVALS = 64
@@ -24,7 +28,7 @@ is_purge_due least keys removed = nat_lt 0 least && (nat_le least removed || (na
 -- the version of the middle removal: the older half of the removals goes
 abbrev pub due_floor : ℕ → Table → Option ℕ
 due_floor least t =
-    let removed = length (removals t.entries) in
+    let removed = removals_in t.entries in
     if is_purge_due least (length t.entries) removed then option_map (λ e. e.version) (slice_get (removals t.entries) ((removed + 1) / 2 - 1)) else None
 
 -- the answer to a purge of the own table up to this version

@@ -194,7 +194,10 @@ impl NodeCore {
         ensures allowed { IfSome result (λ floor. purge_answer self.now.node floor ≡ Ok tt) }
         ensures holdings { IsHoldings self.now.node.held }
     {
-        due_floor(self.holdings.table(self.holdings.me())?, least)
+        match self.holdings.table(self.holdings.me()) {
+            Some(table) => due_floor(table, least),
+            None => None,
+        }
     }
 
     /// Returns why a committed write cannot be entered: the first of `WrongOwner`, `OwnerConflict`, `OutOfTurn` and

@@ -1,31 +1,21 @@
 //! When a node purges its own table, and up to which version.
-ghost use Rattle.std.specs.Prelude.{◌≡◌, length, not, slice_get};
+ghost use Rattle.std.specs.Prelude.{◌≡◌, slice_get};
 ghost use Rattle.std.specs.Option.{option_map};
-ghost use Rattle.sb_types.specs.Runs.{is_set};
-ghost use Rattle.sb_node.specs.Purging.{removals, is_purge_due, due_floor};
+ghost use Rattle.sb_node.specs.Purging.{removals, removals_in, is_purge_due, due_floor};
 
 use sb_table::Table;
-use sb_types::{Entry, KEYS_MOST, Slot};
+use sb_types::{KEYS_MOST, Slot};
 
 /// How many removed keys a full table has at least before it is purged.
 const FULL_REMOVALS: usize = 64;
 
-fn is_removal(entry: &Entry) -> bool
-    ensures { result ≡ not (is_set entry.now.slot) }
-{
-    match entry.slot() {
-        Slot::Set(_) => false,
-        Slot::Removed => true,
-    }
-}
-
 /// Returns how many removed keys a table has.
 fn count_removals(table: &Table) -> usize
-    ensures { result ≡ length (removals table.now.entries) }
+    ensures { result ≡ removals_in table.now.entries }
 {
     let mut count = 0;
     for entry in table.after(0) {
-        if is_removal(entry) {
+        if matches!(entry.slot(), Slot::Removed) {
             count += 1;
         }
     }
@@ -33,12 +23,13 @@ fn count_removals(table: &Table) -> usize
 }
 
 /// Returns the version of a removal, by how many removals are older.
+#[tactic(auto, using(crate::proofs::Removals::first_removal, crate::proofs::Removals::first_value))]
 fn removal_at(table: &Table, older: usize) -> Option<u64>
     ensures { result ≡ option_map (λ e. e.version) (slice_get (removals table.now.entries) older) }
 {
     let mut left = older;
     for entry in table.after(0) {
-        if is_removal(entry) {
+        if matches!(entry.slot(), Slot::Removed) {
             if left == 0 {
                 return Some(entry.version());
             }
