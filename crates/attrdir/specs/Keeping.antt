@@ -33,6 +33,6 @@ unknown shown [] = []
 unknown shown (x ∷ xs) = unless_known shown x (unknown shown xs)
 
 -- one walk through the rows that were printed and those that were found
-abbrev pub kept : List Pair → List Row → List Row → List Row
-kept shown held [] = unknown shown held
-kept shown held (y ∷ ys) = keeping shown y (λ rest. kept shown rest ys) held
+abbrev pub rows_after : List Pair → List Row → List Row → List Row
+rows_after shown held [] = unknown shown held
+rows_after shown held (y ∷ ys) = keeping shown y (λ rest. rows_after shown rest ys) held

@@ -115,7 +115,7 @@ pub(crate) fn kept_rows(
     found: &[Row],
     shown: &[Pair],
 ) -> Result<Vec<Row>, Fault>
-    ensures kept { IfOk result (λ rows. rows.items ≡ spec.kept shown.now held.now found.now) }
+    ensures kept { IfOk result (λ rows. rows.items ≡ spec.rows_after shown.now held.now found.now) }
     ensures memory { IfErr result (λ fault. fault ≡ Fault.NoMemory) }
 {
     let mut kept = Vec::new(alloc);

@@ -1,6 +1,6 @@
 //! An owner's log in a file.
 ghost use Rattle.std.specs.Prelude.{◌≡◌, ◌≤◌, ◌<◌, ◌⊎◌, true, Ok, None, IfOk, IfSome, IfNone, IfErr, OnOk};
-ghost use Rattle.sb_log.specs.Puts.{purged};
+ghost use Rattle.sb_log.specs.Puts.{content_after_purge};
 ghost use Rattle.attrdir.specs.Removals as spec;
 
 use crate::failure::{Failure, FaultPlace};
@@ -166,7 +166,7 @@ fn purge_to<L: WriteLog, W: Write>(
     writer: &mut W,
 ) -> Result<(), Fault>
     ensures purges { OnOk result ((L.seen log.new).is_clean ≡ true
-        → (L.seen log.new).content ≡ purged (spec.floor_of floor (L.seen log.old).content) (L.seen log.old).content) }
+        → (L.seen log.new).content ≡ content_after_purge (spec.floor_of floor (L.seen log.old).content) (L.seen log.old).content) }
     ensures result { spec.PurgesTo floor (L.seen log.old) (W.contents writer.old) result (L.seen log.new) (W.contents writer.new) }
 {
     let version = match floor {
@@ -231,7 +231,7 @@ pub(crate) fn purge_removals<L: WriteLog>(
         × ((least ≡ 0) ⊎ (spec.removals_in (L.seen log.old).content.entries < least)))) }
     ensures many { IfOk result (λ done. IfSome done (λ p. (L.seen log.new).is_clean ≡ true
         → (least ≤ p.removals) × ((p.removals ≡ spec.removals_in (L.seen log.old).content.entries)
-        × ((p.floor ≡ (L.seen log.old).content.held) × ((L.seen log.new).content ≡ purged p.floor (L.seen log.old).content))))) }
+        × ((p.floor ≡ (L.seen log.old).content.held) × ((L.seen log.new).content ≡ content_after_purge p.floor (L.seen log.old).content))))) }
     ensures failed { IfErr result (λ fault. spec.FailsToDrop (L.seen log.old) fault (L.seen log.new)) }
 {
     if least == 0 {

@@ -6,7 +6,7 @@ use Rattle.std.proofs.lemmas.List.Elements.{filter-append}
 use Rattle.std.specs.Cmp.Lexicographic.{pointwise}
 use Rattle.sb_types.specs.declared.entry.Write.{Write}
 use Rattle.sb_types.specs.Records.{Entry, Table, Block, Holder}
-use Rattle.sb_types.specs.Runs.{Stands, above, last_version, IsRun, IsTable, IsBlock}
+use Rattle.sb_types.specs.Runs.{Stands, newer_entries, last_version, IsRun, IsTable, IsBlock}
 use Rattle.sb_types.specs.Writes.{Tells, Holds, Honest}
 use Rattle.sb_budget.specs.Offers.{Item, items_from, items_of, of_owner, entries_of, block_from, block_of, is_named, are_named_once, available}
 use Rattle.sb_types.proofs.Standing.{left, of_above}
@@ -69,25 +69,25 @@ module _ (owner : List ℕ) (t : Table) (number : ℕ) (front rest : List Item) 
   joined = sym (filter-append (λ item. pointwise nat_eq item.owner owner) front rest) ∙ offered
 
   more_held : number < t.held
-  more_held = some_offered owner t number (above number t.entries) first
+  more_held = some_offered owner t number (newer_entries number t.entries) first
       (λ e a. let o = of_above number t.entries e a in omega (arith, o.1, run_upto e i.run o.0))
       (subst (λ items. Stands items first) joined (left (of_owner owner front) (of_owner owner rest) first s))
 
-  run : IsRun number t.held (above number t.entries)
+  run : IsRun number t.held (newer_entries number t.entries)
   run = let l = more_held in run_above number (omega arith) i.run
 
-  front_order : (k : ℕ) (e : Entry) → Stands (take k (above number t.entries)) e → number < last_version number (take k (above number t.entries))
+  front_order : (k : ℕ) (e : Entry) → Stands (take k (newer_entries number t.entries)) e → number < last_version number (take k (newer_entries number t.entries))
   front_order k e a = let r = run_front k run in omega (arith, run_after e r a, run_upto e r a)
 
   pub offer_is : IsBlock (block_of owner front rest)
-  offer_is = blocks owner t number IsBlock (above number t.entries) (of_owner owner front) (of_owner owner rest) first joined s more_held
+  offer_is = blocks owner t number IsBlock (newer_entries number t.entries) (of_owner owner front) (of_owner owner rest) first joined s more_held
       (record { run = run; order = more_held })
       (λ k e a. record { run = run_front k run; order = front_order k e a })
 
   pub offer_honest : (writes : List Write) → Holds writes t → Honest writes (block_of owner front rest)
   offer_honest writes h =
-      let all : Tells writes t.floor number t.held (above number t.entries) = tells_above number (omega arith) h in
-      blocks owner t number (Honest writes) (above number t.entries) (of_owner owner front) (of_owner owner rest) first joined s more_held all (λ k e a. tells_front k run all)
+      let all : Tells writes t.floor number t.held (newer_entries number t.entries) = tells_above number (omega arith) h in
+      blocks owner t number (Honest writes) (newer_entries number t.entries) (of_owner owner front) (of_owner owner rest) first joined s more_held all (λ k e a. tells_front k run all)
 
 -- ---- what is available of each owner
 
@@ -115,10 +115,10 @@ module _ (owner : List ℕ) (t : Table) (number : ℕ) where
   items_owner (e ∷ es) item s = mapped_owner (e ∷ es) item s
 
   of_its_owner : of_owner owner (items_of owner t number) ≡ items_of owner t number
-  of_its_owner = keep_all _ (items_of owner t number) (λ x s. text_same x.owner owner (items_owner (above number t.entries) x s))
+  of_its_owner = keep_all _ (items_of owner t number) (λ x s. text_same x.owner owner (items_owner (newer_entries number t.entries) x s))
 
   of_another : (q : List ℕ) → pointwise nat_eq owner q ≡ false → of_owner q (items_of owner t number) ≡ []
-  of_another q other = keep_none _ (items_of owner t number) (λ x s. ap (λ o. pointwise nat_eq o q) (items_owner (above number t.entries) x s) ∙ other)
+  of_another q other = keep_none _ (items_of owner t number) (λ x s. ap (λ o. pointwise nat_eq o q) (items_owner (newer_entries number t.entries) x s) ∙ other)
 
 named : (ps : List (List ℕ × Holder)) (p : List ℕ × Holder) → Stands ps p → is_named p.0 ps ≡ true
 named [] p s = absurd s

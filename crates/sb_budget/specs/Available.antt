@@ -2,7 +2,7 @@
 use Rattle.std.specs.Prelude.{◌≡◌, ℕ, ◌+◌, nat_lt, if◌then◌else◌, List, [], ◌∷◌, length, count_by, All, Option, Some, None}
 use Rattle.std.specs.FinMap.{entries}
 use Rattle.sb_types.specs.Records.{Entry, Table}
-use Rattle.sb_types.specs.Runs.{above}
+use Rattle.sb_types.specs.Runs.{newer_entries}
 use Rattle.sb_holdings.specs.Held.{Held}
 use Rattle.sb_digest.specs.Digests.{Digest, covers, number_in}
 use Rattle.sb_budget.specs.declared.offered.Offered.{Offered}
@@ -46,4 +46,4 @@ ranked_these owner t number (e ∷ es) = ranked_from 0 owner t number (length (e
 
 -- what is offered of one owner's table
 abbrev pub ranked_of : List ℕ → Table → ℕ → List Offered
-ranked_of owner t number = ranked_these owner t number (above number t.entries)
+ranked_of owner t number = ranked_these owner t number (newer_entries number t.entries)

@@ -15,7 +15,7 @@ use Rattle.std.proofs.lemmas.Cmp.{nat_list_cmp_total, nat_list_eq_equiv}
 use Rattle.std.proofs.lemmas.Map.Keys.{Less-from_sorted, sorted_tail}
 use Rattle.sb_types.specs.Records.{Holder}
 use Rattle.sb_types.specs.Limits.{text_lt}
-use Rattle.sb_holdings.specs.Held.{Held, nothing, holder_of}
+use Rattle.sb_holdings.specs.Held.{Held, empty_holder, holder_of}
 use Rattle.sb_holdings.specs.Plain.{is_from}
 use Rattle.sb_digest.specs.Digests.{Pair, Digest, is_below, covers, pair_at, held_in, number_by, number_in}
 use Rattle.sb_digest.specs.Lengths.{digest_frame_length}
@@ -108,7 +108,7 @@ module _ (held : Held) (budget : ℕ) (want : Bool) (from : Option (List ℕ)) (
       ap (λ (e : Digest). pair_at owner e.pairs) longest.front ∙ cut_keeps owner ps longest.count rises parts.1 ∙ found_passed (is_from from) owner parts.0 (entries held.owners)
       ∙ ap (found_pair owner) (sym (get-entries held.owners owner))
 
-  version-found : (o : Option Holder) → version_of (found_pair owner o) ≡ (unwrap_or o nothing).shown.held
+  version-found : (o : Option Holder) → version_of (found_pair owner o) ≡ (unwrap_or o empty_holder).shown.held
   version-found None = refl
   version-found (Some h) = refl
 
@@ -116,7 +116,7 @@ module _ (held : Held) (budget : ℕ) (want : Bool) (from : Option (List ℕ)) (
   number-held = ap version_of pair-held ∙ version-found (get held.owners owner)
 
   -- of an owner that is not held the whole table is offered, as where nothing is said of it
-  by-found : (floor : ℕ) (o : Option Holder) → number_by floor (found_pair owner o) ≡ number_by floor (Some (pair_of (owner, unwrap_or o nothing)))
+  by-found : (floor : ℕ) (o : Option Holder) → number_by floor (found_pair owner o) ≡ number_by floor (Some (pair_of (owner, unwrap_or o empty_holder)))
   by-found floor None = from_nothing floor
   by-found floor (Some h) = refl
 

@@ -4,9 +4,9 @@ use Rattle.std.specs.List.{AllByRecursion}
 use Rattle.std.specs.Option.{option_map}
 use Rattle.std.specs.FinMap.{get}
 use Rattle.sb_types.specs.Records.{Entry, Table, Block, Holder}
-use Rattle.sb_types.specs.Runs.{Stands, above}
+use Rattle.sb_types.specs.Runs.{Stands, newer_entries}
 use Rattle.sb_types.proofs.Standing.{of_above}
-use Rattle.sb_holdings.specs.Held.{Held, nothing, shown_of}
+use Rattle.sb_holdings.specs.Held.{Held, empty_holder, shown_of}
 use Rattle.sb_holdings.specs.Plain.{IsHoldings, table_of}
 use Rattle.sb_holdings.proofs.Changed.{IsHolder-held}
 use Rattle.sb_table.proofs.Order.{run_upto}
@@ -44,11 +44,11 @@ pub record IsTellingAll (held : Held) (from : Hub) (all : List (List ℕ × ℕ)
 pub telling_all-begins : (held : Held) (from : Hub) (all rest : List (List ℕ × ℕ)) → rest ≡ all → IsTellingAll held from all from rest
 telling_all-begins held from all rest is = record { left = ap (λ (vs : List (List ℕ × ℕ)). with_notes from (entries_since vs held)) is }
 
-pub held-table : (o : Option Holder) (t : Table) → Some t ≡ option_map (λ (h : Holder). h.shown) o → t ≡ (unwrap_or o nothing).shown
+pub held-table : (o : Option Holder) (t : Table) → Some t ≡ option_map (λ (h : Holder). h.shown) o → t ≡ (unwrap_or o empty_holder).shown
 held-table None t is = absurd (cc)
 held-table (Some h) t is = cc
 
-pub no-table : (o : Option Holder) → None ≡ option_map (λ (h : Holder). h.shown) o → (unwrap_or o nothing).shown ≡ nothing.shown
+pub no-table : (o : Option Holder) → None ≡ option_map (λ (h : Holder). h.shown) o → (unwrap_or o empty_holder).shown ≡ empty_holder.shown
 no-table None is = refl
 no-table (Some h) is = absurd (cc)
 
@@ -118,6 +118,6 @@ pub since-held : (held : Held) (versions : List (List ℕ × ℕ)) → IsHolding
 since-held held [] is = tt
 since-held held (p ∷ ps) is =
     both-held held (owned_above p.1 p.0 (shown_of held p.0)) (entries_since ps held)
-    (owned-held held p.0 (above p.1 (shown_of held p.0).entries)
+    (owned-held held p.0 (newer_entries p.1 (shown_of held p.0).entries)
     (λ e s. run_upto e (IsHolder-held held is p.0).shown.run (of_above p.1 (shown_of held p.0).entries e s).0))
     (since-held held ps is)

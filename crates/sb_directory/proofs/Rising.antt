@@ -7,7 +7,7 @@ use Rattle.std.specs.Cmp.Lexicographic.{pointwise, slice_cmp}
 use Rattle.std.specs.FinMap.{FinMap, get, insert, get-insert}
 use mathlib.Core.List.{IsPrefix}
 use Rattle.sb_types.specs.Records.{Entry, Stage, Block, Holder}
-use Rattle.sb_types.specs.Runs.{Stands, above, last_version}
+use Rattle.sb_types.specs.Runs.{Stands, newer_entries, last_version}
 use Rattle.sb_types.proofs.Standing.{of_above}
 use Rattle.sb_types.proofs.Texts.{same_text}
 use Rattle.sb_table.specs.Plain.{with_entry}
@@ -15,10 +15,10 @@ use Rattle.sb_holdings.specs.declared.ends.BlockEnd.{BlockEnd}
 use Rattle.sb_holdings.specs.declared.ends.BlockEnd.TheVariants.{Own, OwnAhead, Gap, Stale, OwnersFull, Taken, TooManyKeys, NoMemory}
 use Rattle.sb_holdings.specs.Blocks.{part_above, front}
 use Rattle.sb_holdings.specs.Shown.{joins_shown, shown_with, stage_beyond, own}
-use Rattle.sb_table.specs.Floors.{swapped}
+use Rattle.sb_table.specs.Floors.{table_after_swap}
 use Rattle.sb_holdings.specs.Stages.{new_stage, goes_on, begins, stage_for, stage_with, staged_all, staged_front, staged_refused}
 use Rattle.sb_holdings.specs.Taken.{routed, holder_after_block}
-use Rattle.sb_holdings.specs.Held.{Held, nothing, holder_of, shown_of, with_owner, held_after_taking}
+use Rattle.sb_holdings.specs.Held.{Held, empty_holder, holder_of, shown_of, with_owner, held_after_taking}
 use Rattle.sb_holdings.specs.Nodes.{Node, NodeEvent, Wrote, Took, held_by, node_after_event, replay_node}
 use Rattle.sb_holdings.proofs.Nodes.{Put, put_with, same_test, replay_node-append}
 use Rattle.sb_views.specs.declared.event.Event.{Event}
@@ -69,7 +69,7 @@ module _ (h : Holder) (b : Block) where
   all-rises less None at = omega arith
   all-rises less (Some s) at =
       let t = stage_with s (part_above s.progress b) in
-      cond_both (nat_le t.floor t.progress) (record { shown = swapped h.shown t; stage = None }) (record { shown = h.shown; stage = Some t }) Rises
+      cond_both (nat_le t.floor t.progress) (record { shown = table_after_swap h.shown t; stage = None }) (record { shown = h.shown; stage = Some t }) Rises
       (λ le. omega (arith, less, at, leb-true t.floor t.progress le)) (λ _. omega arith)
 
   front-rises : (n : ℕ) (o : Option Stage) → Rises (staged_front n h b o)
@@ -80,13 +80,13 @@ module _ (h : Holder) (b : Block) where
   refused-rises : (n : ℕ) (o : Option Stage) → Rises (staged_refused n h b o)
   refused-rises n None = omega arith
   refused-rises n (Some s) =
-      cond_both (nat_lt n (length (above s.progress b.entries))) (staged_front n h b (Some s)) (record { shown = h.shown; stage = None }) Rises
+      cond_both (nat_lt n (length (newer_entries s.progress b.entries))) (staged_front n h b (Some s)) (record { shown = h.shown; stage = None }) Rises
       (λ _. front-rises n (Some s)) (λ _. omega arith)
 
   part-rises : (n : ℕ) → Rises (shown_with h (front n (part_above h.shown.held b)))
   part-rises n =
-      last-rises h.shown.held h.shown.held (take n (above h.shown.held b.entries)) (omega arith)
-      (λ e s. (of_above h.shown.held b.entries e (of-take n (above h.shown.held b.entries) e s)).1)
+      last-rises h.shown.held h.shown.held (take n (newer_entries h.shown.held b.entries)) (omega arith)
+      (λ e s. (of_above h.shown.held b.entries e (of-take n (newer_entries h.shown.held b.entries) e s)).1)
 
   treat-rises : (end : BlockEnd) → Rises (holder_after_block h b end)
   treat-rises Own = omega arith
@@ -109,7 +109,7 @@ own-rises h e =
 -- ---- all owners
 
 module _ (owners : FinMap (slice_cmp nat_cmp) Holder) (owner : List ℕ) (h : Holder) where
-  put : (b : Bool) (o : Option Holder) → unwrap_or (cond b (Some h) o) nothing ≡ cond b h (unwrap_or o nothing)
+  put : (b : Bool) (o : Option Holder) → unwrap_or (cond b (Some h) o) empty_holder ≡ cond b h (unwrap_or o empty_holder)
   put true o = refl
   put false o = refl
 

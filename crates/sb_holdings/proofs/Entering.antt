@@ -4,7 +4,7 @@ use Rattle.std.proofs.lemmas.Bool.{and_parts, not-true}
 use Rattle.std.proofs.lemmas.List.Elements.{filter-append, filter_agree}
 use Rattle.std.specs.Cmp.Lexicographic.{pointwise}
 use Rattle.sb_types.specs.Records.{Entry}
-use Rattle.sb_types.specs.Runs.{has_key, are_distinct, without, entered}
+use Rattle.sb_types.specs.Runs.{has_key, are_distinct, without, entries_after}
 use Rattle.sb_holdings.specs.Entering.{entered_each}
 
 module _ {X : Type 0} (p q : X → Bool) where
@@ -29,11 +29,11 @@ pub without_none : (entries : List Entry) → without [] entries ≡ entries
 without_none [] = refl
 without_none (x ∷ xs) = ap (λ r. x ∷ r) (without_none xs)
 
-pub one_by_one : (entries others : List Entry) → are_distinct others ≡ true → entered_each entries others ≡ entered entries others
+pub one_by_one : (entries others : List Entry) → are_distinct others ≡ true → entered_each entries others ≡ entries_after entries others
 one_by_one entries [] d = sym (append-nil _ ∙ without_none entries)
 one_by_one entries (e ∷ es) d =
     let apart : has_key e.key es ≡ false = not-true _ (and_parts _ _ d).0 in
     let alone : without es (e ∷ []) ≡ e ∷ [] = ap (λ b. cond (not b) (e ∷ []) []) apart in
-    one_by_one (entered entries (e ∷ [])) es (and_parts _ _ d).1
+    one_by_one (entries_after entries (e ∷ [])) es (and_parts _ _ d).1
     ∙ ap (λ r. r ++ es) (filter-append (λ x. not (has_key x.key es)) (without (e ∷ []) entries) (e ∷ []) ∙ ap₂ (λ a b. a ++ b) (without_more e es entries) alone)
     ∙ append_assoc (without (e ∷ es) entries) (e ∷ []) es

@@ -6,7 +6,7 @@ use Rattle.std.specs.Cmp.Lexicographic.{pointwise}
 use Rattle.sb_types.specs.declared.entry.Slot.TheVariants.{Removed}
 use Rattle.sb_types.specs.declared.entry.Write.{Write}
 use Rattle.sb_types.specs.Records.{Entry, Table}
-use Rattle.sb_types.specs.Runs.{Stands, are_ascending, are_distinct, has_key, is_set, last_version, live}
+use Rattle.sb_types.specs.Runs.{Stands, are_ascending, are_distinct, has_key, is_set, last_version, live_entries}
 use Rattle.sb_table.specs.Plain.{IsPlainTable}
 use Rattle.sb_table.specs.Contents.{IsContent}
 use Rattle.sb_holdings.specs.Contents.{entry_of_write, numbered, last_each, content_table}
@@ -104,7 +104,7 @@ some_writes t plain =
     let up = plain.run.ascending in
     let held : length (filled [] 0 t.entries) ≡ t.held = omega (arith, length-filled [] 0 t.entries up, plain.last) in
     let last = last-filled [] 0 t.entries up plain.run.distinct (λ e stands. refl) ∙ append-nil t.entries in
-    let entries : live 0 (last_each (numbered 0 (filled [] 0 t.entries))) ≡ t.entries = ap (live 0) last ∙ live-above 0 0 t.entries (omega arith) up in
+    let entries : live_entries 0 (last_each (numbered 0 (filled [] 0 t.entries))) ≡ t.entries = ap (live_entries 0) last ∙ live-above 0 0 t.entries (omega arith) up in
     (filled [] 0 t.entries, λ i. record { held = held i; floor = sym plain.floor i; entries = entries i })
 
 -- ---- a table with a floor: behind its last entry a key that stands nowhere is removed
@@ -142,12 +142,12 @@ module _ (t : Table) (is : IsContent t) where
       (λ none. false≢true none)
       (keys-copies e.key (t.held - last) last t.held (removal t.entries) [] (omega (arith, is.table.is.run.most)) has))
 
-  gone-each : (n : ℕ) → t.held ≡ last + n → live t.floor (last_each (numbered last (copies n (removal t.entries) []))) ≡ []
+  gone-each : (n : ℕ) → t.held ≡ last + n → live_entries t.floor (last_each (numbered last (copies n (removal t.entries) []))) ≡ []
   unfolding copies removal
   gone-each zero reach = refl
   gone-each (suc n) reach =
       let under : t.held ≤ t.floor = omega (arith, is.held, reach) in
-      ap (live t.floor) (last-copies n last t.held (removal t.entries) [] (omega (arith, reach)) refl)
+      ap (live_entries t.floor) (last-copies n last t.held (removal t.entries) [] (omega (arith, reach)) refl)
       ∙ cond-false (nat_lt t.floor t.held) (entry_of_write t.held (removal t.entries) ∷ []) [] (le-ltb t.floor t.held under)
 
   pub table_writes : (writes : List Write) × (content_table t.floor writes ≡ t)
@@ -155,8 +155,8 @@ module _ (t : Table) (is : IsContent t) where
       let up = is.table.is.run.ascending in
       let reach : t.held ≡ last + (t.held - last) = omega (arith, is.table.is.run.most) in
       let held : length (filled more 0 t.entries) ≡ t.held = omega (arith, length-filled more 0 t.entries up, length-copies (t.held - last) (removal t.entries) [], reach) in
-      let entries : live t.floor (last_each (numbered 0 (filled more 0 t.entries))) ≡ t.entries =
-      ap (live t.floor) (last-filled more 0 t.entries up is.table.is.run.distinct fresh)
+      let entries : live_entries t.floor (last_each (numbered 0 (filled more 0 t.entries))) ≡ t.entries =
+      ap (live_entries t.floor) (last-filled more 0 t.entries up is.table.is.run.distinct fresh)
       ∙ filter-append (λ x. is_set x.slot || nat_lt t.floor x.version) t.entries (last_each (numbered last more))
       ∙ ap₂ (λ (xs ys : List Entry). xs ++ ys) is.table.is.live (gone-each (t.held - last) reach) ∙ append-nil t.entries in
       (filled more 0 t.entries, λ i. record { held = held i; floor = t.floor; entries = entries i })

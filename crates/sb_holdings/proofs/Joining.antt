@@ -4,7 +4,7 @@ use Rattle.std.proofs.lemmas.Bool.{and_from, cond_both}
 use Rattle.sb_types.proofs.Live.{live-above, live-entered, live-live}
 use Rattle.sb_types.specs.declared.entry.Write.{Write}
 use Rattle.sb_types.specs.Records.{Entry, Stage, Block, Holder}
-use Rattle.sb_types.specs.Runs.{live, entered, IsRun}
+use Rattle.sb_types.specs.Runs.{live_entries, entries_after, IsRun}
 use Rattle.sb_types.specs.Writes.{Written, Tells, HoldsStage, Honest, IsHolder}
 use Rattle.sb_table.specs.Plain.{with_entry}
 use Rattle.sb_holdings.specs.Shown.{stage_beyond, shown_with, own}
@@ -23,7 +23,7 @@ beyond_holds : (writes : List Write) (held : ℕ) (o : Option Stage) → IfSome 
 beyond_holds writes held None p = tt
 beyond_holds writes held (Some s) p = cond_both (nat_lt held s.floor) (Some s) None (λ o. IfSome o (HoldsStage writes)) (λ _. p) (λ _. tt)
 
-joined_tells : {writes : List Write} {before floor held upto : ℕ} {entries others : List Entry} → IsRun 0 held entries → IsRun held upto others → before ≤ held → floor ≤ held → Tells writes before 0 held entries → Tells writes floor held upto others → Tells writes (max before floor) 0 upto (entered (live (max before floor) entries) others)
+joined_tells : {writes : List Write} {before floor held upto : ℕ} {entries others : List Entry} → IsRun 0 held entries → IsRun held upto others → before ≤ held → floor ≤ held → Tells writes before 0 held entries → Tells writes floor held upto others → Tells writes (max before floor) 0 upto (entries_after (live_entries (max before floor) entries) others)
 joined_tells {before = before} {floor = floor} r q l m t n =
     tells_entered (run_kept _ r) q
     (tells_live (tells_raised (max before floor) (omega arith) (omega arith) r t))
@@ -35,9 +35,9 @@ shown_step writes h b p i part l = record {
     shown = record {
       run = run_entered (run_kept _ i.shown.run) part.run;
       floor = omega (arith, i.shown.floor, part.floor, run_order part.run);
-      live =
+      live_entries =
           let floor = max h.shown.floor p.floor in
-          live-entered floor (live floor h.shown.entries) p.entries (live-live floor h.shown.entries)
+          live-entered floor (live_entries floor h.shown.entries) p.entries (live-live floor h.shown.entries)
           (live-above floor h.shown.held p.entries (omega (arith, i.shown.floor, part.floor)) part.run.ascending);
     };
     stage = beyond_is h.shown.held p.upto h.stage i.stage;
@@ -76,7 +76,7 @@ own_step writes h e i = cond_both (nat_eq e.version (h.shown.held + 1)) _ h (Ste
             shown = record {
               run = run_entered i.shown.run one;
               floor = omega (arith, i.shown.floor);
-              live = live-entered h.shown.floor h.shown.entries (e ∷ []) i.shown.live (live-above h.shown.floor h.shown.held (e ∷ []) i.shown.floor one.ascending);
+              live_entries = live-entered h.shown.floor h.shown.entries (e ∷ []) i.shown.live (live-above h.shown.floor h.shown.held (e ∷ []) i.shown.floor one.ascending);
             };
             stage = beyond_is h.shown.held e.version h.stage i.stage;
           };

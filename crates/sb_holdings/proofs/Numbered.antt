@@ -3,7 +3,7 @@ use Rattle.std.proofs.Common.{◌≡◌, ℕ, zero, suc, ◌+◌, ◌-◌, true,
 use Rattle.std.proofs.lemmas.Bool.{cases_Bool, and_from, false≢true}
 use Rattle.sb_types.specs.declared.entry.Write.{Write}
 use Rattle.sb_types.specs.Records.{Entry}
-use Rattle.sb_types.specs.Runs.{Stands, are_ascending, has_key, above}
+use Rattle.sb_types.specs.Runs.{Stands, are_ascending, has_key, newer_entries}
 use Rattle.sb_types.specs.Writes.{Written, Superseded}
 use Rattle.sb_holdings.specs.Contents.{numbered}
 use Rattle.sb_holdings.proofs.Telling.{same_parts}
@@ -51,4 +51,4 @@ superseded_or_last writes e =
     (cases_Bool (has_key e.key later))
   where
     later : List Entry
-    later = above e.version (numbered 0 writes)
+    later = newer_entries e.version (numbered 0 writes)

@@ -3,7 +3,7 @@ use Rattle.std.proofs.Common.{ℕ, zero, suc, ◌≤◌, List, length, refl, Opt
 use Rattle.std.proofs.lemmas.Bool.{and_parts, cond_both}
 use Rattle.sb_types.specs.declared.entry.Write.{Write}
 use Rattle.sb_types.specs.Records.{Stage, Block, Holder}
-use Rattle.sb_types.specs.Runs.{above, IsBlock}
+use Rattle.sb_types.specs.Runs.{newer_entries, IsBlock}
 use Rattle.sb_types.specs.Writes.{Honest, IsHolder}
 use Rattle.sb_holdings.specs.declared.ends.BlockEnd.{BlockEnd}
 use Rattle.sb_holdings.specs.declared.ends.BlockEnd.TheVariants.{Own, OwnAhead, Gap, Stale, OwnersFull, Taken, TooManyKeys, NoMemory}
@@ -31,7 +31,7 @@ module _ (writes : List Write) (h : Holder) (b : Block) (i : IsHolder h) (is : I
   staged_refused_step : (n : ℕ) (o : Option Stage) → IfSome o (Joins h b) → Step writes (Honest writes b) h (staged_refused n h b o)
   staged_refused_step n None j = unchanged i
   staged_refused_step n (Some s) j =
-      cond_both (nat_lt n (length (above s.progress b.entries))) _ _ (Step writes (Honest writes b) h) (λ _. staged_front_step n (Some s) j) (λ _. dropped h i)
+      cond_both (nat_lt n (length (newer_entries s.progress b.entries))) _ _ (Step writes (Honest writes b) h) (λ _. staged_front_step n (Some s) j) (λ _. dropped h i)
 
   routed_step : (p : Block) (staged : Option Stage → Holder) →
       (b.after ≤ h.shown.held → h.shown.held ≤ b.upto → IsPart b h.shown.held p) →

@@ -2,7 +2,7 @@
 use Rattle.std.specs.Prelude.{ℕ, ◌+◌, if◌then◌else◌, List, [], ◌∷◌, length}
 use Rattle.sb_types.specs.declared.entry.Write.{Write}
 use Rattle.sb_types.specs.Records.{Entry, Table}
-use Rattle.sb_types.specs.Runs.{has_key, live}
+use Rattle.sb_types.specs.Runs.{has_key, live_entries}
 
 -- the write as the entry of this version
 abbrev pub entry_of_write : ℕ → Write → Entry
@@ -20,4 +20,4 @@ last_each (e ∷ es) = if has_key e.key es then last_each es else e ∷ last_eac
 
 -- the content of a log of these writes that is purged up to the floor
 abbrev pub content_table : ℕ → List Write → Table
-content_table floor writes = record { held = length writes; floor = floor; entries = live floor (last_each (numbered 0 writes)) }
+content_table floor writes = record { held = length writes; floor = floor; entries = live_entries floor (last_each (numbered 0 writes)) }

@@ -1,7 +1,7 @@
 -- How a block joins the shown table of its owner.
 use Rattle.std.specs.Prelude.{ℕ, ◌+◌, max, Bool, ◌&&◌, nat_lt, nat_le, nat_eq, if◌then◌else◌, Option, Some, None}
 use Rattle.sb_types.specs.Records.{Entry, Table, Stage, Block, Holder}
-use Rattle.sb_types.specs.Runs.{entered, live}
+use Rattle.sb_types.specs.Runs.{entries_after, live_entries}
 use Rattle.sb_table.specs.Plain.{with_entry}
 
 -- the block's floor and its beginning are at or below the held version, and the block reaches above it
@@ -11,7 +11,7 @@ joins_shown t b = nat_le b.floor t.held && (nat_le b.after t.held && nat_lt t.he
 -- the floor rises to the block's, the tombstones (markers of removed keys) up to it go, and the block's entries are
 -- entered
 abbrev pub joined : Table → Block → Table
-joined t b = record { held = b.upto; floor = max t.floor b.floor; entries = entered (live (max t.floor b.floor) t.entries) b.entries }
+joined t b = record { held = b.upto; floor = max t.floor b.floor; entries = entries_after (live_entries (max t.floor b.floor) t.entries) b.entries }
 
 -- a stage is dropped once the shown table has reached its floor
 abbrev pub stage_beyond : ℕ → Option Stage → Option Stage

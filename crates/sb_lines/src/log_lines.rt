@@ -2,7 +2,7 @@
 ghost use Rattle.std.specs.Prelude.{◌≡◌, ◌++◌, true, OnOk, IfOk, IfErr};
 ghost use Rattle.std.specs.Io.KnownBytes.{Appends};
 ghost use Rattle.sb_frames.specs.Sending.{OnlyWhereFailed};
-ghost use Rattle.sb_lines.specs.Printed.{slot_text, entry_line, printed, PrintsLog};
+ghost use Rattle.sb_lines.specs.Printed.{slot_text, entry_line, log_text, PrintsLog};
 
 use sb_frames::{LastWrite, write_counted};
 use sb_log::WriteLog;
@@ -40,7 +40,7 @@ fn add_entry(out: &mut Vec<u8>, owner: &Name, entry: &Entry) -> Result<(), Fault
 
 /// The lines of a table.
 fn lines_of(alloc: Global, owner: &Name, table: &Table) -> Result<Vec<u8>, Fault>
-    ensures lines { IfOk result (λ lines. lines.items ≡ printed owner.now table.now) }
+    ensures lines { IfOk result (λ lines. lines.items ≡ log_text owner.now table.now) }
     ensures fault { IfErr result (λ fault. fault ≡ Fault.NoMemory) }
 {
     let mut out = Vec::new(alloc);

@@ -5,7 +5,7 @@ use Rattle.std.proofs.lemmas.Cmp.{nat_list_eq_equiv}
 use Rattle.std.specs.Cmp.Lexicographic.{pointwise}
 use Rattle.std.specs.Option.{option_map}
 use Rattle.sb_types.specs.Records.{Entry, Table}
-use Rattle.sb_types.specs.Runs.{Stands, above, are_ascending, live}
+use Rattle.sb_types.specs.Runs.{Stands, newer_entries, are_ascending, live_entries}
 use Rattle.sb_types.proofs.Standing.{has, in_above, of_above, of_kept}
 use Rattle.sb_table.specs.Plain.{IsPlainTable, plain_table}
 use Rattle.sb_table.specs.Maps.{version_at}
@@ -27,7 +27,7 @@ one_version a (e ∷ es) x y up (inr s) (inr t) k = one_version e.version es x y
 
 -- what lives is as at the beginning, and what is dead lies behind
 pub record IsDropping (floor from : ℕ) (old now : Table) : Type 0 where
-  pub live : live floor now.entries ≡ live floor old.entries
+  pub live_entries : live_entries floor now.entries ≡ live_entries floor old.entries
   pub plain : now ≡ plain_table now.entries
   pub table : IsPlainTable now
   pub before : (e : Entry) → Stands now.entries e → e.version ≤ from → is_dead floor e ≡ false
@@ -37,9 +37,9 @@ plain-outside key t is =
     let others = λ (entry : Entry). not (pointwise nat_eq entry.key key) in
     plain-run (run_kept others is.run) (omega (arith, is.limit, length-filter_le others t.entries))
 
-module _ {floor from : ℕ} {old now : Table} (d : IsDropping floor from old now) (e : Entry) (first : find (λ x. is_dead floor x) (above from now.entries) ≡ Some e) where
+module _ {floor from : ℕ} {old now : Table} (d : IsDropping floor from old now) (e : Entry) (first : find (λ x. is_dead floor x) (newer_entries from now.entries) ≡ Some e) where
   stands : Stands now.entries e × (from < e.version)
-  stands = of_above from now.entries e (found-stands (λ x. is_dead floor x) (above from now.entries) e first)
+  stands = of_above from now.entries e (found-stands (λ x. is_dead floor x) (newer_entries from now.entries) e first)
 
   pub version-first : version_at e.key now.entries ≡ Some e.version
   version-first = ap (option_map (λ x. x.version)) (entry_at-stands now.entries e d.table.run.distinct stands.0)
@@ -48,11 +48,11 @@ module _ {floor from : ℕ} {old now : Table} (d : IsDropping floor from old now
   length-first = length-outside e.key now.entries (has e.key now.entries e stands.0 refl)
 
   dead : is_dead floor e ≡ true
-  dead = found-passes (λ x. is_dead floor x) (above from now.entries) e first
+  dead = found-passes (λ x. is_dead floor x) (newer_entries from now.entries) e first
 
   earlier : (x : Entry) → Stands now.entries x → x.version < e.version → is_dead floor x ≡ false
   earlier x s l = ⊎_elim
-      (λ later. before-found (λ y. is_dead floor y) 0 (above from now.entries) e x (ascending_kept (λ y. nat_lt from y.version) 0 now.entries d.table.run.ascending)
+      (λ later. before-found (λ y. is_dead floor y) 0 (newer_entries from now.entries) e x (ascending_kept (λ y. nat_lt from y.version) 0 now.entries d.table.run.ascending)
       first (in_above from now.entries x s later) l)
       (λ before. d.before x s before)
       (cases_lt from x.version)
@@ -72,7 +72,7 @@ module _ {floor from : ℕ} {old now : Table} (d : IsDropping floor from old now
 
   pub dropping-goes_on : IsDropping floor e.version old (plain_table (outside e.key now.entries))
   dropping-goes_on = record {
-    live = live-outside floor now.entries e d.table.run.distinct stands.0 dead ∙ d.live;
+    live_entries = live-outside floor now.entries e d.table.run.distinct stands.0 dead ∙ d.live;
     plain = refl;
     table = plain-outside e.key now d.table;
     before = behind;
@@ -89,22 +89,22 @@ marker_in o = option_map (λ (e : Entry). (e.key, e.version)) o
 -- the key and the version of the first marker that is dead
 pub record Marker (floor from : ℕ) (es : List Entry) (key : List ℕ) (version : ℕ) : Type 0 where
   pub entry : Entry
-  pub first : find (λ x. is_dead floor x) (above from es) ≡ Some entry
+  pub first : find (λ x. is_dead floor x) (newer_entries from es) ≡ Some entry
   pub key_is : entry.key ≡ key
   pub version_is : entry.version ≡ version
 
 pub marker : (floor from : ℕ) (es : List Entry) (key : List ℕ) (version : ℕ)
-    → Some (key, version) ≡ marker_in (find (λ x. is_dead floor x) (above from es)) → Marker floor from es key version
-marker floor from es key version is = of (find (λ x. is_dead floor x) (above from es)) refl is
+    → Some (key, version) ≡ marker_in (find (λ x. is_dead floor x) (newer_entries from es)) → Marker floor from es key version
+marker floor from es key version is = of (find (λ x. is_dead floor x) (newer_entries from es)) refl is
   where
-    of : (o : Option Entry) → find (λ x. is_dead floor x) (above from es) ≡ o → Some (key, version) ≡ marker_in o → Marker floor from es key version
+    of : (o : Option Entry) → find (λ x. is_dead floor x) (newer_entries from es) ≡ o → Some (key, version) ≡ marker_in o → Marker floor from es key version
     of None at is = absurd (cc)
     of (Some e) at is =
         let same : (e.key ≡ key) × (e.version ≡ version) = pair_same is in
         record { entry = e; first = at; key_is = same.0; version_is = same.1 }
 
-pub no_marker : (floor from : ℕ) (es : List Entry) → None ≡ marker_in (find (λ x. is_dead floor x) (above from es)) → find (λ x. is_dead floor x) (above from es) ≡ None
-no_marker floor from es is = of (find (λ x. is_dead floor x) (above from es)) is
+pub no_marker : (floor from : ℕ) (es : List Entry) → None ≡ marker_in (find (λ x. is_dead floor x) (newer_entries from es)) → find (λ x. is_dead floor x) (newer_entries from es) ≡ None
+no_marker floor from es is = of (find (λ x. is_dead floor x) (newer_entries from es)) is
   where
     of : (o : Option Entry) → None ≡ marker_in o → o ≡ None
     of None is = refl
@@ -122,23 +122,23 @@ module _ {floor from : ℕ} {old now : Table} (d : IsDropping floor from old now
 
 pub dropping-begins : (floor : ℕ) (t : Table) → IsPlainTable t → IsDropping floor 0 t t
 dropping-begins floor t is = record {
-  live = refl;
+  live_entries = refl;
   plain = plain-entries t is;
   table = is;
   before = λ e s l. absurd (omega (arith, l, behind_all 0 t.entries e is.run.ascending s));
 }
 
-all_live : (floor : ℕ) (es : List Entry) → ((e : Entry) → Stands es e → is_dead floor e ≡ false) → live floor es ≡ es
+all_live : (floor : ℕ) (es : List Entry) → ((e : Entry) → Stands es e → is_dead floor e ≡ false) → live_entries floor es ≡ es
 all_live floor [] each = refl
 all_live floor (x ∷ xs) each =
     let here = each x (inl refl) in
     let rest = all_live floor xs (λ e s. each e (inr s)) in
     grind arith
 
-pub dropping-ends : {floor from : ℕ} {old now : Table} → IsDropping floor from old now → find (λ x. is_dead floor x) (above from now.entries) ≡ None → now ≡ plain_table (live floor old.entries)
+pub dropping-ends : {floor from : ℕ} {old now : Table} → IsDropping floor from old now → find (λ x. is_dead floor x) (newer_entries from now.entries) ≡ None → now ≡ plain_table (live_entries floor old.entries)
 dropping-ends {floor} {from} {old} {now} d none =
     let each = λ (e : Entry) (s : Stands now.entries e). ⊎_elim
-    (λ later. none-fails (λ x. is_dead floor x) (above from now.entries) e none (in_above from now.entries e s later))
+    (λ later. none-fails (λ x. is_dead floor x) (newer_entries from now.entries) e none (in_above from now.entries e s later))
     (λ earlier. d.before e s earlier)
     (cases_lt from e.version) in
     d.plain ∙ ap plain_table (sym (all_live floor now.entries each) ∙ d.live)

@@ -7,7 +7,7 @@ use Rattle.std.specs.Option.{option_map}
 use Rattle.sb_types.specs.declared.entry.Slot.{Slot}
 use Rattle.std.specs.Cmp.Lexicographic.{pointwise, bytes_decides}
 use Rattle.sb_types.specs.Records.{Entry}
-use Rattle.sb_types.specs.Runs.{Stands, up_to, are_ascending, are_distinct, entry_at, has_key, live}
+use Rattle.sb_types.specs.Runs.{Stands, up_to, are_ascending, are_distinct, entry_at, has_key, live_entries}
 use Rattle.sb_types.proofs.Standing.{not_there}
 use Rattle.sb_table.specs.Plain.{version_and_slot}
 use Rattle.sb_table.specs.Floors.{is_dead, outside}
@@ -51,7 +51,7 @@ length-outside key [] some = absurd (cc)
 length-outside key (x ∷ xs) some = grind (arith, length-outside_le key xs, length-outside key xs)
 
 -- a marker that is dead may go
-pub live-outside : (floor : ℕ) (es : List Entry) (e : Entry) → are_distinct es ≡ true → Stands es e → is_dead floor e ≡ true → live floor (outside e.key es) ≡ live floor es
+pub live-outside : (floor : ℕ) (es : List Entry) (e : Entry) → are_distinct es ≡ true → Stands es e → is_dead floor e ≡ true → live_entries floor (outside e.key es) ≡ live_entries floor es
 live-outside floor [] e apart stands dead = absurd stands
 live-outside floor (x ∷ xs) e apart (inl same) dead =
     let none = not-true (has_key x.key xs) (and_parts (not (has_key x.key xs)) (are_distinct xs) apart).0 in

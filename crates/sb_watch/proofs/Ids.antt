@@ -8,7 +8,7 @@ use Rattle.sb_types.specs.declared.fault.Fault.TheVariants.{NoWatch}
 use Rattle.sb_watch.specs.declared.limits.TheConstants.{WATCHES_MOST}
 use Rattle.sb_watch.specs.declared.note.Note.{Note}
 use Rattle.sb_watch.specs.Records.{Watch, Hub}
-use Rattle.sb_watch.specs.Watches.{matches, with_note, told, answer_of, answered}
+use Rattle.sb_watch.specs.Watches.{matches, with_note, watch_after_note, answer_of, answered}
 use Rattle.sb_watch.specs.Hubs.{is_id, id_of, are_ids, IsHub, with_push, with_answer, answer_if_found, answer_at, without_watch}
 use Rattle.sb_watch.proofs.Places.{change, none_placed, none_found, none_changed, none_dropped, found_at, any_at}
 
@@ -121,7 +121,7 @@ cond_id true v w same = same
 cond_id false v w same = refl
 
 pub hub_pushed : (hub : Hub) (note : Note) → IsHub hub → IsHub (with_push hub note)
-hub_pushed hub note is = hub_mapped (told note) hub (λ w. cond_id (matches w.filter note) (with_note w note) w refl) is
+hub_pushed hub note is = hub_mapped (watch_after_note note) hub (λ w. cond_id (matches w.filter note) (with_note w note) w refl) is
 
 pub hub_answered : (hub : Hub) (id : ℕ) → IsHub hub → IsHub (with_answer hub id)
 hub_answered hub id is = hub_mapped (change (is_id id) answered) hub (λ w. cond_id (is_id id w) (answered w) w refl) is

@@ -6,7 +6,7 @@ use Rattle.sb_watch.specs.declared.note.Filter.{Filter}
 use Rattle.sb_watch.specs.declared.note.Note.{Note}
 use Rattle.sb_watch.specs.declared.note.Polled.TheVariants as answers
 use Rattle.sb_watch.specs.Records.{Watch, Hub}
-use Rattle.sb_watch.specs.Watches.{matches, new_watch, with_note, told, oldest, answered}
+use Rattle.sb_watch.specs.Watches.{matches, new_watch, with_note, watch_after_note, oldest, answered}
 use Rattle.sb_watch.specs.Hubs.{is_id, watch_at, answer_if_found, answer_at, with_watch, with_push, with_answer, without_watch}
 
 module _ {X : Type 0} (P : X → Type 0) where
@@ -48,7 +48,7 @@ abbrev pub AllAre : (Note → Type 0) → Hub → Type 0
 AllAre P hub = AllByRecursion (λ (w : Watch). AllByRecursion P w.notes) hub.watches
 
 module _ (P : Note → Type 0) where
-  told_keeps : (note : Note) (w : Watch) → P note → AllByRecursion P w.notes → AllByRecursion P (told note w).notes
+  told_keeps : (note : Note) (w : Watch) → P note → AllByRecursion P w.notes → AllByRecursion P (watch_after_note note w).notes
   told_keeps note w one all = go (matches w.filter note)
     where
       go : (b : Bool) → AllByRecursion P (cond b (with_note w note) w).notes
@@ -63,7 +63,7 @@ module _ (P : Note → Type 0) where
       go false = all
 
   pub pushed_keeps : (hub : Hub) (note : Note) → AllAre P hub → P note → AllAre P (with_push hub note)
-  pushed_keeps hub note all one = all_mapped (λ (w : Watch). AllByRecursion P w.notes) (told note) (λ w. told_keeps note w one) hub.watches all
+  pushed_keeps hub note all one = all_mapped (λ (w : Watch). AllByRecursion P w.notes) (watch_after_note note) (λ w. told_keeps note w one) hub.watches all
 
   pub taken_keeps : (hub : Hub) (id : ℕ) → AllAre P hub → AllAre P (with_answer hub id)
   taken_keeps hub id all = all_mapped (λ (w : Watch). AllByRecursion P w.notes) (λ (w : Watch). cond (is_id id w) (answered w) w) (λ w. go w (is_id id w)) hub.watches all

@@ -33,8 +33,8 @@ with_note w note =
     record { id = w.id; filter = w.filter; capacity = w.capacity; notes = notes; lost = lost_with_one_more w }
 
 -- the watch after it received a note
-abbrev pub told : Note → Watch → Watch
-told note w = if matches w.filter note then with_note w note else w
+abbrev pub watch_after_note : Note → Watch → Watch
+watch_after_note note w = if matches w.filter note then with_note w note else w
 
 abbrev pub oldest : List Note → Polled
 oldest [] = answers.Empty

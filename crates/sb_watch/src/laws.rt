@@ -7,7 +7,7 @@ ghost use Rattle.sb_watch.specs.declared.note.Filter.{Filter};
 ghost use Rattle.sb_watch.specs.declared.note.Note.{Note};
 ghost use Rattle.sb_watch.specs.declared.note.Polled.TheVariants as answers;
 ghost use Rattle.sb_watch.specs.Records.{Hub};
-ghost use Rattle.sb_watch.specs.Watches.{new_watch, told, answered};
+ghost use Rattle.sb_watch.specs.Watches.{new_watch, watch_after_note, answered};
 ghost use Rattle.sb_watch.specs.Hubs.{AllNotes, IsHub, new_hub, has_watch, next_id, watch_at, answer_at};
 ghost use Rattle.sb_watch.specs.Hubs.{with_watch, with_push, with_answer, without_watch};
 ghost use Rattle.sb_watch.specs.Calls.{Call, hub_after};
@@ -50,7 +50,7 @@ pub fn notes_keep_what_holds()
 
 /// A call changes the watches that it is about, and leaves the others as they were.
 pub fn watches_stand_alone()
-    ensures pushed { (hub : Hub) (note : Note) (id : ℕ) → watch_at (with_push hub note) id ≡ option_map (told note) (watch_at hub id) }
+    ensures pushed { (hub : Hub) (note : Note) (id : ℕ) → watch_at (with_push hub note) id ≡ option_map (watch_after_note note) (watch_at hub id) }
     ensures taken { (hub : Hub) (id : ℕ) → watch_at (with_answer hub id) id ≡ option_map answered (watch_at hub id) }
     ensures unasked { (hub : Hub) (id other : ℕ) → other ≢ id → watch_at (with_answer hub id) other ≡ watch_at hub other }
     ensures added { (hub : Hub) (filter : Filter) (capacity : ℕ) →

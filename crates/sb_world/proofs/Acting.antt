@@ -44,7 +44,7 @@ use Rattle.sb_world.specs.Places.{Place, frame_at}
 use Rattle.sb_world.specs.Turns.{Effect, rests, logs, goes, listens, opens, Turn, still, with_core, write_of, IsLogged, commit_turn, crash_turn, purge_turn, waiting_after, Crashes, TakesFirst, take_turn, RestartEnds, reopened_turn, refused_turn, sent_turn}
 use Rattle.sb_world.specs.Connections.{Connection, connection_at, with_connection, without_connection, of_others}
 use Rattle.sb_world.specs.Hearing.{Tells, calls_in, events_in}
-use Rattle.sb_world.specs.Connecting.{Stays, begun, new_connection, Connects, Closes, lined, LinesUp, in_session, Asked, AsksOn, fed, listener, heard_by, connections_after, piece_turn, Delivers, Pieces}
+use Rattle.sb_world.specs.Connecting.{Stays, session_at, new_connection, Connects, Closes, lined, LinesUp, in_session, Asked, AsksOn, fed, listener, heard_by, connections_after, piece_turn, Delivers, Pieces}
 use Rattle.sb_world.specs.Events.{Acts, ActsWhere, Does, answers_to}
 use Rattle.sb_world.specs.Lines.{IsLine, IsTrueConnection}
 use Rattle.sb_world.specs.States.{Past, put_at, writes_after, past_after}
@@ -107,7 +107,7 @@ core_same p core answer effect frames = record { me = refl; clean = λ e. e; sur
 
 connects_same : (found : Option Connection) (p : Place) (number : ℕ) (conns : List Connection) (sent : List (List ℕ)) (turn : Turn) (new : List Connection) → Connects found p number conns sent turn new → Same p turn
 connects_same (Some c) p number conns sent turn new stays = stays_same p conns _ turn new stays
-connects_same None p number conns sent turn new acts = ⊎_elim (stays_same p conns _ turn new) (λ is. turned_same p turn (sent_turn p sent (hello_of (begun p))) is.2 (record { me = refl; clean = λ e. e; sure = λ s. s; log = same_stays p.log p.log refl })) acts
+connects_same None p number conns sent turn new acts = ⊎_elim (stays_same p conns _ turn new) (λ is. turned_same p turn (sent_turn p sent (hello_of (session_at p))) is.2 (record { me = refl; clean = λ e. e; sure = λ s. s; log = same_stays p.log p.log refl })) acts
 
 closes_same : (found : Option Connection) (p : Place) (number : ℕ) (conns : List Connection) (turn : Turn) (new : List Connection) → Closes found p number conns turn new → Same p turn
 closes_same None p number conns turn new stays = stays_same p conns _ turn new stays
@@ -445,18 +445,18 @@ module _ (writes : List ℕ → List Write) (past : Past) (settings : Settings) 
     connects_kept (Some c) number turn new stays = stays_kept _ turn new stays
     connects_kept None number turn new acts =
         ⊎_elim (stays_kept _ turn new)
-        (λ is. turned_all turn (sent_turn p sent (hello_of (begun p))) new is.2 (record {
-          kept = sent_kept (hello_of (begun p)) is.0 tt (let fits = is.1 in let same = budget in omega (arith, fits, same));
-          each = λ c stands. ⊎_elim (grown_conns (frame (hello_of (begun p)) ∷ []) c) (one c)
+        (λ is. turned_all turn (sent_turn p sent (hello_of (session_at p))) new is.2 (record {
+          kept = sent_kept (hello_of (session_at p)) is.0 tt (let fits = is.1 in let same = budget in omega (arith, fits, same));
+          each = λ c stands. ⊎_elim (grown_conns (frame (hello_of (session_at p)) ∷ []) c) (one c)
               (either conns (new_connection p number ∷ []) c (subst (λ (cs : List Connection). Stands cs c) is.3 stands));
         }))
         acts
       where
-        fresh : IsTrueConnection (sent ++ frame (hello_of (begun p)) ∷ []) (new_connection p number)
-        fresh = record { held = []; stands = refl; line = line_empty (sent ++ frame (hello_of (begun p)) ∷ []) }
+        fresh : IsTrueConnection (sent ++ frame (hello_of (session_at p)) ∷ []) (new_connection p number)
+        fresh = record { held = []; stands = refl; line = line_empty (sent ++ frame (hello_of (session_at p)) ∷ []) }
 
-        one : (c : Connection) → Stands (new_connection p number ∷ []) c → IsTrueConnection (sent ++ frame (hello_of (begun p)) ∷ []) c
-        one c (inl same) = subst (IsTrueConnection (sent ++ frame (hello_of (begun p)) ∷ [])) same fresh
+        one : (c : Connection) → Stands (new_connection p number ∷ []) c → IsTrueConnection (sent ++ frame (hello_of (session_at p)) ∷ []) c
+        one c (inl same) = subst (IsTrueConnection (sent ++ frame (hello_of (session_at p)) ∷ [])) same fresh
         one c (inr stands) = absurd stands
 
     closes_kept : (found : Option Connection) (number : ℕ) (turn : Turn) (new : List Connection) → Closes found p number conns turn new → AllKept turn new

@@ -8,7 +8,7 @@ use Rattle.sb_types.specs.declared.entry.Slot.TheVariants.{Removed}
 use Rattle.sb_types.specs.declared.entry.Write.{Write}
 use Rattle.sb_types.specs.declared.limits.TheConstants.{KEYS_MOST}
 use Rattle.sb_types.specs.Records.{Entry, Table}
-use Rattle.sb_types.specs.Runs.{are_ascending, entered, has_key, is_set, last_version, live, without}
+use Rattle.sb_types.specs.Runs.{are_ascending, entries_after, has_key, is_set, last_version, live_entries, without}
 use Rattle.sb_types.proofs.Texts.{text_same}
 use Rattle.sb_table.proofs.Merging.{length-filter_le}
 use Rattle.sb_holdings.specs.Contents.{entry_of_write, numbered, last_each, content_table}
@@ -23,13 +23,13 @@ use Rattle.sb_log.proofs.Beginning.{last_least}
 values : List Entry → List Entry
 values es = filter (λ e. is_set e.slot) es
 
-values-live : (floor : ℕ) (es : List Entry) → values (live floor es) ≡ values es
+values-live : (floor : ℕ) (es : List Entry) → values (live_entries floor es) ≡ values es
 unfolding values
 values-live floor [] = refl
 values-live floor (x ∷ xs) = grind (arith, values-live floor xs)
 
 -- of entries up to a floor only those with a value are live
-live-values : (floor last : ℕ) (es : List Entry) → are_ascending last es ≡ true → last_version last es ≤ floor → live floor es ≡ values es
+live-values : (floor last : ℕ) (es : List Entry) → are_ascending last es ≡ true → last_version last es ≤ floor → live_entries floor es ≡ values es
 unfolding values
 live-values floor last [] up most = refl
 live-values floor last (x ∷ xs) up most =
@@ -113,8 +113,8 @@ cleared : (writes : List Write) (floor after : ℕ) → length (content_table fl
 unfolding values
 cleared writes floor after limit reach =
     let es = last_each (numbered 0 writes) in
-    let same : left writes ≡ values (live floor es) = values-live 0 es ∙ sym (values-live floor es) in
-    let few : length (left writes) ≤ after - length writes = omega (arith, ap length same, length-filter_le (λ e. is_set e.slot) (live floor es), limit, reach) in
+    let same : left writes ≡ values (live_entries floor es) = values-live 0 es ∙ sym (values-live floor es) in
+    let few : length (left writes) ≤ after - length writes = omega (arith, ap length same, length-filter_le (λ e. is_set e.slot) (live_entries floor es), limit, reach) in
     let more = clearing (after - length writes) writes few in
     (more.0, content-cleared (writes ++ more.0) after (omega (arith, length-append writes more.0, more.1, reach)) more.2)
 

@@ -6,14 +6,14 @@ use Rattle.sb_types.specs.declared.entry.Write.{Write}
 use Rattle.sb_types.specs.declared.fault.Fault.{Fault}
 use Rattle.sb_types.specs.declared.fault.Fault.TheVariants.{NoMemory, Closed}
 use Rattle.sb_types.specs.Records.{Entry, Table}
-use Rattle.sb_types.specs.Runs.{Stands, is_set, live}
+use Rattle.sb_types.specs.Runs.{Stands, is_set, live_entries}
 use Rattle.sb_types.proofs.Standing.{of_kept}
 use Rattle.sb_types.proofs.Texts.{same_text}
 use Rattle.sb_holdings.specs.Held.{shown_of}
 use Rattle.sb_holdings.specs.Nodes.{opened_node}
 use Rattle.sb_holdings.proofs.Content.{content_is}
 use Rattle.sb_log.specs.Records.{Log}
-use Rattle.sb_log.specs.Puts.{Purges, Loads, purged}
+use Rattle.sb_log.specs.Puts.{Purges, Loads, content_after_purge}
 use Rattle.sb_world.specs.declared.event.Event.{Event}
 use Rattle.sb_world.specs.declared.event.Event.TheVariants.{Purge, Restart}
 use Rattle.sb_world.specs.declared.event.Answer.{Answer}
@@ -44,7 +44,7 @@ removed_not_read old event answer new moves t u me owner key version is_event re
 
 -- ---- no removal up to a floor stands
 
-live_purged : (t : Table) → live t.floor t.entries ≡ t.entries → IsPurged t
+live_purged : (t : Table) → live_entries t.floor t.entries ≡ t.entries → IsPurged t
 live_purged t same e stands gone =
     let kept = of_kept (λ (x : Entry). is_set x.slot || nat_lt t.floor x.version) t.entries e (subst (λ (es : List Entry). Stands es e) (sym same) stands) in
     ⊎_elim
@@ -53,7 +53,7 @@ live_purged t same e stands gone =
     (or_cases (is_set e.slot) (nat_lt t.floor e.version) kept.1)
 
 content_live : (ws : List Write) (t : Table) → IsContentOf ws t → IsPurged t
-content_live ws t is = live_purged t (subst (λ (c : Table). live c.floor c.entries ≡ c.entries) (sym is.content) (content_is ws t.floor is.floor).live)
+content_live ws t is = live_purged t (subst (λ (c : Table). live_entries c.floor c.entries ≡ c.entries) (sym is.content) (content_is ws t.floor is.floor).live)
 
 pub state_purged : (s : State) → IsTrueState s → ArePurged s
 state_purged s t name = some_map _ _ (place_at s.now.places name)
@@ -91,7 +91,7 @@ module _ (old : Seen) (me : List ℕ) (effect : Effect) where
         let same : told_purged told ≡ told_purged floor = ap (λ (x : Turn). x.answer) is in
         let logs : q.log ≡ log = ap (λ (x : Turn). x.place.log) is in
         let kept : log.is_clean ≡ true = subst (λ (l : Log). l.is_clean ≡ true) logs clean in
-        let content : log.content.floor ≡ (purged floor p.log.content).floor = ap (λ (t : Table). t.floor) (purges.done.content kept) in
+        let content : log.content.floor ≡ (content_after_purge floor p.log.content).floor = ap (λ (t : Table). t.floor) (purges.done.content kept) in
         let reached = (floor_reached p.log.content floor).0 in
         let high : floor ≤ log.content.floor = omega (arith, content, reached) in
         let done : IsDone q = (

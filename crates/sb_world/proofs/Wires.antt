@@ -17,7 +17,7 @@ use Rattle.sb_session.specs.Sessions.{Session, hello_of}
 use Rattle.sb_world.specs.declared.event.Event.{Event}
 use Rattle.sb_world.specs.declared.event.Event.TheVariants.{Commit, Take, CrashInCommit, Purge, Restart, Connect, Close, Line, Piece, Ask, Offer, Read, Upto}
 use Rattle.sb_world.specs.Connections.{Connection, connection_at, with_connection, without_connection, of_others}
-use Rattle.sb_world.specs.Connecting.{begun, new_connection, Connects, Closes, lined, LinesUp, in_session, Asked, AsksOn, fed, listener, heard_by, connections_after, Delivers, Pieces}
+use Rattle.sb_world.specs.Connecting.{session_at, new_connection, Connects, Closes, lined, LinesUp, in_session, Asked, AsksOn, fed, listener, heard_by, connections_after, Delivers, Pieces}
 use Rattle.sb_world.specs.Events.{answers_to, Acts, ActsWhere, Does}
 use Rattle.sb_world.specs.Hearing.{Listener, Heard, Hears, Tells}
 use Rattle.sb_world.specs.Places.{Place, frame_at}
@@ -257,9 +257,9 @@ module _ (sent : List (List ℕ)) (conns : List Connection) (wires : ℕ → Wir
         ⊎_elim
         (λ stays. alone turn.frames new _ (wired_again wires number _ (ap (λ (x : Turn). begun_by x.answer (wires number)) stays.0)) stays.1)
         (λ is. subst (λ (x : Turn). AreTrueWires (sent ++ x.frames) new (wired wires number (begun_by x.answer (wires number)))) (sym is.2)
-        (subst (λ (cs : List Connection). AreTrueWires (sent ++ frame (hello_of (begun p)) ∷ []) cs (wired wires number new_wire)) (sym is.3)
-        (begins (frame (hello_of (begun p)) ∷ []) (new_connection p number) at_number
-        (record { rest = []; stands = refl; history = new_history (sent ++ frame (hello_of (begun p)) ∷ []) }))))
+        (subst (λ (cs : List Connection). AreTrueWires (sent ++ frame (hello_of (session_at p)) ∷ []) cs (wired wires number new_wire)) (sym is.3)
+        (begins (frame (hello_of (session_at p)) ∷ []) (new_connection p number) at_number
+        (record { rest = []; stands = refl; history = new_history (sent ++ frame (hello_of (session_at p)) ∷ []) }))))
         acts
 
     closes_wires : (found : Option Connection) (number : ℕ) (turn : Turn) (new : List Connection) → Closes found p number conns turn new → AreTrueWires (sent ++ turn.frames) new wires

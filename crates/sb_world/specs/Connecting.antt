@@ -25,19 +25,19 @@ Stays p conns answer turn new = (turn ≡ still p answer) × (new ≡ conns)
 -- ---- it begins
 
 -- its session is of the node, in the cluster of its settings, and nothing has come or is in the queue
-abbrev pub begun : Place → Session
-begun p = new_session p.core.settings.cluster p.me
+abbrev pub session_at : Place → Session
+session_at p = new_session p.core.settings.cluster p.me
 
 abbrev pub new_connection : Place → ℕ → Connection
-new_connection p number = record { number = number; me = p.me; session = begun p; stream = open_with []; left = [] }
+new_connection p number = record { number = number; me = p.me; session = session_at p; stream = open_with []; left = [] }
 
 -- its Hello is sent, unless the number is in use
 abbrev pub Connects : Option Connection → Place → ℕ → List Connection → List (List ℕ) → Turn → List Connection → Type 0
 Connects (Some c) p number conns sent turn new = Stays p conns (Ok answers.Nothing) turn new
 Connects None p number conns sent turn new =
     Stays p conns (Err NoMemory) turn new
-    ⊎ ((is_message (hello_of (begun p)) ≡ true) × (length (frame (hello_of (begun p))) ≤ p.core.settings.budget)
-    × (turn ≡ sent_turn p sent (hello_of (begun p))) × (new ≡ conns ++ new_connection p number ∷ []))
+    ⊎ ((is_message (hello_of (session_at p)) ≡ true) × (length (frame (hello_of (session_at p))) ≤ p.core.settings.budget)
+    × (turn ≡ sent_turn p sent (hello_of (session_at p))) × (new ≡ conns ++ new_connection p number ∷ []))
 
 -- ---- it is closed
 
