@@ -10,7 +10,7 @@ ghost use Rattle.sb_node.specs.Answers.{IsDelta, IsAnswer};
 ghost use Rattle.sb_types.specs.Faults.{Gives};
 ghost use Rattle.sb_types.specs.Runs.{shown_at};
 ghost use Rattle.sb_holdings.specs.Held.{shown_of};
-ghost use Rattle.sb_world.specs.Turns.{Effect, rests, Commits, Crashes, Purges, TakesFirst, Restarts};
+ghost use Rattle.sb_world.specs.Turns.{Effect, rests, Commits, Crashes, Purges, Trims, TakesFirst, Restarts};
 ghost use Rattle.sb_world.specs.Turns as spec;
 ghost use Rattle.sb_world.specs.declared.event.Answer.TheVariants as answers;
 
@@ -123,6 +123,21 @@ impl<L: WriteLog> Place<L> {
                 self.is_up = false;
                 Ok(Answer::Purged(floor))
             }
+            Err(fault) => Err(fault),
+        }
+    }
+
+    /// Purges the node's own table up to a floor, and asks the log to drop its tombstones up to there. `FloorTooHigh` if
+    /// the node does not hold so far, with nothing changed; then the faults of `WriteLog::purge`, with the table purged.
+    pub(crate) fn trim(&mut self, floor: u64) -> Result<Answer, Fault>
+        ensures { (effect : Effect) × Trims self.old floor (record { answer = result; effect = effect; place = self.new; frames = [] }) }
+    {
+        match self.core.purge(floor) {
+            Ok(()) => {}
+            Err(fault) => return Err(fault),
+        }
+        match self.log.purge(floor) {
+            Ok(()) => Ok(Answer::Trimmed(floor)),
             Err(fault) => Err(fault),
         }
     }
