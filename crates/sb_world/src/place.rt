@@ -132,14 +132,13 @@ impl<L: WriteLog> Place<L> {
     pub(crate) fn trim(&mut self, floor: u64) -> Result<Answer, Fault>
         ensures { (effect : Effect) × Trims self.old floor (record { answer = result; effect = effect; place = self.new; frames = [] }) }
     {
-        match self.core.purge(floor) {
-            Ok(()) => {}
-            Err(fault) => return Err(fault),
+        if let Err(fault) = self.core.purge(floor) {
+            return Err(fault);
         }
-        match self.log.purge(floor) {
-            Ok(()) => Ok(Answer::Trimmed(floor)),
-            Err(fault) => Err(fault),
+        if let Err(fault) = self.log.purge(floor) {
+            return Err(fault);
         }
+        Ok(Answer::Trimmed(floor))
     }
 
     /// Enters the oldest write that waits. `Nothing` if no write waits. The faults of `NodeCore::take_own`, and then
