@@ -77,7 +77,7 @@ impl<'a> FusedIterator for LiveEntries<'a> {}
 
 /// A table as it is offered to one peer: under a floor between its own and its held version, without the tombstones up
 /// to that floor.
-#[derive(Clone, Copy)]
+#[derive(Drop)]
 pub(crate) struct OfferedTable<'a> {
     table: &'a Table,
     floor: u64,
