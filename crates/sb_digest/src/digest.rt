@@ -386,13 +386,7 @@ impl Digest {
     /// `place` is where this call looks first, and may be any number. If the owner's pair is there, the call takes one
     /// step, and otherwise a binary search. If all owners are asked for in turn and have pairs, each call takes one
     /// step. A walk over both lists would save the search, but it needs a proof that the owners are asked for in order.
-    pub fn start_from(
-        &self,
-        owner: &Name,
-        floor: u64,
-        upto: u64,
-        place: usize,
-    ) -> (Start, usize)
+    pub fn start_from(&self, owner: &Name, floor: u64, upto: u64, place: usize) -> (Start, usize)
         ensures after { result.0.after ≡ number_in self.now owner.now floor upto }
         ensures floor { result.0.floor ≡ floor_in self.now owner.now floor upto }
         ensures place { result.1 ≡ at_or_below owner.now self.now.pairs }

@@ -1,6 +1,8 @@
 //! A node, with its log and watches. Its calls as data, with what they answer.
 
-use crate::making::{commit, commit_removal, delta_of, delta_with_floor, first_of, key, name, node_of, prefix};
+use crate::making::{
+    commit, commit_removal, delta_of, delta_with_floor, first_of, key, name, node_of, prefix,
+};
 use crate::reached::Seated;
 use crate::{got, same_at, there};
 use sb_budget::Backlog;

@@ -93,13 +93,7 @@ fn behind(rt: &impl Abort, alloc: Global) -> Holdings {
 type Sent = ([u64; 3], BlockEnd, u64);
 
 /// One node answers another's digest by a frame of this size, and the other takes the block of a.
-fn exchange(
-    rt: &impl Abort,
-    alloc: Global,
-    from: &Holdings,
-    to: &mut Holdings,
-    budget: u64,
-) -> Sent
+fn exchange(rt: &impl Abort, alloc: Global, from: &Holdings, to: &mut Holdings, budget: u64) -> Sent
     requires least { BUDGET_LEAST ≤ budget }
     requires most { budget ≤ BUDGET_MOST }
 {
@@ -255,7 +249,11 @@ fn held_to(rt: &impl Abort, alloc: Global, upto: u64) -> Digest {
 /// The node a, which wrote x, y and z, removed y and z, and purged up to the removal of y.
 fn half_purged(rt: &impl Abort, alloc: Global) -> Holdings {
     let mut entries = texts(rt, alloc, &[(b'x', 1)]);
-    push(rt, &mut entries, Entry::new(key(rt, b"z"), 5, Slot::Removed));
+    push(
+        rt,
+        &mut entries,
+        Entry::new(key(rt, b"z"), 5, Slot::Removed),
+    );
     owner(rt, alloc, 5, 4, entries)
 }
 
@@ -269,11 +267,7 @@ fn offers(rt: &impl Abort, alloc: Global, node: &Holdings, upto: u64) -> [usize;
         there(rt, wide.blocks().first()),
         there(rt, deep.blocks().first()),
     );
-    [
-        offered.len(),
-        wide.entries().len(),
-        deep.entries().len(),
-    ]
+    [offered.len(), wide.entries().len(), deep.entries().len()]
 }
 
 /// Tombstones above the sender's floor are left out for a peer that takes the whole table, and sent to all others.

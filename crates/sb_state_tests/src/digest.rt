@@ -150,7 +150,8 @@ fn wanting(from: Option<Name>, until: Option<Name>, pairs: usize, length: u64) -
 fn are_told(digest: &Digest, owners: &[Name], wanted: &[(bool, u64)]) -> bool {
     let mut are_right = owners.len() == wanted.len();
     for (owner, (is_covered, held)) in owners.iter().zip(wanted) {
-        are_right &= digest.covers(owner) == *is_covered && digest.start(owner, 0, 9).after == *held;
+        are_right &= digest.covers(owner) == *is_covered
+            && digest.start(owner, 0, 9).after == *held;
     }
     are_right
 }
@@ -229,7 +230,11 @@ fn a_stage_of_any_numbers_is_told(rt: HostRuntime) {
     same(&rt, &start(&rt, &digest, b"a", 0, 9), &(3, 0));
     same(&rt, &start(&rt, &digest, b"a", 3, 9), &(3, 3));
     same(&rt, &start(&rt, &digest, b"a", 4, 9), &(0, 9));
-    same(&rt, &start(&rt, &digest, b"a", u64::MAX, u64::MAX), &(0, u64::MAX));
+    same(
+        &rt,
+        &start(&rt, &digest, b"a", u64::MAX, u64::MAX),
+        &(0, u64::MAX),
+    );
     same(&rt, &start(&rt, &digest, b"b", 4, 9), &(0, 9));
     same(&rt, &digest.encoded_length(), &32);
 }

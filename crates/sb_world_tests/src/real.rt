@@ -1,7 +1,7 @@
 //! A run of a world over logs in databases.
 use crate::world::{
-    PURGING_ANSWERS, SEVEN_ANSWERS, TRIMMING_ANSWERS, Told, purging_events, settings,
-    seven_events, told_by_seven, trimming_events,
+    PURGING_ANSWERS, SEVEN_ANSWERS, TRIMMING_ANSWERS, Told, purging_events, settings, seven_events,
+    told_by_seven, trimming_events,
 };
 use crate::{got, name, same};
 use sb_log::SqlLog;
