@@ -55,6 +55,10 @@ module _ (t : Table) (kept : IsKeptTable t) (floor : ℕ) where
 
 -- ---- the offered table
 
+-- under its own floor it is as it is
+pub under-own : (t : Table) → IsTable t → raised t.held t.floor t ≡ t
+under-own t is = ap (λ (es : List Entry). let u : Table = record { held = t.held; floor = t.floor; entries = es } in u) is.live
+
 module _ (digest : Digest) (owner : List ℕ) (t : Table) (is : IsTable t) where
   pub offered_is : IsTable (offered_table digest owner t)
   offered_is =
@@ -69,9 +73,7 @@ module _ (digest : Digest) (owner : List ℕ) (t : Table) (is : IsTable t) where
   offered_holds writes h = tells_live (tells_raised (floor_in digest owner t.floor t.held) (start-least digest owner t.floor t.held is.floor) (start-most digest owner t.floor t.held is.floor) is.run h)
 
   pub offered_own : t.floor ≤ held_in digest owner → offered_table digest owner t ≡ t
-  offered_own far =
-      let same = start-own digest owner t.floor t.held far in
-      ap (λ (floor : ℕ). raised t.held floor t) same ∙ ap (λ (es : List Entry). record { held = t.held; floor = t.floor; entries = es }) is.live
+  offered_own far = ap (λ (floor : ℕ). raised t.held floor t) (start-own digest owner t.floor t.held far) ∙ under-own t is
 
 -- of an owner that is not held nothing is offered
 pub offered_nothing : (digest : Digest) (owner : List ℕ) → offered_table digest owner nothing.shown ≡ nothing.shown
