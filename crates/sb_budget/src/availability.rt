@@ -89,8 +89,8 @@ fn offer_news(
 /// its number there, in ascending version. If there are none, but the owner is held above that number, it is one item
 /// without an entry. The only fault is `NoMemory`.
 ///
-/// If the peer does not hold as far as the floor of a table, that is offered as if it were purged: up to the floor of
-/// the peer's stage if that can go on, else up to the held version. Tombstones up to that floor are left out.
+/// If the peer holds less than the floor of a table, the table is offered as if it were purged up to a higher floor. That is the floor of the peer's stage if the stage can go on, else the held version. Tombstones up to that
+/// floor are left out.
 pub fn available(alloc: Global, holdings: &Holdings, digest: &Digest) -> Result<Vec<Offered>, Fault>
     ensures items { IfOk result (λ offered. items_of_all offered.items ≡ available_for holdings.now digest.now) }
     ensures ranks { IfOk result (λ offered. AreRanked offered.items) }

@@ -75,8 +75,8 @@ impl<'a> Iterator for LiveEntries<'a> {
 
 impl<'a> FusedIterator for LiveEntries<'a> {}
 
-/// A table as it is offered to one peer: under a floor between its own and its held version, without the tombstones up
-/// to that floor.
+/// A table as it is offered to one peer, under a floor between its own and its held version. The tombstones up to that
+/// floor are left out.
 #[derive(Drop)]
 pub(crate) struct OfferedTable<'a> {
     table: &'a Table,
@@ -112,8 +112,8 @@ impl<'a> OfferedTable<'a> {
         OfferedTable::new(table, table.floor())
     }
 
-    /// Returns the table as it is offered to the peer that sent this digest, the version above which it is offered, and
-    /// the place in the digest at which to look for the next owner's pair. It looks first at `place`.
+    /// Returns the table as it is offered to the peer that sent this digest, and the version above which it is offered.
+    /// Then it returns the place in the digest at which to look for the next owner's pair. It looks first at `place`.
     pub(crate) fn for_peer(
         digest: &Digest,
         owner: &Name,

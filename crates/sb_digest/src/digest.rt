@@ -37,7 +37,7 @@ impl Model for Pair {
     ghost inverse = { λ p. record { owner = p.owner; upto = p.held; staged_floor = p.floor; progress = p.progress } };
 }
 
-/// Where a sender starts with an owner's table, for a peer of which it has a digest.
+/// How a sender begins to offer an owner's table to a peer whose digest it has.
 #[derive(Clone, Copy, Debug)]
 pub struct Start {
     /// The version above which it offers entries.

@@ -19,8 +19,8 @@ pub fn one_front_is_longest()
 {}
 
 /// A digest of what is held reports the held version of each owner that it covers. It also reports the number above
-/// which a sender of any floor and any held version offers entries, and the floor under which it offers them. All hold
-/// whether or not it has a pair of the owner.
+/// which a sender of any floor and any held version offers entries. And it reports the floor under which that sender
+/// offers them. All hold whether or not it has a pair of the owner.
 pub fn digests_are_true()
     ensures held { (held : Held) (budget : ℕ) (want : Bool) (from : Option (List ℕ)) (d : digests.Digest) (owner : List ℕ) →
         IsLongestFront budget want from (pairs_from from held) d → covers d owner ≡ true →

@@ -182,7 +182,7 @@ impl<S: DirectoryTag, R: Wait + Drop> Directory<S, R> {
     }
 
     /// Purges the node's own table if that is due, and then publishes all that happened. It is due if the table has `least` removed
-    /// keys, or 4,096 keys of which 64 or more are removed; if `least` is 0, it never is. Then the older half of the removed keys goes:
+    /// keys, or if it is full and has 64 of them. If `least` is 0, it never is. Then the older half of the removed keys goes:
     /// those up to the version of the middle one, which becomes the purge floor. Readers and watches see no difference.
     ///
     /// It returns the new floor, and whether the seat has seen the purge. If it has not, the next call that publishes makes up for it.
@@ -192,7 +192,7 @@ impl<S: DirectoryTag, R: Wait + Drop> Directory<S, R> {
     /// - `TurnsSpent` after 2^64 - 1 events.
     /// - `NoMemory`.
     ///
-    /// It takes one step for each key, and memory in proportion to the own rows that it publishes anew.
+    /// It takes one step for each key. It publishes all own rows, and takes memory in proportion to them.
     pub fn purge<Q: Wait>(
         &self,
         rt: &Q,

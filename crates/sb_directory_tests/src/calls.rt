@@ -168,7 +168,7 @@ fn a_floor_takes_rows(rt: HostRuntime) {
     answers(&rt, rt.alloc(), &cases);
 }
 
-/// A purge lets the older half of the removed keys go. It is an event, of which watches and readers see nothing.
+/// A purge lets the older half of the removed keys go. It is an event. Watches and readers see nothing of it.
 #[test]
 fn a_purge_shows_nothing(rt: HostRuntime) {
     let first = noted(&rt, b"a", b"y", 6);

@@ -39,7 +39,7 @@ fn removal_at(table: &Table, older: usize) -> Option<u64>
     None
 }
 
-/// Returns whether a table of so many keys, of which so many are removed, is purged.
+/// Returns whether a table of so many keys is purged, if so many of them are removed.
 fn is_due(least: u64, keys: usize, removed: usize) -> bool
     ensures { result ≡ is_purge_due least keys removed }
 {

@@ -88,8 +88,8 @@ fn behind(rt: &impl Abort, alloc: Global) -> Holdings {
     holder(rt, alloc, b"b", 0, 2, &[(b'a', 1), (b'b', 2)])
 }
 
-/// A block as it was sent: its floor, where it begins and how far it reaches, how it ended, and up to which version the
-/// receiver then holds a.
+/// A block as it was sent: its floor, and the two versions between which its entries are. Then how it ended, and the
+/// version up to which the receiver then holds a.
 type Sent = ([u64; 3], BlockEnd, u64);
 
 /// One node answers another's digest by a frame of this size, and the other takes the block of a.
@@ -129,7 +129,7 @@ fn a_stage_comes_whole(rt: HostRuntime) {
     same(&rt, &shown(&rt, &b), &Some(11));
 }
 
-/// A purge of the sender behind the first frame does not end the stage, if it goes no further than the stage's floor.
+/// A purge of the sender after the first frame does not end the stage, if its floor is at or below the stage's.
 #[test]
 fn a_stage_outlives_a_purge(rt: HostRuntime) {
     let alloc = rt.alloc();
@@ -142,7 +142,7 @@ fn a_stage_outlives_a_purge(rt: HostRuntime) {
     same(&rt, &third, &([11, 9, 11], BlockEnd::Taken(2), 11));
 }
 
-/// A purge beyond the stage's floor begins the stage anew.
+/// After a purge above the stage's floor, the stage begins again.
 #[test]
 fn a_purge_beyond_the_stage_begins_anew(rt: HostRuntime) {
     let alloc = rt.alloc();

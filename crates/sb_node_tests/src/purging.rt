@@ -95,7 +95,7 @@ fn the_middle_removal_goes(rt: HostRuntime) {
     same(&rt, &core.due_floor(3), &Some(4));
 }
 
-/// What a peer is offered that holds a up to a version: the block's floor, where it begins, and how far it reaches.
+/// The block for a peer that holds a up to a version: its floor, and the two versions between which its entries are.
 fn offered(rt: &impl Abort, alloc: Global, core: &NodeCore, upto: u64) -> [u64; 3] {
     let mut pairs = Vec::new(alloc);
     push(rt, &mut pairs, Pair::new(*core.name(), upto, None));

@@ -183,8 +183,8 @@ fn staged(rt: &impl Abort) -> Pair {
     Pair::new(name(rt, b"a"), 5, Some((9, 7)))
 }
 
-/// Where a sender of this floor and this held version starts with the table of an owner: above which version, and under
-/// which floor.
+/// The version above which a sender of this floor and this held version offers the table of an owner. Then the floor
+/// under which it offers that.
 fn start(rt: &impl Abort, digest: &Digest, owner: &[u8], floor: u64, upto: u64) -> (u64, u64) {
     let start = digest.start(&name(rt, owner), floor, upto);
     (start.after, start.floor)
@@ -200,8 +200,8 @@ fn a_peer_that_reaches_the_floor(rt: HostRuntime) {
     same(&rt, &start(&rt, &digest, b"a", 3, 4), &(5, 3));
 }
 
-/// A sender whose floor is above the held version, and at or below the stage's, continues the stage if it holds as far
-/// as the stage's floor.
+/// Here a sender's floor is above the held version, and at or below the stage's. It continues the stage if it holds as
+/// far as the stage's floor.
 #[test]
 fn a_stage_that_can_go_on(rt: HostRuntime) {
     let pairs = one(&rt, rt.alloc(), staged(&rt));

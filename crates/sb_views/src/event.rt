@@ -3,7 +3,7 @@
 use sb_holdings::Report;
 use sb_types::{Delta, Entry};
 
-/// An event of a node: it took a committed write of its own, or a delta whose blocks ended so, or purged its own table
+/// An event of a node. It took a committed write of its own, or a delta whose blocks ended so. Or it purged its own table
 /// up to a version. Events are named in contracts alone: no value of this type is made.
 #[derive(Drop)]
 pub enum Event {

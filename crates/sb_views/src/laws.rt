@@ -34,8 +34,8 @@ pub fn rows_ascend()
         rows.AreAscending (rows.rows_behind place wanted prefix view) }
 {}
 
-/// Tables grow: after any own writes, purges and deltas, however their blocks end, of each owner neither the version that
-/// is held nor the floor is lower. If the floor is the same, the entries are the earlier ones with those entered that the
+/// Tables grow, after any own writes, purges and deltas, however their blocks end. No owner's held version or floor falls.
+/// If the floor is the same, the entries are the earlier ones with those entered that the
 /// owner now has above the earlier version.
 pub fn tables_grow()
     ensures none { (held : Held) → IsHoldings held → AreGrown held held }
@@ -51,7 +51,7 @@ pub fn new_changes_lead()
     ensures { (old new : Held) → IsHoldings new → AreGrown old new → Leads old new (new_changes old new) }
 {}
 
-/// A purge changes nothing that views show: of each owner the held version is the same, and each key's value with the
+/// A purge changes nothing that views show. Each owner's held version stays, and so does each key's value, with the
 /// version of its write.
 pub fn purges_show_nothing()
     ensures upto { (held : Held) (floor : ℕ) (owner : List ℕ) → IsHoldings held → (shown_of (purged_own held floor) owner).held ≡ (shown_of held owner).held }
