@@ -1,18 +1,19 @@
 -- The removals of a table, one after another, and the floor up to which it is purged.
-use Rattle.std.proofs.Common.{◌≡◌, ◌≢◌, ℕ, zero, suc, ◌+◌, ◌-◌, ◌/◌, ◌≤◌, Bool, true, false, not, List, [], ◌∷◌, length, inl, inr, Option, Some, None, Ok, refl, sym, ap, subst, ◌∙◌, arith}
-use Rattle.std.proofs.lemmas.Bool.{cond_both, cond-true, cond-false, le-ltb}
+use Rattle.std.proofs.Common.{◌≡◌, ◌≢◌, ℕ, zero, suc, ◌+◌, ◌-◌, ◌/◌, ◌≤◌, Bool, true, false, not, ◌&&◌, ◌||◌, nat_lt, nat_le, ⊎_elim, ltb-true, leb-true, List, [], ◌∷◌, length, inl, inr, Option, Some, None, Ok, refl, sym, ap, subst, ◌∙◌, arith}
+use Rattle.std.proofs.lemmas.Bool.{and_parts, or_cases, cond_both, cond-true, cond-false, le-ltb}
 use Rattle.std.specs.List.{slice_get}
 use Rattle.std.specs.Option.{option_map}
 use Rattle.sb_types.specs.declared.fault.Fault.{Fault}
 use Rattle.sb_types.specs.declared.fault.Fault.TheVariants.{FloorTooHigh}
 use Rattle.sb_types.specs.declared.entry.Slot.TheVariants.{Set, Removed}
+use Rattle.sb_types.specs.declared.limits.TheConstants.{KEYS_MOST}
 use Rattle.sb_types.specs.Records.{Entry, Table}
 use Rattle.sb_types.specs.Runs.{Stands, is_set, IsRun}
 use Rattle.sb_types.proofs.Standing.{of_kept}
 use Rattle.sb_table.proofs.Order.{run_upto}
 use Rattle.sb_holdings.specs.Held.{nothing, shown_of}
 use Rattle.sb_holdings.specs.Nodes.{Node}
-use Rattle.sb_node.specs.Purging.{removals, removals_in, is_purge_due, due_floor, purge_answer}
+use Rattle.sb_node.specs.Purging.{removals, removals_in, FULL_REMOVALS, is_purge_due, due_floor, purge_answer}
 
 pub first_removal : (e : Entry) (es : List Entry) (n : ℕ) → e.slot ≡ Removed → n ≢ 0 → slice_get (removals (e ∷ es)) n ≡ slice_get (removals es) (n - 1)
 first_removal e es zero removed some = absurd (some refl)
@@ -22,6 +23,15 @@ first_removal e es (suc n) removed some =
 
 pub first_value : (e : Entry) (es : List Entry) → is_set e.slot ≡ true → removals (e ∷ es) ≡ removals es
 first_value e es set = cond-false (not (is_set e.slot)) (e ∷ removals es) (removals es) (ap not set)
+
+-- where a purge is due, there is a removal
+pub due_some : (least keys removed : ℕ) → is_purge_due least keys removed ≡ true → 1 ≤ removed
+due_some least keys removed due =
+    let parts = and_parts (nat_lt 0 least) (nat_le least removed || (nat_le KEYS_MOST keys && nat_le FULL_REMOVALS removed)) due in
+    ⊎_elim
+    (λ enough. omega (arith, ltb-true 0 least parts.0, leb-true least removed enough))
+    (λ full. omega (arith, leb-true FULL_REMOVALS removed (and_parts (nat_le KEYS_MOST keys) (nat_le FULL_REMOVALS removed) full).1))
+    (or_cases (nat_le least removed) (nat_le KEYS_MOST keys && nat_le FULL_REMOVALS removed) parts.1)
 
 -- what is found in a list stands in it
 found_stands : (xs : List Entry) (k : ℕ) (x : Entry) → slice_get xs k ≡ Some x → Stands xs x

@@ -188,7 +188,9 @@ impl NodeCore {
     }
 
     /// Returns up to which version the own table is to be purged, if it is: the version of the middle one of its
-    /// removed keys. It is if it has `least` of them, or if it is full and has 64 of them. If `least` is 0, it never is. It takes no memory, and one step for each key.
+    /// removed keys. It is if it has `least` of them, or if it is full and has 64 of them. If `least` is 0, it never is.
+    /// It takes no memory, and one step for each key.
+    #[tactic(auto, using(crate::proofs::Removals::due_allowed, crate::proofs::Removals::due_nothing))]
     pub fn due_floor(&self, least: u64) -> Option<u64>
         ensures floor { result ≡ due_floor least (shown_of self.now.node.held self.now.node.held.me) }
         ensures allowed { IfSome result (λ floor. purge_answer self.now.node floor ≡ Ok tt) }
