@@ -27,29 +27,29 @@ and-swapped false true = refl
 and-swapped false false = refl
 
 -- which of the two tests comes first changes nothing
-pub live-above : (floor version : ℕ) (es : List Entry) → live floor (above version es) ≡ above version (live floor es)
-live-above floor version es =
+pub live_above : (floor version : ℕ) (es : List Entry) → live floor (above version es) ≡ above version (live floor es)
+live_above floor version es =
     filter-filter (λ x. is_set x.slot || nat_lt floor x.version) (λ x. nat_lt version x.version) es
     ∙ filter_agree (λ x. nat_lt version x.version && (is_set x.slot || nat_lt floor x.version)) (λ x. (is_set x.slot || nat_lt floor x.version) && nat_lt version x.version)
     (λ x. and-swapped (nat_lt version x.version) (is_set x.slot || nat_lt floor x.version)) es
     ∙ sym (filter-filter (λ x. nat_lt version x.version) (λ x. is_set x.slot || nat_lt floor x.version) es)
 
 -- a tombstone that goes, and an entry that stays
-pub first-gone : (floor : ℕ) (e : Entry) (es : List Entry) → (is_set e.slot || nat_lt floor e.version) ≡ false → live floor (e ∷ es) ≡ live floor es
-first-gone floor e es gone = cond-false (is_set e.slot || nat_lt floor e.version) (e ∷ live floor es) (live floor es) gone
+pub first_gone : (floor : ℕ) (e : Entry) (es : List Entry) → (is_set e.slot || nat_lt floor e.version) ≡ false → live floor (e ∷ es) ≡ live floor es
+first_gone floor e es gone = cond-false (is_set e.slot || nat_lt floor e.version) (e ∷ live floor es) (live floor es) gone
 
-pub first-stays : (floor : ℕ) (e : Entry) (es : List Entry) → (is_set e.slot || nat_lt floor e.version) ≡ true → live floor (e ∷ es) ≡ e ∷ live floor es
-first-stays floor e es stays = cond-true (is_set e.slot || nat_lt floor e.version) (e ∷ live floor es) (live floor es) stays
+pub first_stays : (floor : ℕ) (e : Entry) (es : List Entry) → (is_set e.slot || nat_lt floor e.version) ≡ true → live floor (e ∷ es) ≡ e ∷ live floor es
+first_stays floor e es stays = cond-true (is_set e.slot || nat_lt floor e.version) (e ∷ live floor es) (live floor es) stays
 
 -- ---- the entries of a kept table
 
 module _ (t : Table) (kept : IsKeptTable t) (floor : ℕ) where
-  pub few-live : (version : ℕ) → length (live floor (above version t.entries)) < 2 ^ 63
-  few-live version = omega (arith, kept.limit, length-filter_le (λ e. nat_lt version e.version) t.entries, length-filter_le (λ e. is_set e.slot || nat_lt floor e.version) (above version t.entries))
+  pub few_live : (version : ℕ) → length (live floor (above version t.entries)) < 2 ^ 63
+  few_live version = omega (arith, kept.limit, length-filter_le (λ e. nat_lt version e.version) t.entries, length-filter_le (λ e. is_set e.slot || nat_lt floor e.version) (above version t.entries))
 
   -- under its own floor all are offered above version 0
-  pub all-live : floor ≡ t.floor → length t.entries ≡ length (above 0 (live floor t.entries))
-  all-live own =
+  pub all_live : floor ≡ t.floor → length t.entries ≡ length (above 0 (live floor t.entries))
+  all_live own =
       let same : live floor t.entries ≡ t.entries = ap (λ (n : ℕ). live n t.entries) own ∙ kept.is.live in
       ap (λ (es : List Entry). length es) (sym (above_all 0 0 t.entries (omega arith) kept.is.run.ascending) ∙ ap (above 0) (sym same))
 

@@ -50,6 +50,7 @@ impl<'a> LiveEntries<'a> {
 }
 
 /// Takes the entries up to the first one that is live, and returns that one.
+#[tactic(auto, using(crate::proofs::OfferedLemmas::first_gone, crate::proofs::OfferedLemmas::first_stays))]
 fn next_live<'a>(entries: &mut After<'a>, floor: u64) -> Option<&'a Entry>
     ensures { MatchOption result ((live floor entries.old ≡ []) × (live floor entries.new ≡ [])) (λ entry. live floor entries.old ≡ entry.now ∷ live floor entries.new) }
 {
@@ -151,6 +152,7 @@ impl<'a> OfferedTable<'a> {
 
     /// Returns how many entries there are above a version. It takes one step for each, except above version 0 of a table
     /// that is offered under its own floor.
+    #[tactic(auto, using(crate::proofs::OfferedLemmas::all_live))]
     pub(crate) fn count_after(&self, version: u64) -> u64
         ensures count { result ≡ length (above version self.now.entries) }
     {
