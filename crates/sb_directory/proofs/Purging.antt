@@ -24,8 +24,12 @@ taken-by true floor due = absurd (cc)
 taken-by false floor due = refl
 
 module _ (opening : Node) (least : ℕ) (history : List Event) (floor : ℕ) (due : own_due_floor least (node_after opening history) ≡ Some floor) where
-  pub purge-refused : (fault : Fault) → Refuses (delta_due_after history) fault → Refuses (purge_due_after opening least history) fault
-  purge-refused fault r = subst (λ (o : Option ℕ). Refuses (floor_unless_spent history o) fault) (sym due) (refused-by (are_spent history) floor fault r)
+  pub purge_refused : (fault : Fault) → Refuses (delta_due_after history) fault → Refuses (purge_due_after opening least history) fault
+  purge_refused fault r = subst (λ (o : Option ℕ). Refuses (floor_unless_spent history o) fault) (sym due) (refused-by (are_spent history) floor fault r)
 
-  pub purge-taken : delta_due_after history ≡ Ok tt → purge_due_after opening least history ≡ Ok (Some floor)
-  purge-taken taken = ap (floor_unless_spent history) due ∙ taken-by (are_spent history) floor taken
+  pub purge_taken : delta_due_after history ≡ Ok tt → purge_due_after opening least history ≡ Ok (Some floor)
+  purge_taken taken = ap (floor_unless_spent history) due ∙ taken-by (are_spent history) floor taken
+
+-- nothing is due
+pub purge_none : (opening : Node) (least : ℕ) (history : List Event) → own_due_floor least (node_after opening history) ≡ None → purge_due_after opening least history ≡ Ok None
+purge_none opening least history none = ap (floor_unless_spent history) none

@@ -192,6 +192,7 @@ impl<S: DirectoryTag, R: Wait + Drop> ViewedNode<S, R> {
 
     /// Purges the own table for a seat if a purge is due, and then publishes all that happened. Its faults are those of
     /// `Directory::purge`.
+    #[tactic(auto, using(crate::proofs::Purging::purge_refused, crate::proofs::Purging::purge_taken, crate::proofs::Purging::purge_none))]
     pub(crate) fn purge(
         &mut self,
         seat: &mut ReaderSeat<S>,
