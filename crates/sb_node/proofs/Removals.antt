@@ -10,6 +10,8 @@ use Rattle.sb_types.specs.declared.limits.TheConstants.{KEYS_MOST}
 use Rattle.sb_types.specs.Records.{Entry, Table}
 use Rattle.sb_types.specs.Runs.{Stands, is_set, IsRun}
 use Rattle.sb_types.proofs.Standing.{of_kept}
+use Rattle.sb_table.specs.Floors.{IsKeptTable}
+use Rattle.sb_table.proofs.Merging.{length-filter_le}
 use Rattle.sb_table.proofs.Order.{run_upto}
 use Rattle.sb_holdings.specs.Held.{nothing, shown_of}
 use Rattle.sb_holdings.specs.Nodes.{Node}
@@ -23,6 +25,10 @@ first_removal e es (suc n) removed some =
 
 pub first_value : (e : Entry) (es : List Entry) → is_set e.slot ≡ true → removals (e ∷ es) ≡ removals es
 first_value e es set = cond-false (not (is_set e.slot)) (e ∷ removals es) (removals es) (ap not set)
+
+-- a table has no more removals than keys
+pub few_removals : (t : Table) → IsKeptTable t → removals_in t.entries ≤ KEYS_MOST
+few_removals t kept = omega (arith, length-filter_le (λ (e : Entry). not (is_set e.slot)) t.entries, kept.limit)
 
 -- where a purge is due, there is a removal
 pub due_some : (least keys removed : ℕ) → is_purge_due least keys removed ≡ true → 1 ≤ removed

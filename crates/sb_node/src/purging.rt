@@ -49,7 +49,7 @@ fn is_due(least: u64, keys: usize, removed: usize) -> bool
 
 /// Returns the version of the middle one of a table's removals, if there are `least` of them, or 64 in a full table. If
 /// `least` is 0, it returns `None`. It takes one step for each key.
-#[tactic(auto, using(crate::proofs::Removals::due_some))]
+#[tactic(auto, using(crate::proofs::Removals::few_removals, crate::proofs::Removals::due_some))]
 pub(crate) fn due_floor(table: &Table, least: u64) -> Option<u64>
     ensures { result ≡ due_floor least table.now }
 {
