@@ -68,7 +68,7 @@ impl<'a> Model for Cursor<'a> {
 impl<'a> Cursor<'a> {
     /// Makes the cursor of what is offered of a table above a version, if the table is held above that.
     pub(crate) fn new(owner: &'a Name, table: OfferedTable<'a>, after: u64) -> Option<Cursor<'a>>
-        ensures part { result ≡ part_of (ranked_of owner.now table after) }
+        ensures part { result ≡ part_of (ranked_of owner.now table.entry after) }
     {
         if table.upto() <= after {
             return None;

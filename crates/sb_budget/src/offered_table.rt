@@ -43,7 +43,7 @@ impl<'a> Model for LiveEntries<'a> {
 impl<'a> LiveEntries<'a> {
     fn new(entries: After<'a>, floor: u64) -> LiveEntries<'a>
         requires { length (live floor entries) < 2 ^ 63 }
-        ensures { result ≡ live floor entries }
+        ensures { result ≡ live floor entries.entry }
     {
         LiveEntries { entries, floor }
     }
