@@ -38,7 +38,7 @@ mod paging;
 mod printing;
 
 pub use answering::answer;
-pub use answers::{NoAnswer, page_in, version_in};
+pub use answers::{NoAnswer, page_in, status_in, version_in};
 pub use laws::{listings_are_whole, pages_follow};
 pub use paging::{Pager, PagingFault, ask_all, goes_on};
 pub use printing::{add_row, print_rows};

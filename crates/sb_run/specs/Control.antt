@@ -74,6 +74,8 @@ Answers seen opening budget old owed before (kinds.Bye x) new owes after reply =
 Answers seen opening budget old owed before (kinds.Rows x) new owes after reply = (new ≡ old) × (owes ≡ owed) × (after ≡ before) × IsUnknown reply
 Answers seen opening budget old owed before (kinds.Done x) new owes after reply = (new ≡ old) × (owes ≡ owed) × (after ≡ before) × IsUnknown reply
 Answers seen opening budget old owed before (kinds.Refused x) new owes after reply = (new ≡ old) × (owes ≡ owed) × (after ≡ before) × IsUnknown reply
+Answers seen opening budget old owed before (kinds.AskStatus x) new owes after reply = (new ≡ old) × (owes ≡ owed) × (after ≡ before) × IsUnknown reply
+Answers seen opening budget old owed before (kinds.NodeStatus x) new owes after reply = (new ≡ old) × (owes ≡ owed) × (after ≡ before) × IsUnknown reply
 
 -- nothing changes, or one request is answered
 abbrev pub AnswersOne : {L : Type 0} → (L → Log) → Node → ℕ → L → Option Committed → Seat → L → Option Committed → Seat → Type 0

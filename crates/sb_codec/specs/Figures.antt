@@ -1,0 +1,37 @@
+-- The kinds of figures, and what figures tell.
+use Rattle.std.specs.Prelude.{ℕ, List, codes, find, nat_eq, Option, option_map}
+use Rattle.sb_codec.specs.declared.message.figure.FigureKind.{FigureKind}
+use Rattle.sb_codec.specs.declared.message.figure.FigureKind.TheVariants.{Uptime, CaughtUp, LogFault, Conflict, Version, Keys, Removals, Owners, Peers, Rounds, RoundFaults, Sessions}
+use Rattle.sb_codec.specs.Records.{Figure}
+
+abbrev pub number_of : FigureKind → ℕ
+number_of Uptime = 1
+number_of CaughtUp = 2
+number_of LogFault = 3
+number_of Conflict = 4
+number_of Version = 5
+number_of Keys = 6
+number_of Removals = 7
+number_of Owners = 8
+number_of Peers = 9
+number_of Rounds = 10
+number_of RoundFaults = 11
+number_of Sessions = 12
+
+abbrev pub word_of : FigureKind → List ℕ
+word_of Uptime = codes "uptime"
+word_of CaughtUp = codes "caught-up"
+word_of LogFault = codes "log-fault"
+word_of Conflict = codes "conflict"
+word_of Version = codes "version"
+word_of Keys = codes "keys"
+word_of Removals = codes "removals"
+word_of Owners = codes "owners"
+word_of Peers = codes "peers"
+word_of Rounds = codes "rounds"
+word_of RoundFaults = codes "round-faults"
+word_of Sessions = codes "sessions"
+
+-- the value of the first figure of this number, if there is one
+abbrev pub value_at : ℕ → List Figure → Option ℕ
+value_at number figures = option_map (λ f. f.value) (find (λ f. nat_eq f.number number) figures)
