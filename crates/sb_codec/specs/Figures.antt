@@ -20,8 +20,8 @@ number_of Sessions = 12
 
 abbrev pub word_of : FigureKind → List ℕ
 word_of Uptime = codes "uptime"
-word_of CaughtUp = codes "caught-up"
-word_of LogFault = codes "log-fault"
+word_of CaughtUp = codes "caught_up"
+word_of LogFault = codes "log_fault"
 word_of Conflict = codes "conflict"
 word_of Version = codes "version"
 word_of Keys = codes "keys"
@@ -29,7 +29,7 @@ word_of Removals = codes "removals"
 word_of Owners = codes "owners"
 word_of Peers = codes "peers"
 word_of Rounds = codes "rounds"
-word_of RoundFaults = codes "round-faults"
+word_of RoundFaults = codes "round_faults"
 word_of Sessions = codes "sessions"
 
 -- the value of the first figure of this number, if there is one

@@ -101,8 +101,8 @@ fn assert_figure(rt: &impl Abort, kind: FigureKind, number: u8, word: &str) {
 #[test]
 fn figures_have_numbers_and_words(rt: HostRuntime) {
     assert_figure(&rt, FigureKind::Uptime, 1, "uptime");
-    assert_figure(&rt, FigureKind::CaughtUp, 2, "caught-up");
-    assert_figure(&rt, FigureKind::LogFault, 3, "log-fault");
+    assert_figure(&rt, FigureKind::CaughtUp, 2, "caught_up");
+    assert_figure(&rt, FigureKind::LogFault, 3, "log_fault");
     assert_figure(&rt, FigureKind::Conflict, 4, "conflict");
     assert_figure(&rt, FigureKind::Version, 5, "version");
     assert_figure(&rt, FigureKind::Keys, 6, "keys");
@@ -110,7 +110,7 @@ fn figures_have_numbers_and_words(rt: HostRuntime) {
     assert_figure(&rt, FigureKind::Owners, 8, "owners");
     assert_figure(&rt, FigureKind::Peers, 9, "peers");
     assert_figure(&rt, FigureKind::Rounds, 10, "rounds");
-    assert_figure(&rt, FigureKind::RoundFaults, 11, "round-faults");
+    assert_figure(&rt, FigureKind::RoundFaults, 11, "round_faults");
     assert_figure(&rt, FigureKind::Sessions, 12, "sessions");
     same(&rt, &FigureKind::of_number(0), &None);
     same(&rt, &FigureKind::of_number(13), &None);

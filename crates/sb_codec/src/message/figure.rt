@@ -88,8 +88,8 @@ impl FigureKind {
     {
         match self {
             FigureKind::Uptime => "uptime",
-            FigureKind::CaughtUp => "caught-up",
-            FigureKind::LogFault => "log-fault",
+            FigureKind::CaughtUp => "caught_up",
+            FigureKind::LogFault => "log_fault",
             FigureKind::Conflict => "conflict",
             FigureKind::Version => "version",
             FigureKind::Keys => "keys",
@@ -97,7 +97,7 @@ impl FigureKind {
             FigureKind::Owners => "owners",
             FigureKind::Peers => "peers",
             FigureKind::Rounds => "rounds",
-            FigureKind::RoundFaults => "round-faults",
+            FigureKind::RoundFaults => "round_faults",
             FigureKind::Sessions => "sessions",
         }
     }
