@@ -321,6 +321,8 @@ With --format text it prints a line `WORD VALUE` for each of these:
   peers         how many peers it dials
   rounds        rounds that it made, and round_faults: how many of these had a fault
   sessions      connections of peers that it took
+  workers, workers_busy, all_workers_busy, session_faults, last_session_fault, other_versions, turned_away, full_writes
+                its workers, and what it suffered since it started
 Then comes a line `peer STATE PATH` for each peer. STATE is answers, not_dialed, unreachable, silent, unreadable, hung_up, broken_off, ended_early
 or fault_N. With --format json it prints the same as one JSON object. In place of the number of peers that has the peers.
 

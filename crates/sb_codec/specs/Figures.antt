@@ -1,7 +1,7 @@
 -- The kinds of figures, and what figures tell.
 use Rattle.std.specs.Prelude.{ℕ, List, codes, find, nat_eq, Option, option_map}
 use Rattle.sb_codec.specs.declared.message.figure.FigureKind.{FigureKind}
-use Rattle.sb_codec.specs.declared.message.figure.FigureKind.TheVariants.{Uptime, CaughtUp, LogFault, Conflict, Version, Keys, Removals, Owners, Peers, Rounds, RoundFaults, Sessions}
+use Rattle.sb_codec.specs.declared.message.figure.FigureKind.TheVariants.{Uptime, CaughtUp, LogFault, Conflict, Version, Keys, Removals, Owners, Peers, Rounds, RoundFaults, Sessions, Workers, WorkersBusy, AllWorkersBusy, SessionFaults, LastSessionFault, OtherVersions, TurnedAway, FullWrites}
 use Rattle.sb_codec.specs.Records.{Figure}
 
 abbrev pub number_of : FigureKind → ℕ
@@ -17,6 +17,14 @@ number_of Peers = 9
 number_of Rounds = 10
 number_of RoundFaults = 11
 number_of Sessions = 12
+number_of Workers = 13
+number_of WorkersBusy = 14
+number_of AllWorkersBusy = 15
+number_of SessionFaults = 16
+number_of LastSessionFault = 17
+number_of OtherVersions = 18
+number_of TurnedAway = 19
+number_of FullWrites = 20
 
 abbrev pub word_of : FigureKind → List ℕ
 word_of Uptime = codes "uptime"
@@ -31,6 +39,14 @@ word_of Peers = codes "peers"
 word_of Rounds = codes "rounds"
 word_of RoundFaults = codes "round_faults"
 word_of Sessions = codes "sessions"
+word_of Workers = codes "workers"
+word_of WorkersBusy = codes "workers_busy"
+word_of AllWorkersBusy = codes "all_workers_busy"
+word_of SessionFaults = codes "session_faults"
+word_of LastSessionFault = codes "last_session_fault"
+word_of OtherVersions = codes "other_versions"
+word_of TurnedAway = codes "turned_away"
+word_of FullWrites = codes "full_writes"
 
 -- the value of the first figure of this number, if there is one
 abbrev pub value_at : ℕ → List Figure → Option ℕ

@@ -112,8 +112,20 @@ fn figures_have_numbers_and_words(rt: HostRuntime) {
     assert_figure(&rt, FigureKind::Rounds, 10, "rounds");
     assert_figure(&rt, FigureKind::RoundFaults, 11, "round_faults");
     assert_figure(&rt, FigureKind::Sessions, 12, "sessions");
+}
+
+#[test]
+fn figures_of_troubles_have_numbers_and_words(rt: HostRuntime) {
+    assert_figure(&rt, FigureKind::Workers, 13, "workers");
+    assert_figure(&rt, FigureKind::WorkersBusy, 14, "workers_busy");
+    assert_figure(&rt, FigureKind::AllWorkersBusy, 15, "all_workers_busy");
+    assert_figure(&rt, FigureKind::SessionFaults, 16, "session_faults");
+    assert_figure(&rt, FigureKind::LastSessionFault, 17, "last_session_fault");
+    assert_figure(&rt, FigureKind::OtherVersions, 18, "other_versions");
+    assert_figure(&rt, FigureKind::TurnedAway, 19, "turned_away");
+    assert_figure(&rt, FigureKind::FullWrites, 20, "full_writes");
     same(&rt, &FigureKind::of_number(0), &None);
-    same(&rt, &FigureKind::of_number(13), &None);
+    same(&rt, &FigureKind::of_number(21), &None);
 }
 
 /// Whether a text is read as a short text with its bytes.

@@ -1,10 +1,9 @@
 //! What a node tells of itself in numbers.
 
-ghost use Rattle.std.specs.Prelude.{◌≡◌, ◌≢◌, ℕ, true, option_map, IfSome, IfNone};
-ghost use Rattle.std.specs.Prelude.{find};
+ghost use Rattle.std.specs.Prelude.{◌≡◌, ◌≢◌, true, IfSome, IfNone};
 ghost use Rattle.sb_codec.specs.declared.message.figure.FigureKind as kinds;
 ghost use Rattle.sb_codec.specs.Records.{figure_of};
-ghost use Rattle.sb_codec.specs.Figures.{number_of, word_of, value_at};
+ghost use Rattle.sb_codec.specs.Figures.{number_of, word_of};
 ghost use Rattle.sb_codec.specs.Limits.{is_figure};
 
 use sb_types::{BYTE_LENGTH, NUMBER_LENGTH};
@@ -37,6 +36,22 @@ pub enum FigureKind {
     RoundFaults,
     /// How many connections of peers it took since it started.
     Sessions,
+    /// How many connections of peers and questions it serves at once.
+    Workers,
+    /// How many of these workers are busy.
+    WorkersBusy,
+    /// How many times all workers were busy for longer than a second.
+    AllWorkersBusy,
+    /// How many sessions that others dialed ended with a fault.
+    SessionFaults,
+    /// The number of the fault of the last of these sessions, 0 if there was none.
+    LastSessionFault,
+    /// How many frames of another version came.
+    OtherVersions,
+    /// How many connections it could not accept, or closed to make room for others.
+    TurnedAway,
+    /// How many writes it refused because it has as many keys as it may.
+    FullWrites,
 }
 
 impl FigureKind {
@@ -57,6 +72,14 @@ impl FigureKind {
             FigureKind::Rounds => 10,
             FigureKind::RoundFaults => 11,
             FigureKind::Sessions => 12,
+            FigureKind::Workers => 13,
+            FigureKind::WorkersBusy => 14,
+            FigureKind::AllWorkersBusy => 15,
+            FigureKind::SessionFaults => 16,
+            FigureKind::LastSessionFault => 17,
+            FigureKind::OtherVersions => 18,
+            FigureKind::TurnedAway => 19,
+            FigureKind::FullWrites => 20,
         }
     }
 
@@ -78,6 +101,14 @@ impl FigureKind {
             10 => FigureKind::Rounds,
             11 => FigureKind::RoundFaults,
             12 => FigureKind::Sessions,
+            13 => FigureKind::Workers,
+            14 => FigureKind::WorkersBusy,
+            15 => FigureKind::AllWorkersBusy,
+            16 => FigureKind::SessionFaults,
+            17 => FigureKind::LastSessionFault,
+            18 => FigureKind::OtherVersions,
+            19 => FigureKind::TurnedAway,
+            20 => FigureKind::FullWrites,
             _ => return None,
         })
     }
@@ -99,6 +130,14 @@ impl FigureKind {
             FigureKind::Rounds => "rounds",
             FigureKind::RoundFaults => "round_faults",
             FigureKind::Sessions => "sessions",
+            FigureKind::Workers => "workers",
+            FigureKind::WorkersBusy => "workers_busy",
+            FigureKind::AllWorkersBusy => "all_workers_busy",
+            FigureKind::SessionFaults => "session_faults",
+            FigureKind::LastSessionFault => "last_session_fault",
+            FigureKind::OtherVersions => "other_versions",
+            FigureKind::TurnedAway => "turned_away",
+            FigureKind::FullWrites => "full_writes",
         }
     }
 }
