@@ -4,3 +4,4 @@ pub mod Beginning
 pub mod Owners
 pub mod Removals
 pub mod Rows
+pub mod Status

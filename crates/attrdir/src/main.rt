@@ -44,6 +44,7 @@ mod part;
 mod pausing;
 mod release;
 mod serving;
+mod status;
 mod watching;
 mod words;
 
