@@ -110,13 +110,6 @@ impl PeerState {
         0 < self.number()
     }
 
-    /// Whether the peer is dialed for news: it is not down, and had no fault.
-    pub(crate) fn takes_news(&self) -> bool
-        ensures { result ≡ spec.takes_news self.now }
-    {
-        matches!(self, PeerState::Never | PeerState::Answers)
-    }
-
     /// Whether a peer that is so is so still behind a round that ended so.
     pub(crate) fn is_still(&self, ended: &PeerState) -> bool
         ensures { result ≡ spec.is_still self.now ended.now }
