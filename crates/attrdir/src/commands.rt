@@ -319,9 +319,9 @@ const WORKERS: Part = Part {
     help: "How many connections of peers the node serves at once",
 };
 
-/// The seats beyond workers and 2 are for news: so many peers are told at a time. See [News](#news).
+/// The seats beyond workers and 2 are for news: so many peers get it at a time. See [News](#news).
 /// Greater: More slow peers delay nobody else, in more threads.
-/// Smaller: With workers and 2, peers are told one after another. Less: Fault 5.
+/// Smaller: With workers and 2, peers get news one after another. Less: Fault 5.
 pub(crate) const SEATS: Part = Part {
     name: "seats",
     kind: Kind::NumberElse(Range::Seats(SEATS_MOST), "workers, fanout and 2"),
@@ -493,7 +493,7 @@ fn seats_for(workers: u64, fanout: u64) -> u64 {
 }
 
 /// The settings of a node. Without `--seats` there is a seat for each worker, for each peer that is dialed at once for news, and
-/// two more, as far as there may be so many.
+/// two more. There are at most as many as there may be.
 fn settings_of<'a>(given: &ArgMatches<'a>) -> RawSettings<'a> {
     let workers = WORKERS.number(given);
     let order = match ORDER.value(given) {

@@ -29,7 +29,7 @@ impl fmt::Display for Level {
     }
 }
 
-/// What a line begins with: the time, where it is wanted and the clock can be read; the program; and how much it matters.
+/// What a line begins with: the time, if it is wanted and the clock can be read; the program; and how much it matters.
 #[derive(Clone, Copy)]
 struct Head {
     time: Option<Timestamp>,
@@ -67,19 +67,19 @@ pub(crate) struct Console<'r, 'a> {
     pub(crate) control: &'a str,
     /// Whether each line begins with the time.
     pub(crate) has_time: bool,
-    /// The file that tells how the node is.
+    /// The file of metrics.
     pub(crate) metrics: Option<MetricsFile<'a>>,
     /// Which metrics the file has.
     pub(crate) series: Series,
     /// When the node was started, in seconds since 1970; 0 if the clock could not be read.
     pub(crate) started: u64,
-    /// What was said to run out.
+    /// What it has reported to run out.
     pub(crate) shortage: Shortage,
-    /// What was said of what the node suffers.
+    /// What it has reported of what the node suffers.
     pub(crate) troubles: TroubleLines,
 }
 
-/// Of what it was said that nine tenths are used, and that all are.
+/// What was reported to be used, nine tenths of it or all.
 #[derive(Drop)]
 pub(crate) struct Shortage {
     keys: AtomicBool,
@@ -89,7 +89,7 @@ pub(crate) struct Shortage {
 }
 
 impl Shortage {
-    /// Nothing was said yet.
+    /// Nothing was reported yet.
     pub(crate) fn new() -> Shortage {
         Shortage {
             keys: AtomicBool::new(false),
@@ -202,7 +202,7 @@ impl Console<'_, '_> {
         );
     }
 
-    /// Writes the file of metrics, and says where it can't be written, and where it can again.
+    /// Writes the file of metrics, and says when it can't be written, and when it can again.
     fn write_metrics(&self, file: &MetricsFile<'_>, metrics: &Metrics<'_, '_>) {
         let rt = self.rt;
         let written = file.write(rt, metrics);
@@ -217,7 +217,7 @@ impl Console<'_, '_> {
         };
     }
 
-    /// Removes the file of metrics, which tells of a node that runs.
+    /// Removes the file of metrics, which is of a node that runs.
     pub(crate) fn remove_metrics(&self) {
         if let Some(file) = &self.metrics {
             file.remove(self.rt);

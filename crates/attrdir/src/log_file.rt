@@ -89,8 +89,8 @@ fn failure_of<'a>(rt: &HostRuntime, path: &'a str, error: &Error) -> Failure<'a>
     }
 }
 
-/// A connection to a file, which is made where it is not there. `StoreFailed` where it can't be opened or another has it open;
-/// `LogDamaged` where it is no database; `NoMemory`.
+/// A connection to a file, which is made if it is not there. `StoreFailed` if it can't be opened or another has it open;
+/// `LogDamaged` if it is not a database; `NoMemory`.
 fn connect<'a>(
     rt: &HostRuntime,
     path: &'a str,
@@ -101,7 +101,7 @@ fn connect<'a>(
     }
 }
 
-/// The log of an owner of a cluster, in a file that is made where it is not there; an empty one becomes a new log. It gives versions up to
+/// The log of an owner of a cluster, in a file that is made if it is not there. An empty one becomes a new log. It gives versions up to
 /// `max_version`. The faults of `connect` and of `SqlLog::open`.
 fn log_in<'a>(
     rt: &HostRuntime,
@@ -117,7 +117,7 @@ fn log_in<'a>(
     }
 }
 
-/// The log of an owner of a cluster, in a file that is there. `StoreFailed` where it is not, or may not be read; the faults of
+/// The log of an owner of a cluster, in a file that is there. `StoreFailed` if it is not, or must not be read; the faults of
 /// `log_in`.
 pub(crate) fn open_log<'a>(
     rt: &HostRuntime,
@@ -137,7 +137,7 @@ pub(crate) fn open_log<'a>(
     log_in(rt, path, owner, cluster, max_version)
 }
 
-/// The log of an owner of a cluster, in a file that is made where it is not there. It gives all versions. The faults of `log_in`.
+/// The log of an owner of a cluster, in a file that is made if it is not there. It gives all versions. The faults of `log_in`.
 pub(crate) fn make_log<'a>(
     rt: &HostRuntime,
     path: &'a str,
@@ -175,7 +175,7 @@ pub(crate) fn print_log<'a>(
     }
 }
 
-/// Drops the removals of a log up to a version, and prints that version. The faults of `load`, where the version is the last; then
+/// Drops the removals of a log up to a version, and prints that version. The faults of `load`, if the version is the last; then
 /// those of `purge_run`.
 fn purge_to<L: WriteLog, W: Write>(
     alloc: Global,
@@ -238,8 +238,8 @@ fn count_removals(table: &Table) -> usize
 }
 
 /// Drops the removals of a log up to its last version, if it has `least` of them or more, and says what became of them. Nothing is
-/// dropped if `least` is 0. If the store of the log fails then, that is no fault: it leaves the log closed, and the removals are
-/// dropped or are not. The faults are those of `load`.
+/// dropped if `least` is 0. A store that fails then leaves the log closed, and the removals are dropped
+/// or are not; that is not a fault. The faults are those of `load`.
 pub(crate) fn purge_removals<L: WriteLog>(
     rt: &HostRuntime,
     log: &mut L,

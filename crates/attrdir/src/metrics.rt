@@ -1,4 +1,4 @@
-//! What a node tells of itself, in the text format of Prometheus.
+//! The metrics of a node, in the text format of Prometheus.
 use crate::release::{FRAMES, LOGS, RELEASE};
 use sb_run::{Peer, PeerState, Status};
 use sb_types::{KEYS_MOST, Name, OWNERS_MOST};
@@ -235,7 +235,7 @@ fn text_of(name: &Name) -> &str {
     str::from_utf8(name.bytes()).unwrap_or("")
 }
 
-/// What stands above the values of a metric.
+/// The lines above the values of a metric.
 fn write_head<W: fmt::Write>(f: &mut fmt::Formatter<W>, metric: &Metric) -> fmt::Result {
     writeln!(f, "# HELP {} {}", metric.name, metric.help)?;
     writeln!(f, "# TYPE {} {}", metric.name, metric.kind)
@@ -291,7 +291,7 @@ impl OfPeer {
         }
     }
 
-    /// Its value, where so many rounds were made.
+    /// Its value after so many rounds.
     fn value(self, peer: &Peer<'_>, rounds: u64) -> u64 {
         match (self, peer.state()) {
             (OfPeer::Up, PeerState::Answers) => 1,
@@ -384,7 +384,7 @@ impl Metrics<'_, '_> {
         self.write_one(f, &NAME_CONFLICT, u64::from(status.conflict.is_some()))
     }
 
-    /// How many of its own keys are removed: those of which the snapshot has no row.
+    /// How many of its own keys are removed: those without a row in the snapshot.
     fn removals(&self) -> u64 {
         let mut rows: usize = 0;
         for (owner, view) in self.status.snapshot.owners() {
@@ -417,8 +417,7 @@ impl Metrics<'_, '_> {
         writeln!(f, "{name}{{node=\"{node}\",owner=\"{owner}\"}} {value}")
     }
 
-    /// A metric of each owner: those that the snapshot shows, and then those that are held at version 0, of which it shows
-    /// nothing.
+    /// A metric of each owner: those that the snapshot shows, and then those that it does not, which are held at version 0.
     fn write_owners<W: fmt::Write>(&self, f: &mut fmt::Formatter<W>, what: OfOwner) -> fmt::Result {
         let metric = what.metric();
         write_head(f, &metric)?;

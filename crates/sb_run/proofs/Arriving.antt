@@ -33,6 +33,12 @@ pub has_come : (message : Message) (old new : Stream) (from to : Option (List �
 has_come message (open_with held) new from to before left call = (call.bytes, call.consumed, call.given)
 has_come message shut new from to before left call = absurd (let is = call.0 in cc)
 
+-- the same, where what was given is named otherwise
+pub some_came : (message : Message) (found : Option Message) (old new : Stream) (from to : Option (List ℕ)) (before left : ℕ) → found ≡ Some message
+    → Receives old new from to before left (Ok found) → HasCome message old new from to
+some_came message found old new from to before left is call =
+    has_come message old new from to before left (subst (λ (o : Option Message). Receives old new from to before left (Ok o)) is call)
+
 pub has_missed : AreOfFrames → (fault : Fault) (old new : Stream) (from to : Option (List ℕ)) (before left : ℕ)
     → Receives old new from to before left (Err fault) → fault ≡ ReadFailed → HasGrown old new from to
 has_missed are fault old new from to before left call is = has_grown are fault old new from to before left (ap is_frame_fault is) call

@@ -48,7 +48,7 @@ enum Left {
     Failed,
 }
 
-/// The connections that wait at both sockets, and where they go from here.
+/// The connections that wait at both sockets, and the way to the threads that serve them.
 #[derive(Drop)]
 struct Backlog {
     peers: WaitingList,
@@ -200,7 +200,7 @@ impl Backlog {
         self.faults = self.faults.saturating_add(closed);
     }
 
-    /// How long it is until the time of a connection is over; none where no time is.
+    /// How long it is until the time of a connection is over; none if no connection has one.
     fn time_left<Q: Clock>(&self, clock: &Q) -> Option<Duration> {
         let first = match (self.peers.first_until(), self.callers.first_until()) {
             (Some(one), Some(other)) => Some(one.min(other)),
@@ -214,7 +214,7 @@ impl Backlog {
     }
 }
 
-/// How long the next poll may wait, where so much is left to accept.
+/// How long the next poll may wait, by how much is left to accept.
 fn patience(left: [Left; 2], time_left: Option<Duration>) -> Option<Duration> {
     if left.contains(&Left::More) {
         return Some(Duration::ZERO);

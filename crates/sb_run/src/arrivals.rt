@@ -30,7 +30,7 @@ pub(crate) enum Job {
     Question(Ask, UnixStream),
 }
 
-/// What a caller asked, and where its answer goes.
+/// What a caller asked, and the connection that gets the answer.
 #[derive(Drop)]
 pub(crate) struct Request {
     pub(crate) message: Message,
@@ -104,7 +104,7 @@ impl Handover {
             .is_ok()
     }
 
-    /// Hands a session to the workers. `ReadFailed` where too many wait for one, or where the connection can't be used.
+    /// Hands a session to the workers. `ReadFailed` if too many wait for one, or if the connection can't be used.
     pub(crate) fn give_session<R: Wait>(
         &mut self,
         rt: &R,
@@ -120,8 +120,8 @@ impl Handover {
         }
     }
 
-    /// Hands a question to a worker if one is free, and any other request, or where none is free, to the calling thread.
-    /// `ReadFailed` where too many wait for that, or where the connection can't be used.
+    /// Hands a question to a worker if one is free. If none is, or if it is another request, the calling thread gets it.
+    /// `ReadFailed` if too many wait for that, or if the connection can't be used.
     pub(crate) fn give_request<R: Wait>(
         &mut self,
         rt: &R,
@@ -199,7 +199,7 @@ impl<'a, R> Arrivals<'a, R> {
 }
 
 impl<'a, R: Clock> Arrivals<'a, R> {
-    /// What a worker takes of a job. `ReadFailed` where the limits of the connection can't be set, or there is no descriptor.
+    /// What a worker takes of a job. `ReadFailed` if the limits of the connection can't be set, or there is no descriptor.
     fn taken_of(&self, job: Job) -> Result<Taken<Timed<'a, R>, Timed<'a, R>>, Fault>
         ensures { IfOk result (λ taken. IsNumbered taken) }
     {

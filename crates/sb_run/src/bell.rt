@@ -7,7 +7,7 @@ use sb_types::{Delta, Fault};
 use std::alloc::Global;
 use std::sync::atomic::{AtomicBool, Ordering};
 
-/// Wakes the threads that dial where there is something new to pass on. Sessions pass it as a gate that turns nobody away.
+/// Wakes the threads that dial when there is something new to pass on. Sessions pass it as a gate that turns nobody away.
 #[derive(Drop)]
 pub(crate) struct Bell {
     /// Wakes the thread of the turns.
@@ -16,13 +16,13 @@ pub(crate) struct Bell {
     news: Unparker,
     /// Whether there is news that no burst has taken up.
     has_news: AtomicBool,
-    /// Whether an owner may have come of whom nothing was held.
+    /// Whether an owner may have come that was not held.
     has_new_owner: AtomicBool,
     /// Whether a peer told of writes before which others are missing.
     has_gap: AtomicBool,
 }
 
-/// Where the threads wait that a bell wakes.
+/// The threads that a bell wakes wait at them.
 #[derive(Drop)]
 pub(crate) struct Parkers {
     pub(crate) turns: Parker,
@@ -30,7 +30,7 @@ pub(crate) struct Parkers {
 }
 
 impl Bell {
-    /// A bell, and where the threads wait that it wakes. `NoMemory`.
+    /// A bell, and what the threads that it wakes wait at. `NoMemory`.
     pub(crate) fn new(alloc: Global) -> Result<(Bell, Parkers), Fault>
         ensures { IfErr result (λ fault. fault ≡ Fault.NoMemory) }
     {
@@ -48,7 +48,7 @@ impl Bell {
         Ok((bell, parkers))
     }
 
-    /// Says that there is news, and whether it is of an owner of whom nothing was held.
+    /// Says that there is news, and whether it is of an owner that was not held.
     pub(crate) fn ring(&self, is_new_owner: bool) {
         if is_new_owner {
             self.has_new_owner.store(true, Ordering::SeqCst);

@@ -8,7 +8,7 @@ use sb_table::Table;
 use sb_types::{Fault, Key, Name, Slot};
 use std::alloc::Global;
 
-/// A log that its node can close although its store stands: because a write into it would be lost.
+/// A log that its node can close although its store did not fail, because a write into it would be lost.
 #[derive(Drop)]
 pub(crate) struct ClosableLog<L: WriteLog> {
     log: L,

@@ -30,8 +30,8 @@ pub(crate) struct ControlEnd<S: RoundsTag> {
 }
 
 impl<S: RoundsTag, H: Wait + Drop, Q: Wait + Clock> NodeContext<'_, S, H, Q> {
-    /// Answers a request, and says whether that ended with a fault. The answer is taken within the node's `request`. Where that
-    /// limit can't be set nothing is done.
+    /// Answers a request, and says whether that ended with a fault. The answer is taken within the node's `request`. If that
+    /// limit can't be set, nothing is done.
     fn answer_one<L: WriteLog>(
         &self,
         writes: &mut OwnWrites<L>,
@@ -106,7 +106,7 @@ impl<S: RoundsTag, H: Wait + Drop, Q> NodeContext<'_, S, H, Q> {
 
 impl<S: RoundsTag, H: Wait + Drop, Q: Wait + Clock> NodeContext<'_, S, H, Q> {
     /// Answers one request after another, until the node is to end. It ends the node itself if the log takes no more writes and
-    /// the node is to exit then: before the first request, if the log is closed at the start.
+    /// the node is to exit then. If the log is closed at the start, that is before the first request.
     pub(crate) fn answer_requests<L: WriteLog + Drop, O: Observer>(
         &self,
         requests: Requests,

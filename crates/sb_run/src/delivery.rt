@@ -29,7 +29,7 @@ pub(crate) struct Deliveries {
 }
 
 impl Deliveries {
-    /// Nothing is due to so many peers, of which so many can be brought news at a time. `NoMemory`.
+    /// Nothing is due to so many peers. So many of them can be brought news at a time. `NoMemory`.
     pub(crate) fn new(alloc: Global, count: usize, most: usize) -> Result<Deliveries, Fault>
         ensures memory { IfErr result (λ fault. fault ≡ Fault.NoMemory) }
     {
@@ -49,7 +49,7 @@ impl Deliveries {
         self.all.len()
     }
 
-    /// The index of the peer whose turn it is to be brought news; behind the last comes the first.
+    /// The index of the peer whose turn it is to be brought news; after the last comes the first.
     pub(crate) fn next_index(&mut self) -> usize
         ensures index { result ≡ turn_of (vec_len self.old.all) self.old.turn }
         ensures next { self.new.turn ≡ result + 1 }
@@ -60,7 +60,7 @@ impl Deliveries {
         index
     }
 
-    /// Whether one more session with a slow peer leaves room for a session with another; also where there is room for one alone.
+    /// Whether one more session with a slow peer leaves room for a session with another. It does if there is room for one alone.
     fn has_room(&self) -> bool {
         let mut slow: usize = 0;
         for delivery in &self.all {
@@ -91,8 +91,8 @@ impl Deliveries {
         }
     }
 
-    /// Begins a session for news with the peer at this index, if it can begin, and says whether it does: there is news for
-    /// the peer, no other session for news with it is under way, and the peer is not slow or there is room for a slow one.
+    /// Begins a session for news with the peer at this index, if it can begin, and says whether it does. It can if there is news
+    /// for the peer, no other session for news with it is under way, and the peer is not slow or there is room for a slow one.
     pub(crate) fn begin(&mut self, index: usize) -> bool
         ensures most { self.new.most ≡ self.old.most }
         ensures begins { IfSome (slice_get self.old.all.items index) (λ delivery. result ≡ true → (delivery.is_due ≡ true) × (delivery.is_open ≡ false)) }

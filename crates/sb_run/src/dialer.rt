@@ -33,7 +33,7 @@ const SLOW_SESSION: u64 = 500;
 pub(crate) struct Dialing<'a, O> {
     observer: &'a O,
     schedule: Mutex<Schedule<'a>>,
-    /// Where the one of the threads for news waits that is to dial next.
+    /// The thread for news that is to dial next waits at it.
     parker: Mutex<Parker>,
     /// The digests that tell of all owners that the node holds, if they were made.
     digests: Mutex<Option<OwnDigests>>,
@@ -275,7 +275,7 @@ impl<'a, O: Observer> Dialing<'a, O> {
         seat
     }
 
-    /// Looks whether the file of the log is lost, behind a round, and ends the node if it is to exit then.
+    /// Looks after a round whether the file of the log is lost, and ends the node if it is to exit then.
     pub(crate) fn look_at_log<S: RoundsTag, H: Wait + Drop, Q: Wait>(
         &self,
         node: &NodeContext<S, H, Q>,

@@ -2,7 +2,7 @@
 
 use std::time::{Clock, Duration, Instant};
 
-/// The moment so many milliseconds after this one. None where the clock can't be read.
+/// The moment so many milliseconds after this one. None if the clock can't be read.
 pub(crate) fn moment_after<Q: Clock>(clock: &Q, milliseconds: u64) -> Option<Instant> {
     match Instant::now(clock) {
         Ok(now) => now.checked_add(Duration::from_millis(milliseconds)),
@@ -10,7 +10,7 @@ pub(crate) fn moment_after<Q: Clock>(clock: &Q, milliseconds: u64) -> Option<Ins
     }
 }
 
-/// Whether a moment has come; also where the clock can't be read, which is no reason to wait.
+/// Whether a moment has come. If the clock can't be read, it has, since that is no reason to wait.
 pub(crate) fn is_past<Q: Clock>(clock: &Q, moment: Instant) -> bool {
     match Instant::now(clock) {
         Ok(now) => now >= moment,

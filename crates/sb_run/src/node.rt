@@ -24,7 +24,7 @@ use std::sync::ledger::Blank;
 pub struct Paths<'a> {
     /// Where its peers connect.
     pub sock: &'a str,
-    /// Where its clients connect: who writes its rows, or asks for rows of any owner.
+    /// Where its clients connect, which write its rows and ask for rows of any owner.
     pub control: &'a str,
     /// Where its peers listen.
     pub peers: &'a [&'a str],
@@ -176,7 +176,7 @@ pub fn run_node<
 }
 
 /// Runs the node that owns a log whose store failed, with the table that was read from it before. All is as with `run_node`,
-/// but that the log is not read: the node refuses writes by `Closed`, and serves its peers and readers. It tells the observer at
+/// except that the log is not read: the node refuses writes by `Closed`, and serves its peers and readers. It reports to the observer at
 /// once that the log failed, and ends then, if that is what `on_log_fault` says. A log that is open is run by `run_node`.
 pub fn run_closed_node<
     L: WriteLog + Drop,

@@ -42,23 +42,23 @@ use crate::status::Status;
 /// }
 /// ```
 pub trait Observer {
-    /// Both sockets are bound, and nothing is served or dialed yet. It is told once.
+    /// Both sockets are bound, and nothing is served or dialed yet. It is called once.
     fn listening(&self);
 
-    /// How the peer at this path is, where its last round ended so that it is otherwise than before: it was not dialed yet,
-    /// answered, was down, or had another fault. `Answers` where all exchanges of digests of this one round were made. A peer
-    /// that is down is told once, for its first reason, until a round ends otherwise. One that hangs up unheard behind a
-    /// refused Hello is as it was, since that is the same refusal.
+    /// How the peer at this path is, if by its last round it is otherwise than before: it was not dialed yet, answered, was
+    /// down, or had another fault. `Answers` if all exchanges of digests of this one round were made. For a peer that is down it
+    /// is called once, with the first reason, until a round ends otherwise. One that hangs up unheard after a refused Hello is as
+    /// it was, since that is the same refusal.
     fn dialed(&self, peer: &str, state: PeerState);
 
-    /// Another node writes under this node's name, of which this version was seen. It is told once, behind a round.
+    /// Another node writes under this node's name: this version of it was seen. It is called once, after a round.
     fn conflict(&self, version: u64);
 
     /// The node takes no more writes into its log, by this cause. If the store of the log failed at a write, the log has the write
-    /// or has it not. It is told once.
+    /// or has it not. It is called once.
     fn log_failed(&self, _cause: LogCause) {}
 
-    /// How the file of the node's log was lost; none if it is there, or if that cannot be seen. It is asked behind each round, and
+    /// How the file of the node's log was lost; none if it is there, or if that cannot be seen. It is asked after each round, and
     /// before each request that the calling thread answers, until the log fails.
     fn log_loss(&self) -> Option<LogLoss> {
         None
@@ -69,15 +69,15 @@ pub trait Observer {
         false
     }
 
-    /// How the node is, where it wants to know: behind a round by which a peer is otherwise than before, and behind each that
-    /// ends a second or more after it was told last.
+    /// How the node is, if it wants to know. It is called after a round by which a peer is otherwise than before, and after each
+    /// that ends a second or more after the last call.
     fn status(&self, _status: &Status<'_>) {}
 
-    /// At this path lay the socket of a node that no longer runs, and it was removed. It is told before `listening`.
+    /// At this path lay the socket of a node that no longer runs, and it was removed. It is called before `listening`.
     fn socket_removed(&self, _path: &str) {}
 }
 
-/// Nobody, who does nothing with what is told.
+/// Nobody, who does nothing with what happens.
 #[derive(Clone, Copy, Debug)]
 pub struct Nobody;
 

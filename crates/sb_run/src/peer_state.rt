@@ -24,7 +24,7 @@ pub enum DownReason {
 }
 
 impl DownReason {
-    /// The number of the fault by which such a round ends: 16 or 17; 0 of an end before its time, which is no fault.
+    /// The number of the fault by which such a round ends: 16 or 17; 0 of an end before its time.
     pub fn number(&self) -> u8
         ensures { result ≡ spec.number_of_reason self.now }
     {
@@ -58,7 +58,7 @@ pub enum PeerState {
     Answers,
     /// It does not answer. The reason is that of the first round that ended so, and stays for as long as it is down.
     Down(DownReason),
-    /// Its last round ended by this fault. Where a round ends so behind such a fault, the fault stays the first.
+    /// Its last round ended by this fault. If more rounds end by it, the fault stays the first.
     Failed(Fault),
 }
 
@@ -92,7 +92,7 @@ impl PeerState {
         }
     }
 
-    /// The number of the fault by which it is so; 0 where there is none.
+    /// The number of the fault by which it is so; 0 without a fault.
     pub fn number(&self) -> u8
         ensures { result ≡ spec.number_of_state self.now }
     {
@@ -110,7 +110,7 @@ impl PeerState {
         0 < self.number()
     }
 
-    /// Whether a peer that is so is so still behind a round that ended so.
+    /// Whether a peer that is so is so still after a round that ended so.
     pub(crate) fn is_still(&self, ended: &PeerState) -> bool
         ensures { result ≡ spec.is_still self.now ended.now }
     {

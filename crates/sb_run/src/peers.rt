@@ -18,7 +18,7 @@ const MISSES_MOST: u64 = 2;
 pub struct Peer<'a> {
     path: &'a str,
     state: PeerState,
-    /// The number of its last round, from 1; 0 where there was none.
+    /// The number of its last round, from 1; 0 before the first.
     round: u64,
     /// How many more of its turns it is passed over.
     turns_out: u64,
@@ -40,7 +40,7 @@ impl<'a> Peer<'a> {
         self.state
     }
 
-    /// The number of its last round, from 1; 0 where there was none.
+    /// The number of its last round, from 1; 0 before the first.
     pub fn round(&self) -> u64 {
         self.round
     }
@@ -86,7 +86,7 @@ impl<'a> Peer<'a> {
     }
 }
 
-/// Whose turn it is of so many: behind the last comes the first.
+/// Whose turn it is of so many: after the last comes the first.
 pub(crate) fn turn_of(count: usize, turn: usize) -> usize
     ensures { result ≡ spec.turn_of count turn }
 {
@@ -127,7 +127,7 @@ impl<'a> Peers<'a> {
         })
     }
 
-    /// Takes the next turn: the index of the peer whose turn it is, and whether it is passed over. None where there are no
+    /// Takes the next turn: the index of the peer whose turn it is, and whether it is passed over. None if there are no
     /// peers.
     fn take_turn(&mut self) -> Option<(usize, bool)>
         ensures none { result ≡ None → vec_len self.old.all ≡ 0 }
@@ -149,8 +149,8 @@ impl<'a> Peers<'a> {
         Some((turn, is_out))
     }
 
-    /// The index of the peer whose turn it is; behind the last comes the first. One that kept the node waiting is passed over
-    /// in seven of its turns. None where there are no peers.
+    /// The index of the peer whose turn it is; after the last comes the first. One that kept the node waiting is passed over
+    /// in seven of its turns. None if there are no peers.
     pub(crate) fn next_in_turn(&mut self) -> Option<usize>
         ensures first { IfSome (slice_get self.old.all.items (spec.turn_of (vec_len self.old.all) self.old.turn))
             (λ peer. peer.turns_out ≡ 0 → result ≡ Some (spec.turn_of (vec_len self.old.all) self.old.turn)) }
@@ -162,7 +162,7 @@ impl<'a> Peers<'a> {
         if is_out { self.pass_over() } else { Some(turn) }
     }
 
-    /// The index of the next peer that is not passed over, behind one that is.
+    /// The index of the next peer that is not passed over, after one that is.
     fn pass_over(&mut self) -> Option<usize>
         ensures within { IfSome result (λ index. index < vec_len self.new.all) }
         ensures next { IfSome result (λ index. self.new.turn ≡ index + 1) }
@@ -178,7 +178,7 @@ impl<'a> Peers<'a> {
         None
     }
 
-    /// Takes the next turn of a burst: the index of the peer whose turn it is, and whether it is dialed for news. None where
+    /// Takes the next turn of a burst: the index of the peer whose turn it is, and whether it is dialed for news. None if
     /// there are no peers.
     fn take_burst_turn(&mut self) -> Option<(usize, bool)>
         ensures none { result ≡ None → vec_len self.old.all ≡ 0 }
@@ -194,7 +194,7 @@ impl<'a> Peers<'a> {
         Some((turn, peer.takes_news()))
     }
 
-    /// The index of the next peer that is dialed for news; none where nobody is.
+    /// The index of the next peer that is dialed for news; none if nobody is.
     pub(crate) fn next_in_burst(&mut self) -> Option<usize>
         ensures first { IfSome (slice_get self.old.all.items (spec.turn_of (vec_len self.old.all) self.old.burst_turn))
             (λ peer. spec.takes_news peer ≡ true → result ≡ Some (spec.turn_of (vec_len self.old.all) self.old.burst_turn)) }
@@ -211,7 +211,7 @@ impl<'a> Peers<'a> {
         }
     }
 
-    /// The index of the next peer that is dialed for news, behind one that is not.
+    /// The index of the next peer that is dialed for news, after one that is not.
     fn pass_over_in_burst(&mut self) -> Option<usize>
         ensures fit { IfSome result (λ index. IfSome (slice_get self.new.all.items index) (λ peer. spec.takes_news peer ≡ true)) }
         ensures within { IfSome result (λ index. index < vec_len self.new.all) }
@@ -238,7 +238,7 @@ impl<'a> Peers<'a> {
         count
     }
 
-    /// The path of a peer; the empty one where there is none.
+    /// The path of a peer; the empty one if there is none.
     pub(crate) fn path(&self, index: usize) -> &'a str
         ensures { IfSome (slice_get self.now.all.items index) (λ peer. result ≡ peer.path) }
     {
@@ -248,7 +248,7 @@ impl<'a> Peers<'a> {
         }
     }
 
-    /// Whether the peer at this index is dialed for news; false where there is none.
+    /// Whether the peer at this index is dialed for news; false if there is no such peer.
     pub(crate) fn takes_news(&self, index: usize) -> bool
         ensures { IfSome (slice_get self.now.all.items index) (λ peer. result ≡ spec.takes_news peer) }
     {
@@ -263,8 +263,8 @@ impl<'a> Peers<'a> {
         &self.all
     }
 
-    /// Takes down how the round of this number with a peer ended, and whether that kept the node waiting. Where the peer is
-    /// otherwise than before it tells the observer, and says so.
+    /// Takes down how the round of this number with a peer ended, and whether that kept the node waiting. If the peer is
+    /// otherwise than before, it reports that to the observer, and says so.
     pub(crate) fn note<O: Observer>(
         &mut self,
         index: usize,

@@ -29,7 +29,7 @@ use std::thread::Threads;
 pub enum Taken<I, O> {
     /// The connection of a peer, as a reader and a writer, with the number of its session, from 1.
     Session(u64, I, O),
-    /// The question of a caller, and where its answer goes.
+    /// The question of a caller, and the writer that gets its answer.
     Question(Ask, O),
 }
 
@@ -44,7 +44,7 @@ pub trait Source {
     /// What holds once there are no more connections; it may be nothing.
     ghost over: { Self → Type 0 };
 
-    /// What holds where it gives a question; it may be nothing. Where it never gives one this may be false.
+    /// What holds when it gives a question; it may be nothing. If it never gives one this may be false.
     ghost asks: { Self → Type 0 };
 
     /// The next connection. `None` once there are no more; a fault if one could not be had, after which the next may be asked

@@ -13,8 +13,8 @@ use sb_types::{Fault, Name, OWNERS_MOST};
 use std::sync::Wait;
 use std::time::Clock;
 
-/// The owners that the node holds at version 0, in ascending order: each of which it has a stage alone, and itself before its
-/// first write. `NoMemory`.
+/// The owners that the node holds at version 0, in ascending order: those with nothing but a stage, and itself before its first
+/// write. `NoMemory`.
 fn owners_at_zero<S: RoundsTag, H: Wait + Drop, Q: Wait>(
     node: &NodeContext<S, H, Q>,
     seat: &mut ReaderSeat<S>,

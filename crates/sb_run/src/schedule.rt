@@ -41,7 +41,7 @@ pub(crate) enum Cause {
 pub(crate) enum NewsStep {
     /// Dial the peer at this index.
     Dial(usize),
-    /// Wait until it is woken, or until this moment, where one is given.
+    /// Wait until it is woken, or until this moment, if it is one.
     Wait(Option<Instant>),
 }
 
@@ -71,8 +71,8 @@ pub(crate) struct Schedule<'a> {
 }
 
 impl<'a> Schedule<'a> {
-    /// The schedule of a node that dials these peers and makes so many rounds, 0 for rounds without end, with so many
-    /// sessions for news at a time. `NoMemory`.
+    /// The schedule of a node that dials these peers, with so many sessions for news at a time. It makes so many rounds, 0 for
+    /// rounds without end. `NoMemory`.
     pub(crate) fn new(
         alloc: Global,
         paths: &[&'a str],
@@ -136,8 +136,8 @@ impl<'a> Schedule<'a> {
         }
     }
 
-    /// What a thread that dials for news is to do next. A burst begins where there is news and no earlier news can be brought,
-    /// but news that comes soon after a burst began is gathered first.
+    /// What a thread that dials for news is to do next. A burst begins if there is news and no earlier news can be
+    /// brought. News that comes soon after a burst began is gathered first.
     pub(crate) fn next_news<Q: Clock>(&mut self, clock: &Q, bell: &Bell, pace: &Pace) -> NewsStep {
         if pace.pause == 0 || pace.fanout == 0 {
             return NewsStep::Wait(None);
@@ -245,7 +245,7 @@ impl<'a> Schedule<'a> {
         has_changed
     }
 
-    /// The path of a peer; the empty one where there is none.
+    /// The path of a peer; the empty one if there is no such peer.
     pub(crate) fn path(&self, index: usize) -> &'a str {
         self.peers.path(index)
     }

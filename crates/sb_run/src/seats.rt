@@ -4,8 +4,8 @@ ghost use Rattle.std.specs.Prelude.{◌≡◌, ◌+◌, ◌≤◌, length, vec_l
 use sb_directory::{DirectoryTag, ReaderSeat};
 use sb_types::Fault;
 
-/// The seats of a node's threads: one for each worker, one for each thread that dials for news, one for the thread that dials
-/// in turn, and one for the calling thread.
+/// The seats of a node's threads. Each worker and each thread that dials for news has one, and so have the thread that dials in
+/// turn and the calling thread.
 #[derive(Drop)]
 pub(crate) struct ThreadSeats<S: DirectoryTag> {
     pub(crate) workers: Vec<ReaderSeat<S>>,

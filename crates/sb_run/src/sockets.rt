@@ -45,8 +45,8 @@ fn is_left_behind<R: Files + Net>(rt: &R, path: &str) -> bool {
 }
 
 impl<'a> BoundSocket<'a> {
-    /// Binds a socket at a path where no file is, and makes one. A socket at which nobody listens any more is removed before,
-    /// and the observer is told. `ReadFailed`, also of an empty path, which leaves what was there.
+    /// Binds a socket at a path without a file, and makes one. If a socket is there at which nobody listens any more, it is
+    /// removed first, and the observer is called. `ReadFailed`, also of an empty path, which leaves what was there.
     fn bind<R: Files + Net, O: Observer>(
         rt: &R,
         path: &'a str,
@@ -77,7 +77,7 @@ impl<'a> BoundSocket<'a> {
         let _ = remove_file(rt, self.path);
     }
 
-    /// The next connection, whose reads and writes do not wait; `WouldBlock` where there is none.
+    /// The next connection, whose reads and writes do not wait; `WouldBlock` if there is none.
     pub(crate) fn accept(&self) -> io::Result<net::UnixStream> {
         let (stream, _) = self.listener.accept()?;
         Ok(stream)
@@ -98,8 +98,8 @@ fn poll_of<R: Net>(
 }
 
 impl<'a> BoundSockets<'a> {
-    /// Binds both sockets, and tells the observer of each that was left behind. The poll reports the connections that wait at
-    /// them. `ReadFailed` where one can't be bound, or where there is no poll; then there is no file that was not there.
+    /// Binds both sockets, and reports to the observer each that was left from before. The poll reports the connections that wait at
+    /// them. `ReadFailed` if one can't be bound, or if there is no poll; then there is no file that was not there.
     pub(crate) fn bind<R: Files + Net, O: Observer>(
         rt: &R,
         sock: &'a str,
@@ -145,7 +145,7 @@ impl<'a> BoundSockets<'a> {
     }
 }
 
-/// Connects to the socket at a path. It does not wait where that has no room for one more connection, and fails.
+/// Connects to the socket at a path. If that has no room for one more connection, it does not wait, and fails.
 pub(crate) fn connect<R: Net>(rt: &R, path: &str) -> io::Result<UnixStream> {
     blocking_stream(net::UnixStream::connect(rt, path)?)
 }
@@ -157,7 +157,7 @@ pub(crate) fn blocking_stream(stream: net::UnixStream) -> io::Result<UnixStream>
     Ok(stream)
 }
 
-/// Lets each read and each write of a connection fail where no byte moved for so many milliseconds; 0 for no limit.
+/// Lets each read and each write of a connection fail once no byte moved for so many milliseconds; 0 for no limit.
 pub(crate) fn limit(stream: &UnixStream, idle: u64) -> io::Result<()> {
     if idle == 0 {
         return Ok(());

@@ -27,12 +27,12 @@ pub struct Status<'a> {
     pub keys: usize,
     /// Why its log takes no writes; none if it takes them.
     pub log_cause: Option<LogCause>,
-    /// The version under its name that another node wrote; none where no such was seen.
+    /// The version under its name that another node wrote; none if no such was seen.
     pub conflict: Option<u64>,
     /// What the seat of the thread that dials in turn sees of it.
     pub snapshot: Snapshot<'a>,
-    /// The owners that it held at version 0 shortly before, in ascending order: each of which it has a stage alone, and itself
-    /// before its first write. None is listed if memory is missing. The snapshot may show some of them by now.
+    /// The owners that it held at version 0 shortly before, in ascending order: those with nothing but a stage, and itself before
+    /// its first write. None is listed if memory is missing. The snapshot may show some of them by now.
     pub owners_at_zero: &'a [Name],
     /// Whom it dials.
     pub peers: &'a [Peer<'a>],

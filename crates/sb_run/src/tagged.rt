@@ -72,7 +72,7 @@ fn seat_all<S: RoundsTag, R: Wait>(
 }
 
 /// Makes the directory and its seats, binds both sockets, runs the threads, and removes the sockets' files. `NoMemory`;
-/// `ReadFailed` where a socket can't be bound; `StoreFailed` where the log failed and the node is to exit then.
+/// `ReadFailed` if a socket can't be bound; `StoreFailed` if the log failed and the node is to exit then.
 pub(crate) fn run_tagged<
     S: RoundsTag + Send + Sync,
     L: WriteLog + Drop,

@@ -104,7 +104,7 @@ fn serve_arrivals<
     }
 }
 
-/// Makes all rounds, sends how many to the calling thread, and ends the node; or leaves where the node ended before.
+/// Makes all rounds, sends how many to the calling thread, and ends the node; or leaves if the node ended before.
 fn dial_to_the_end<'a, S: RoundsTag, H: Wait + Drop, Q: Wait + Net + Clock, O: Observer>(
     node: &NodeContext<S, H, Q>,
     dialing: &Dialing<'a, O>,
@@ -121,9 +121,9 @@ fn dial_to_the_end<'a, S: RoundsTag, H: Wait + Drop, Q: Wait + Net + Clock, O: O
 }
 
 impl<O: Observer + Sync> Dialer<'_, O> {
-    /// Runs the threads of a node to their end: the one that accepts, its workers, those that dial, and the calling one, which
-    /// makes the own writes. `NoMemory` if the thread that accepts, that of the pool, the first for news, or the one that dials in
-    /// turn can't be made; `StoreFailed` if the log failed and the node is to exit then.
+    /// Runs the threads of a node to their end. One accepts, some are workers, some dial, and the calling one makes the own
+    /// writes. `NoMemory` if the thread that accepts, that of the pool, the first for news, or the one that dials in turn can't be
+    /// made. `StoreFailed` if the log failed and the node is to exit then.
     pub(crate) fn run_threads<
         S: RoundsTag + Send + Sync,
         L: WriteLog + Drop,

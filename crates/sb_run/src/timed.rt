@@ -9,7 +9,7 @@ use std::io::{Read, Write};
 use std::os::unix::net::UnixStream;
 use std::time::{Clock, Duration, Instant};
 
-/// The time from one moment to a later one. `TimedOut` where it is not later.
+/// The time from one moment to a later one. `TimedOut` if it is not later.
 fn time_between(now: Instant, until: Instant) -> io::Result<Duration>
     ensures { IfOk result (λ left. (as_nanos left + instant_nanos now ≡ instant_nanos until) × (0 < as_nanos left)) }
 {
@@ -58,8 +58,8 @@ impl<'a, Q: Clock> Timed<'a, Q> {
         }
     }
 
-    /// How long the next read or write may wait; none where the limit that the connection has is the only one. `TimedOut`
-    /// where the time is over.
+    /// How long the next read or write may wait; none if the limit that the connection has is the only one. `TimedOut`
+    /// if the time is over.
     fn left(&mut self) -> io::Result<Option<Duration>>
         ensures unlimited { self.old.whole ≡ 0 → (result ≡ Ok None) }
         ensures limited { self.old.until ≢ None → IfOk result (λ left. left ≡ None → self.old.whole ≡ 0) }

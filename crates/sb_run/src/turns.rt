@@ -16,25 +16,25 @@ use std::net::Net;
 use std::sync::Wait;
 use std::time::{Clock, Instant};
 
-/// After how long the observer is told again how the node is, in milliseconds.
+/// After how long the observer gets the status of the node again, in milliseconds.
 const STATUS_INTERVAL: u64 = 1_000;
 
 /// What the thread has alone that dials in turn.
 #[derive(Drop)]
 pub(crate) struct Turns<'a> {
-    /// Where it waits.
+    /// It waits at it.
     parker: Parker,
     /// Whether it dials for news too, since there is no other thread for that.
     is_alone: bool,
-    /// How the peers were when the observer was told last.
+    /// How the peers were in the last status.
     peers: Vec<Peer<'a>>,
     /// How many rounds had ended then.
     reported: u64,
-    /// When the observer is to be told again how the node is; at once, where none is given.
+    /// When the observer is to get the status of the node again; at once if this is none.
     status_due: Option<Instant>,
-    /// Whether the observer was told that another node writes under this node's name.
+    /// Whether the observer knows that another node writes under this node's name.
     is_conflict_reported: bool,
-    /// When the next round in turn is due. None where the clock can't be read.
+    /// When the next round in turn is due. None if the clock can't be read.
     due: Option<Instant>,
     /// From when on a gap may hasten the next round in turn; at once, where none is given.
     hastens_from: Option<Instant>,
@@ -62,8 +62,8 @@ impl<'a> Turns<'a> {
         })
     }
 
-    /// Whether the observer is to be told how the node is: a peer is otherwise than before, or a round has ended and it was not
-    /// told for a second.
+    /// Whether the observer is to get the status of the node: a peer is otherwise than before, or a round has ended and the last
+    /// status is a second old.
     fn is_status_due<O: Observer, Q: Wait + Clock>(
         &self,
         rt: &Q,
@@ -76,7 +76,7 @@ impl<'a> Turns<'a> {
         has_changed || ended != self.reported && is_late
     }
 
-    /// Tells the observer how the node is, where it wants to know and is to be told by now.
+    /// Reports the status of the node to the observer, if it wants to know and it is time.
     fn tell_status<S: RoundsTag, H: Wait + Drop, Q: Wait + Clock, O: Observer>(
         &mut self,
         node: &NodeContext<S, H, Q>,
@@ -93,7 +93,7 @@ impl<'a> Turns<'a> {
         node.report_status(observer, counts, self.peers.as_slice(), seat)
     }
 
-    /// Publishes what there was no memory to publish before, and tells the observer, once, that another node writes under this
+    /// Publishes what there was no memory to publish before, and reports to the observer, once, that another node writes under this
     /// node's name.
     fn refresh_and_report<S: RoundsTag, H: Wait + Drop, Q: Wait, O: Observer>(
         &mut self,
@@ -111,7 +111,7 @@ impl<'a> Turns<'a> {
         }
     }
 
-    /// Makes the round in turn that has begun, with the peer at this index if there are peers. The next is due behind the pause.
+    /// Makes the round in turn that has begun, with the peer at this index if there are peers. The next is due after the pause.
     fn make_round<S: RoundsTag, H: Wait + Drop, Q: Wait + Net + Clock, O: Observer>(
         &mut self,
         node: &NodeContext<S, H, Q>,
@@ -135,7 +135,7 @@ impl<'a> Turns<'a> {
         current
     }
 
-    /// Waits until the next round in turn is due or the thread is woken, and no longer than until this moment, where one is given.
+    /// Waits until the next round in turn is due or the thread is woken, and no longer than until this moment, if it is one.
     fn park<Q: Wait + Clock>(&self, rt: &Q, until: Option<Instant>) {
         let moment = match (self.due, until) {
             (Some(due), Some(until)) if due <= until => Some(due),
@@ -166,8 +166,8 @@ impl<'a> Turns<'a> {
         true
     }
 
-    /// Waits until the next round in turn is due or hastened, or the node is to end. Meanwhile it tells the observer what the other threads
-    /// met, and dials for news itself if it is alone.
+    /// Waits until the next round in turn is due or hastened, or the node is to end. Meanwhile it reports to the observer what
+    /// the other threads met, and dials for news itself if it is alone.
     fn wait_for_turn<S: RoundsTag, H: Wait + Drop, Q: Wait + Net + Clock, O: Observer>(
         &mut self,
         node: &NodeContext<S, H, Q>,
@@ -201,7 +201,7 @@ impl<'a> Turns<'a> {
         unreachable!()
     }
 
-    /// Makes all rounds in turn of the node's pace, and waits until those for news have ended. None where the node is to end before.
+    /// Makes all rounds in turn of the node's pace, and waits until those for news have ended. None if the node is to end before.
     pub(crate) fn dial_all<S: RoundsTag, H: Wait + Drop, Q: Wait + Net + Clock, O: Observer>(
         self,
         node: &NodeContext<S, H, Q>,

@@ -17,14 +17,14 @@ use std::time::{Clock, Duration, Instant};
 /// How many connections may wait at one socket.
 pub(crate) const WAITING_MOST: usize = 1_024;
 
-/// A connection that was accepted and has not said enough yet.
+/// A connection that was accepted and that has more to say before it is served.
 #[derive(Drop)]
 pub(crate) struct Waiting {
     number: usize,
     stream: UnixStream,
-    /// When it is closed; never, where none is given.
+    /// When it is closed; never if it has no moment.
     until: Option<Instant>,
-    /// What has come of its request, where that is read.
+    /// What has come of its request, if it is a caller.
     frames: Frames,
     /// How many more reads it may take.
     left: u64,
@@ -76,7 +76,7 @@ fn read_piece<R: Read, K: Ledger>(
     }
 }
 
-/// The moment so many milliseconds from now; none for 0, and where the clock can't be read.
+/// The moment so many milliseconds from now; none for 0, or if the clock can't be read.
 pub(crate) fn deadline_after<Q: Clock>(clock: &Q, milliseconds: u64) -> Option<Instant> {
     if milliseconds == 0 {
         return None;
@@ -189,7 +189,7 @@ impl WaitingList {
         true
     }
 
-    /// Closes the oldest that has said nothing, or else the oldest, where as many wait as may. Says whether it did.
+    /// If as many wait as may, closes the oldest that has said nothing, or else the oldest. Says whether it did.
     fn make_room(&mut self) -> bool
         ensures room { vec_len self.new.all < WAITING_MOST }
         ensures left { self.new.all.items ≡ with_room WAITING_MOST self.old.all.items }
@@ -197,7 +197,7 @@ impl WaitingList {
         self.all.len() >= WAITING_MOST && self.close_oldest()
     }
 
-    /// Adds one that is younger than each that waits. Where as many wait as may, the oldest that has said nothing, or else the
+    /// Adds one that is younger than each that waits. If as many wait as may, the oldest that has said nothing, or else the
     /// oldest, is closed for it. Says whether one was. `NoMemory`, which closes it.
     pub(crate) fn push(&mut self, waiting: Waiting) -> Result<bool, Fault>
         ensures added { OnOk result (self.new.all.items ≡ with_room WAITING_MOST self.old.all.items ++ waiting ∷ []) }
@@ -218,8 +218,7 @@ impl WaitingList {
     }
 
     /// Makes one read of the request of this number, and gives it with its connection once it is whole. None if more is to come,
-    /// of which the registry is to report then, or if no such one waits here. A fault closes it. The read is the first of a
-    /// ledger.
+    /// which the registry then reports, or if no such one waits here. A fault closes it. The read is the first of a ledger.
     pub(crate) fn take_request<K: Ledger>(
         &mut self,
         registry: &Registry,
@@ -282,7 +281,7 @@ impl WaitingList {
         closed
     }
 
-    /// When the time of the oldest is over; none where nobody waits, or waits for ever.
+    /// When the time of the oldest is over; none if nobody waits, or waits for ever.
     pub(crate) fn first_until(&self) -> Option<Instant>
         ensures { IfSome result (λ _. 0 < vec_len self.now.all) }
     {

@@ -148,7 +148,7 @@ fn a_push_brings_a_write_and_nothing_else(rt: HostRuntime) {
     let pusher = new_pusher(&rt);
     let (ran, (heard, is_alone)) = thread::join(
         &rt,
-        || run_observed(&rt, alloc, &paths, pace_of(2, 1_500), &pusher),
+        || run_observed(&rt, alloc, &paths, pace_of(2, 3_000), &pusher),
         || hear_and_end(&rt, alloc, &listener, "push.control"),
     );
     got(&rt, fs::remove_file(&rt, "push.b"));
@@ -176,7 +176,7 @@ fn a_peer_that_accepts_late_has_the_news(rt: HostRuntime) {
     let pusher = new_pusher(&rt);
     let (ran, ends) = thread::join(
         &rt,
-        || run_observed(&rt, alloc, &paths, pace_of(1, 1_500), &pusher),
+        || run_observed(&rt, alloc, &paths, pace_of(1, 3_000), &pusher),
         || {
             let mut of_b = silent_b(&rt, alloc);
             let in_turn = serve_next(&rt, alloc, &listener, &mut of_b, b"a");
@@ -226,7 +226,7 @@ fn a_peer_that_never_ends_is_told_again(rt: HostRuntime) {
     let alloc = rt.alloc();
     let listener = got(&rt, UnixListener::bind(&rt, "open.b"));
     let pusher = new_pusher(&rt);
-    let mut pace = pace_of(2, 4_000);
+    let mut pace = pace_of(2, 6_000);
     pace.dial_idle = 200;
     let (ran, seen) = thread::join(
         &rt,
@@ -247,7 +247,7 @@ fn a_push_that_brings_nothing_new_wakes_nobody(rt: HostRuntime) {
     let pusher = new_pusher(&rt);
     let (ran, (held, is_alone)) = thread::join(
         &rt,
-        || run_observed(&rt, alloc, &paths, pace_of(1, 1_500), &pusher),
+        || run_observed(&rt, alloc, &paths, pace_of(1, 3_000), &pusher),
         || {
             let mut of_b = silent_b(&rt, alloc);
             serve_next(&rt, alloc, &listener, &mut of_b, b"c");
@@ -259,7 +259,7 @@ fn a_push_that_brings_nothing_new_wakes_nobody(rt: HostRuntime) {
     );
     got(&rt, fs::remove_file(&rt, "twice.b"));
     same(&rt, &(held, is_alone), &(1, true));
-    same(&rt, &got(&rt, ran).events, &2);
+    same(&rt, &got(&rt, ran).events, &3);
 }
 
 /// A node c with a text of 512 bytes.
@@ -289,7 +289,7 @@ fn a_delta_that_is_too_long_makes_a_round(rt: HostRuntime) {
     let pusher = new_pusher(&rt);
     let (ran, kinds) = thread::join(
         &rt,
-        || run_observed(&rt, alloc, &paths, pace_of(2, 1_000), &pusher),
+        || run_observed(&rt, alloc, &paths, pace_of(2, 3_000), &pusher),
         || {
             serve_next(&rt, alloc, &listener, &mut silent_b(&rt, alloc), b"c");
             push_as_c(&rt, "long.sock", &delta_of_c(1));
@@ -329,7 +329,7 @@ fn a_gap_hastens_a_round_once_a_pause(rt: HostRuntime) {
     let pusher = new_pusher(&rt);
     let (ran, seen) = thread::join(
         &rt,
-        || run_observed(&rt, alloc, &paths, pace_of(3, 1_500), &pusher),
+        || run_observed(&rt, alloc, &paths, pace_of(3, 3_000), &pusher),
         || hear_gaps(&rt, alloc, &listener, "gap.sock"),
     );
     got(&rt, fs::remove_file(&rt, "gap.b"));

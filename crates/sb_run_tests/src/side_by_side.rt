@@ -157,7 +157,7 @@ fn news_during_a_session_for_news_makes_another_behind_it(rt: HostRuntime) {
         all: Mutex::new(Vec::new(alloc)),
     };
     let mut pace = pace(1, 0);
-    pace.pause = 2_000;
+    pace.pause = 5_000;
     let (ran, ends) = thread::join(
         &rt,
         || run_side_by_side(&rt, alloc, &paths, pace, &states),
