@@ -59,7 +59,7 @@ const FAULTS: Metric = Metric {
 const PUSHES: Metric = Metric {
     name: "attrdir_pushes_total",
     kind: "counter",
-    help: "Pushes of news that it made to peers. They are no rounds.",
+    help: "Pushes of news that it made to peers. They are not rounds.",
 };
 
 const PUSH_FAULTS: Metric = Metric {
@@ -77,7 +77,7 @@ const PUSHED_BYTES: Metric = Metric {
 const GAPS: Metric = Metric {
     name: "attrdir_gaps_total",
     kind: "counter",
-    help: "Deltas of others that told of writes before which others are missing.",
+    help: "Deltas of others with writes after ones that it lacks.",
 };
 
 const HASTENED_ROUNDS: Metric = Metric {

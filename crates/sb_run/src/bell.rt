@@ -18,7 +18,7 @@ pub(crate) struct Bell {
     has_news: AtomicBool,
     /// Whether an owner may have come that was not held.
     has_new_owner: AtomicBool,
-    /// Whether a peer told of writes before which others are missing.
+    /// Whether a peer sent writes after ones that are missing.
     has_gap: AtomicBool,
 }
 
@@ -73,7 +73,7 @@ impl Bell {
         self.has_news.swap(false, Ordering::SeqCst)
     }
 
-    /// Whether a peer told of writes before which others are missing, since this was last asked.
+    /// Whether a peer sent writes after ones that are missing, since this was last asked.
     pub(crate) fn take_gap(&self) -> bool {
         self.has_gap.swap(false, Ordering::SeqCst)
     }

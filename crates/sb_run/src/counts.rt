@@ -31,7 +31,7 @@ pub(crate) struct Counts {
     pushes: AtomicU64,
     push_faults: AtomicU64,
     pushed_bytes: AtomicU64,
-    /// How many deltas of others told of writes before which others are missing.
+    /// How many deltas of others had writes after ones that are missing.
     gaps: AtomicU64,
     /// How many rounds in turn were made before their time because of such a delta.
     hastened_rounds: AtomicU64,
@@ -130,7 +130,7 @@ impl Counts {
         self.push_faults.load(Ordering::SeqCst)
     }
 
-    /// A delta of another told of writes before which others are missing.
+    /// A delta of another had writes after ones that are missing.
     pub(crate) fn add_gap(&self) {
         self.gaps.fetch_add(1, Ordering::SeqCst);
     }

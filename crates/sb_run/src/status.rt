@@ -12,7 +12,7 @@ pub struct Status<'a> {
     pub rounds: u64,
     /// How many of them had a fault.
     pub faults: u64,
-    /// What it pushed to its peers, and what came of what others pushed. No push is a round.
+    /// What it pushed to its peers, and what came of what others pushed. A push is not a round.
     pub pushes: PushCounts,
     /// How many connections of peers it took.
     pub sessions: u64,
@@ -47,7 +47,7 @@ pub struct PushCounts {
     pub faults: u64,
     /// How many bytes the frames of the deltas have that peers took.
     pub bytes: u64,
-    /// Deltas of others that told of writes before which others are missing.
+    /// Deltas of others with writes after ones that it lacks.
     pub gaps: u64,
     /// Rounds in turn that it made before their time because of such a delta.
     pub hastened_rounds: u64,

@@ -148,7 +148,7 @@ impl<'a> Turns<'a> {
         }
     }
 
-    /// Whether the next round in turn is made at once, since a peer told of writes before which others are missing. That is so
+    /// Whether the next round in turn is made at once, since a peer sent writes after ones that are missing. That is so
     /// once a pause at most, and only if there is a round left.
     fn is_hastened<S: RoundsTag, H: Wait + Drop, Q: Wait + Clock, O: Observer>(
         &mut self,
