@@ -63,7 +63,7 @@ Changes index change old new =
 abbrev pub GivesBack : ℕ → Backlog → List PeerBacklog → List PeerBacklog → Type 0
 GivesBack index taken old new =
     IfSome (slice_get old index) (λ before. IfSome (slice_get new index) (λ after.
-        IfSome after.known (λ all. IfSome before.known (λ since. all ≡ joined taken since)) × (after.since_round ≡ before.since_round)))
+    IfSome after.known (λ all. IfSome before.known (λ since. all ≡ joined taken since)) × (after.since_round ≡ before.since_round)))
     × ((other : ℕ) → other ≢ index → slice_get new other ≡ slice_get old other)
 
 -- after some of what happened the node answers some digest by these blocks

@@ -129,8 +129,8 @@ impl Deliveries {
         ensures most { self.new.most ≡ self.old.most }
         ensures changes { spec.Changes index spec.left_out self.old.all.items self.new.all.items }
     {
-        if let Some(delivery) = self.all.get_mut(index) {
-            delivery.is_open = false;
+        if let Some(left) = self.all.get_mut(index) {
+            left.is_open = false;
         }
     }
 

@@ -348,11 +348,9 @@ impl<'a, O: Observer> Dialing<'a, O> {
         seat: &mut ReaderSeat<S>,
     ) {
         // `self` is handed in: the prover keeps no clause of a closure that captures a struct with a lifetime.
-        replace_with(
-            seat,
-            self,
-            |seat, dialing| -> (ReaderSeat<S>, ()) { dialing.dial_for_news(node, seat) },
-        );
+        replace_with(seat, self, |seat, dialing| -> (ReaderSeat<S>, ()) {
+            dialing.dial_for_news(node, seat)
+        });
     }
 }
 
@@ -362,11 +360,7 @@ impl<O: Observer + Sync> Dialing<'_, O> {
         S: RoundsTag + Send + Sync,
         H: Wait + Drop + Send + Sync,
         Q: Threads + Wait + Net + Clock + Sync,
-    >(
-        &self,
-        node: &NodeContext<S, H, Q>,
-        seats: Vec<ReaderSeat<S>>,
-    ) -> Vec<ReaderSeat<S>>
+    >(&self, node: &NodeContext<S, H, Q>, seats: Vec<ReaderSeat<S>>) -> Vec<ReaderSeat<S>>
         ensures { (vec_len result ≡ vec_len seats) × (vec_capacity result ≡ vec_capacity seats) }
     {
         let mut seats = seats;

@@ -62,11 +62,7 @@ impl<S: RoundsTag> News<S> {
 
 impl<S: RoundsTag, H: Wait + Drop, Q: Wait> NodeContext<'_, S, H, Q> {
     /// What the node holds above the versions of a backlog. `NoMemory`.
-    pub(crate) fn news(
-        &self,
-        seat: &mut ReaderSeat<S>,
-        backlog: &Backlog,
-    ) -> Result<News<S>, Fault>
+    pub(crate) fn news(&self, seat: &mut ReaderSeat<S>, backlog: &Backlog) -> Result<News<S>, Fault>
         ensures still { IsStill seat.old seat.new }
         ensures memory { IfErr result (λ fault. fault ≡ Fault.NoMemory) }
     {
@@ -103,11 +99,7 @@ impl<S: RoundsTag, H: Wait + Drop, Q: Wait> NodeContext<'_, S, H, Q> {
 }
 
 /// How a peer is by a push that ended so: whether any byte of it came, and whether the last read waited for too long.
-fn state_of_push(
-    pushed: &Result<PushEnd, Fault>,
-    was_heard: bool,
-    was_silent: bool,
-) -> PeerState
+fn state_of_push(pushed: &Result<PushEnd, Fault>, was_heard: bool, was_silent: bool) -> PeerState
     ensures { result ≡ state_of_push pushed.now was_heard was_silent }
 {
     match pushed {

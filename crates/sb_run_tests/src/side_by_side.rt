@@ -18,10 +18,13 @@ use std::time::{Clock, Duration, Instant};
 use std::{fs, thread};
 
 /// Runs the node a with a new log, a worker, and three threads for news.
-fn run_side_by_side<
-    R: Host + Net<Listener = TcpListener, Stream = TcpStream>,
-    O: Observer + Sync,
->(rt: &R, alloc: Global, paths: &Paths, pace: Pace, observer: &O) -> Result<Ran, Fault> {
+fn run_side_by_side<R: Host + Net<Listener = TcpListener, Stream = TcpStream>, O: Observer + Sync>(
+    rt: &R,
+    alloc: Global,
+    paths: &Paths,
+    pace: Pace,
+    observer: &O,
+) -> Result<Ran, Fault> {
     let config = NodeConfig {
         settings: settings_with(rt, BUDGET_LEAST, 6, 1),
         paths: *paths,
@@ -144,7 +147,11 @@ fn let_news_wait<R: Net + Clock + Abort>(
     got(rt, listener.set_nonblocking(false));
     let ended = talk(rt, alloc, &mut of_b, &dialed, None);
     let held = of_b.upto(&name(rt, b"a"));
-    [in_turn, (ended, held), serve_next_as(rt, alloc, listener, &mut of_b)]
+    [
+        in_turn,
+        (ended, held),
+        serve_next_as(rt, alloc, listener, &mut of_b),
+    ]
 }
 
 #[test]
