@@ -214,12 +214,13 @@ impl<'a, O: Observer> Dialing<'a, O> {
         let Some(backlog) = self.take_backlog(node, index) else {
             return Plan::Round;
         };
+        let owners = backlog.owners().count();
+        if owners == 0 {
+            return Plan::Nothing;
+        }
         if let Ok(news) = node.news(seat, &backlog) {
-            if news.is_empty() {
-                return Plan::Nothing;
-            }
             let digests = self.own_digests(node, seat);
-            if node.can_push(&news, digests.length) {
+            if node.can_push(&news, owners, digests.length) {
                 return Plan::Push(backlog, news);
             }
         }

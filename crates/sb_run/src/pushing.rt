@@ -49,9 +49,9 @@ fn fits_push(length: u64, digests: u64, budget: u64) -> bool
 }
 
 impl<S: RoundsTag> News<S> {
-    /// Whether it tells nothing.
-    pub(crate) fn is_empty(&self) -> bool {
-        self.delta.blocks().is_empty()
+    /// Whether it has a block of each of so many owners. One whose log was purged above what the peer has is left out.
+    fn is_of_all(&self, owners: usize) -> bool {
+        self.delta.blocks().len() == owners
     }
 
     /// How many bytes its frame has.
@@ -73,13 +73,10 @@ impl<S: RoundsTag, H: Wait + Drop, Q: Wait> NodeContext<'_, S, H, Q> {
         })
     }
 
-    /// Whether news is pushed by a node whose own digests have so many bytes.
-    pub(crate) fn can_push(&self, news: &News<S>, digests: u64) -> bool {
-        fits_push(
-            news.delta.encoded_length(),
-            digests,
-            self.directory.settings().budget(),
-        )
+    /// Whether news of so many owners is pushed by a node whose own digests have so many bytes.
+    pub(crate) fn can_push(&self, news: &News<S>, owners: usize, digests: u64) -> bool {
+        let budget = self.directory.settings().budget();
+        news.is_of_all(owners) && fits_push(news.delta.encoded_length(), digests, budget)
     }
 
     /// Pushes news over a connection. It writes the node's Hello, the news and a Bye, and makes at most the node's `max_reads`

@@ -304,6 +304,33 @@ fn a_delta_that_is_too_long_makes_a_round(rt: HostRuntime) {
     same(&rt, &got(&rt, ran).rounds, &2);
 }
 
+/// A round brings the writes of an owner whose log was purged above what the peer has.
+#[test]
+fn news_of_a_purged_owner_makes_a_round(rt: HostRuntime) {
+    let paths = paths_of("purged.sock", "purged.control", &["purged.b"]);
+    let alloc = rt.alloc();
+    let listener = got(&rt, UnixListener::bind(&rt, "purged.b"));
+    let pusher = new_pusher(&rt);
+    let mut purged = delta_of_c(1);
+    for at in [18, 34, 46] {
+        purged[at] = 2;
+    }
+    let (ran, (kind, is_alone)) = thread::join(
+        &rt,
+        || run_observed(&rt, alloc, &paths, pace_of(2, 3_000), &pusher),
+        || {
+            serve_next(&rt, alloc, &listener, &mut silent_b(&rt, alloc), b"c");
+            push_as_c(&rt, "purged.sock", &purged);
+            let kind = second_kind(&rt, &listener);
+            push_as_c(&rt, "purged.sock", &purged);
+            (kind, is_left_alone(&rt, &listener))
+        },
+    );
+    got(&rt, fs::remove_file(&rt, "purged.b"));
+    same(&rt, &(kind, is_alone), &(2, true));
+    same(&rt, &got(&rt, ran).rounds, &2);
+}
+
 /// Is dialed in turn, and then because of a gap. A second gap in the same pause makes no round.
 fn hear_gaps<R: Net + Abort + Clock>(
     rt: &R,
