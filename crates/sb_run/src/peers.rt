@@ -312,8 +312,8 @@ impl<'a> Peers<'a> {
             peer.count(&ended);
             return false;
         }
-        let round = peer.round;
-        let has_changed = peer.note(round, ended, has_waited);
+        let number = peer.round;
+        let has_changed = peer.note(number, ended, has_waited);
         if has_changed {
             observer.dialed(peer.path, ended);
         }
