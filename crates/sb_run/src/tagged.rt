@@ -1,5 +1,5 @@
 //! A running node over a directory of its own, under a tag that names it in proofs.
-ghost use Rattle.std.specs.Prelude.{◌≡◌, ◌⊎◌, ◌+◌, ◌≤◌, vec_len, vec_capacity, IsOk, IsErr, IfOk, IfErr};
+ghost use Rattle.std.specs.Prelude.{◌≡◌, ◌⊎◌, ◌+◌, ◌≤◌, true, vec_len, vec_capacity, IsOk, IsErr, IfOk, IfErr};
 ghost use Rattle.sb_run.specs.Closing.{seen_by};
 ghost use Rattle.sb_run.specs.Running.{IsOpenedFault, IsTagOf, IsStarted};
 
