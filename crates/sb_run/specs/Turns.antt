@@ -44,12 +44,16 @@ state_of_push (Ok AfterHello) was_heard was_silent = Answers
 state_of_push (Ok BeforeHello) was_heard was_silent = Down EndedEarly
 state_of_push (Err fault) was_heard was_silent = state_of (Err fault) was_heard was_silent
 
+-- a session ended well
+abbrev pub is_answer : PeerState → Bool
+is_answer Never = false
+is_answer Answers = true
+is_answer (Down reason) = false
+is_answer (Failed fault) = false
+
 -- how many sessions with a peer in a row did not end well, after one that ended so; more than two are two
 abbrev pub misses_after : PeerState → ℕ → ℕ
-misses_after Answers misses = 0
-misses_after Never misses = if nat_lt misses 2 then misses + 1 else misses
-misses_after (Down reason) misses = if nat_lt misses 2 then misses + 1 else misses
-misses_after (Failed fault) misses = if nat_lt misses 2 then misses + 1 else misses
+misses_after ended misses = if is_answer ended then 0 else (if nat_lt misses 2 then misses + 1 else misses)
 
 -- a peer is dialed for news unless two sessions in a row did not end well
 abbrev pub takes_news : Peer → Bool
@@ -98,16 +102,10 @@ state_after before ended = if is_still before ended then before else ended
 
 -- how a peer is after a push that ended so: by one that ended well it is as it was by its rounds
 abbrev pub state_after_push : PeerState → PeerState → PeerState
-state_after_push before Answers = before
-state_after_push before Never = state_after before Never
-state_after_push before (Down reason) = state_after before (Down reason)
-state_after_push before (Failed fault) = state_after before (Failed fault)
+state_after_push before ended = if is_answer ended then before else state_after before ended
 
 abbrev pub is_changed_by_push : PeerState → PeerState → Bool
-is_changed_by_push before Answers = false
-is_changed_by_push before Never = not (is_still before Never)
-is_changed_by_push before (Down reason) = not (is_still before (Down reason))
-is_changed_by_push before (Failed fault) = not (is_still before (Failed fault))
+is_changed_by_push before ended = if is_answer ended then false else not (is_still before ended)
 
 -- whose turn it is of so many: behind the last comes the first
 abbrev pub turn_of : ℕ → ℕ → ℕ

@@ -120,7 +120,7 @@ impl Counts {
         if state.has_fault() {
             self.push_faults.fetch_add(1, Ordering::SeqCst);
         }
-        if *state == PeerState::Answers {
+        if state.is_answer() {
             self.pushed_bytes.fetch_add(bytes, Ordering::SeqCst);
         }
     }

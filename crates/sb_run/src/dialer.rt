@@ -191,7 +191,7 @@ impl<'a, O: Observer> Dialing<'a, O> {
         let end = start.ended(node.rt, state);
         self.backlogs
             .lock(node.rt)
-            .end_round(index, state == PeerState::Answers);
+            .end_round(index, state.is_answer());
         let takes_news = self
             .schedule
             .lock(node.rt)
@@ -242,7 +242,7 @@ impl<'a, O: Observer> Dialing<'a, O> {
         let state = push_peer(node, path, news);
         let end = start.ended(node.rt, state);
         node.counts.add_push(&state, length);
-        if state != PeerState::Answers {
+        if !state.is_answer() {
             self.backlogs.lock(node.rt).give_back(index, backlog);
         }
         let takes_news = self

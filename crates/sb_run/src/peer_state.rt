@@ -110,6 +110,13 @@ impl PeerState {
         0 < self.number()
     }
 
+    /// Whether a session ended so that did all that it was to do.
+    pub(crate) fn is_answer(&self) -> bool
+        ensures { result ≡ spec.is_answer self.now }
+    {
+        matches!(self, PeerState::Answers)
+    }
+
     /// Whether a peer that is so is so still after a round that ended so.
     pub(crate) fn is_still(&self, ended: &PeerState) -> bool
         ensures { result ≡ spec.is_still self.now ended.now }

@@ -71,7 +71,7 @@ impl<'a> Peer<'a> {
     fn count(&mut self, ended: &PeerState)
         ensures misses { self.new ≡ spec.with_session ended.now self.old }
     {
-        if *ended == PeerState::Answers {
+        if ended.is_answer() {
             self.misses = 0;
         } else if self.misses < MISSES_MOST {
             self.misses += 1;
@@ -308,7 +308,7 @@ impl<'a> Peers<'a> {
         let Some(peer) = self.all.get_mut(index) else {
             return false;
         };
-        if ended == PeerState::Answers {
+        if ended.is_answer() {
             peer.count(&ended);
             return false;
         }

@@ -4,7 +4,7 @@ ghost use Rattle.sb_directory.specs.Serving.{IsStill};
 ghost use Rattle.sb_session.specs.Pushes.{Pushes};
 ghost use Rattle.sb_session.specs.Sessions.{new_session};
 ghost use Rattle.sb_run.specs.News as spec;
-ghost use Rattle.sb_run.specs.Turns.{state_of_push};
+ghost use Rattle.sb_run.specs.Turns as turns;
 
 use crate::context::NodeContext;
 use crate::dialing::reach;
@@ -97,7 +97,7 @@ impl<S: RoundsTag, H: Wait + Drop, Q: Wait> NodeContext<'_, S, H, Q> {
 
 /// How a peer is by a push that ended so: whether any byte of it came, and whether the last read waited for too long.
 fn state_of_push(pushed: &Result<PushEnd, Fault>, was_heard: bool, was_silent: bool) -> PeerState
-    ensures { result ≡ state_of_push pushed.now was_heard was_silent }
+    ensures { result ≡ turns.state_of_push pushed.now was_heard was_silent }
 {
     match pushed {
         Ok(PushEnd::AfterHello) => PeerState::Answers,
