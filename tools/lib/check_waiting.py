@@ -4,12 +4,15 @@ import select
 import threading
 import time
 
-from nodes import BYE, ROWS, SECONDS, Difference, ask, connect, digest, exchange, hello, put, read_frame, version_of, want, weight
+from check_waking import seconds_until
+from nodes import BYE, FRAME_FRONT, ROWS, SECONDS, Difference, ask, connect, digest, exchange, hello, number, put, read_frame, version_of, want, weight
 
 # how many connections may wait at a socket
 MOST = 1024
-# what no answer may take beside them
+# what no answer may take beside them, in seconds
 SOON = 1.0
+# how a message begins that is never whole, since it would have 60,000 bytes
+LONG_FRAME = FRAME_FRONT + number(60_000, 4)
 
 
 def soon(what, call):
@@ -95,16 +98,17 @@ def slow_peers(check):
     node = check.node("a", "--workers", "2", "--idle", "1000", "--session", "2000").start()
     began, ended = time.monotonic(), []
 
-    def dribble(name):
+    def dribble():
         with connect(node.sock) as stream:
             try:
-                for byte in hello(name) + 200 * b"\xa7":
+                stream.sendall(hello("zz"))
+                for byte in LONG_FRAME + bytes(200):
                     stream.sendall(bytes([byte]))
                     time.sleep(0.1)
             except OSError:
                 ended.append(time.monotonic() - began)
 
-    threads = [threading.Thread(target=dribble, args=("zz",)) for _ in range(2)]
+    threads = [threading.Thread(target=dribble) for _ in range(2)]
     for thread in threads:
         thread.start()
     time.sleep(0.3)
@@ -114,8 +118,30 @@ def slow_peers(check):
     for thread in threads:
         thread.join()
     want("how many slow peers were ended", len(ended), 2)
-    if time.monotonic() - began > 5:
+    if not 1.8 <= min(ended) <= max(ended) <= 5:
         raise Difference(f"slow peers were ended after {ended} s")
+
+
+def slow_hellos(check):
+    """Peers that are silent, or send a byte of their Hello now and then, hold no worker. Writes of another node arrive soon, and they are closed behind --idle."""
+    folder = check.folder()
+    hub = check.node("a", "--workers", "4", "--idle", "4000", folder=folder).start()
+    leaf = check.node("b", "--pause", "1000", folder=folder, peers=[hub.sock]).start()
+    hub.awaits("a row of b", lambda rows: leaf.put("k", 0) and any(it.startswith("b ") for it in rows))
+    peers, began = [connect(hub.sock) for _ in range(8)], time.monotonic()
+    for byte in hello("z" * 32)[:12]:
+        for peer in peers[4:]:
+            peer.sendall(bytes([byte]))
+        version = leaf.put("k", byte)
+        seconds = seconds_until(hub, "b", version)
+        if seconds > 3:
+            raise Difference(f"a write of another node took {seconds:.2f} s")
+        time.sleep(0.1)
+    is_served(hub, 1)
+    if time.monotonic() - began < 3.5:
+        want("who is closed at once", [it for it in peers if is_closed(it)], [])
+    want("who is closed behind --idle", [is_closed(it, 5) for it in peers], 8 * [True])
+    close_all(peers)
 
 
 def full_list(check):
@@ -153,11 +179,27 @@ def full_list(check):
         resource.setrlimit(resource.RLIMIT_NOFILE, (soft, hard))
 
 
+def writes(node):
+    """How long each of some writes took."""
+    times = []
+    for at in range(30):
+        began = time.monotonic()
+        node.put("k", at)
+        times.append(time.monotonic() - began)
+    return times
+
+
+def half_of(times):
+    """What half of these took at most."""
+    return sorted(times)[len(times) // 2]
+
+
 def reads_beside_writes(check):
     """Listings in a loop, by more callers than there are workers, delay no write for long."""
     node = check.node("a", "--workers", "2").start()
-    for at in range(300):
+    for at in range(100):
         node.put(f"k{at}", at)
+    alone = half_of(writes(node))
     is_over = threading.Event()
 
     def list_on():
@@ -167,16 +209,13 @@ def reads_beside_writes(check):
     threads = [threading.Thread(target=list_on) for _ in range(4)]
     for thread in threads:
         thread.start()
-    times = []
-    for at in range(50):
-        began = time.monotonic()
-        node.put("k", at)
-        times.append(time.monotonic() - began)
+    beside = half_of(writes(node))
     is_over.set()
     for thread in threads:
         thread.join()
-    if sorted(times)[25] > 0.1:
-        raise Difference(f"half of the writes beside listings took {sorted(times)[25]:.3f} s")
+    # (a machine that has much else to do is slow at both)
+    if beside > max(0.1, 12 * alone):
+        raise Difference(f"half of the writes took {beside:.3f} s beside listings, and {alone:.3f} s without")
 
 
-PARTS = (silent_callers, slow_requests, slow_peers, full_list, reads_beside_writes)
+PARTS = (silent_callers, slow_requests, slow_peers, slow_hellos, full_list, reads_beside_writes)

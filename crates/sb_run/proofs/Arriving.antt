@@ -1,13 +1,11 @@
 -- What one read of a request brings.
-use Rattle.std.proofs.Common.{◌≡◌, ℕ, Bool, true, false, List, [], ◌++◌, Option, Some, None, Result, Ok, Err, refl, sym, ap, subst, ◌∙◌}
-use Rattle.std.specs.Io.KnownBytes.{Keeps, Consumes}
+use Rattle.std.proofs.Common.{◌≡◌, ℕ, true, false, List, ◌++◌, Option, Err, ap}
 use Rattle.sb_types.specs.declared.fault.Fault.{Fault}
-use Rattle.sb_types.specs.declared.fault.Fault.TheVariants.{Closed, ReadFailed}
-use Rattle.sb_codec.specs.declared.message.Message.{Message}
+use Rattle.sb_types.specs.declared.fault.Fault.TheVariants.{ReadFailed, TurnsSpent}
 use Rattle.sb_frames.specs.Frames.{bad, front_of}
-use Rattle.sb_frames.specs.Streams.{Stream, open_with, shut, Hands}
+use Rattle.sb_frames.specs.Streams.{Stream, open_with, shut}
 use Rattle.sb_frames.specs.Receiving.{is_frame_fault, Stops, is_bad, no_memory, read_failed, cut_short, turns_spent, Receives}
-use Rattle.sb_run.specs.Arriving.{HasGrown, HasCome}
+use Rattle.sb_run.specs.Arriving.{HasGrown}
 
 -- only the five faults of frames are of the bytes
 abbrev pub AreOfFrames : Type 0
@@ -28,16 +26,10 @@ has_grown are fault (open_with held) new from to before left other call =
     (call.bytes, call.consumed, stops_open are fault (held ++ call.bytes) new to before left other call.given)
 has_grown are fault shut new from to before left other call = (call.1, call.2)
 
-pub has_come : (message : Message) (old new : Stream) (from to : Option (List ℕ)) (before left : ℕ)
-    → Receives old new from to before left (Ok (Some message)) → HasCome message old new from to
-has_come message (open_with held) new from to before left call = (call.bytes, call.consumed, call.given)
-has_come message shut new from to before left call = absurd (let is = call.0 in cc)
-
--- the same, where what was given is named otherwise
-pub some_came : (message : Message) (found : Option Message) (old new : Stream) (from to : Option (List ℕ)) (before left : ℕ) → found ≡ Some message
-    → Receives old new from to before left (Ok found) → HasCome message old new from to
-some_came message found old new from to before left is call =
-    has_come message old new from to before left (subst (λ (o : Option Message). Receives old new from to before left (Ok o)) is call)
+-- a read that gave less than the message
+pub has_waited : AreOfFrames → (fault : Fault) (old new : Stream) (from to : Option (List ℕ)) (before left : ℕ) → fault ≡ TurnsSpent
+    → Receives old new from to before left (Err fault) → HasGrown old new from to
+has_waited are fault old new from to before left is call = has_grown are fault old new from to before left (ap is_frame_fault is) call
 
 pub has_missed : AreOfFrames → (fault : Fault) (old new : Stream) (from to : Option (List ℕ)) (before left : ℕ)
     → Receives old new from to before left (Err fault) → fault ≡ ReadFailed → HasGrown old new from to

@@ -1,9 +1,10 @@
 -- Connections that wait, and what is read of a request that comes in pieces.
-use Rattle.std.specs.Prelude.{◌≡◌, ℕ, ◌==◌, Bool, true, List, ◌++◌, ◌∷◌, [], length, remove, position, unwrap_or, if◌then◌else◌, nat_lt, Option, Some, None, Result, Ok, Err}
+use Rattle.std.specs.Prelude.{◌≡◌, ℕ, ◌==◌, Bool, true, List, ◌++◌, length, remove, position, unwrap_or, if◌then◌else◌, nat_lt, false, Option, Some, None, Result, Ok, Err}
 use Rattle.std.specs.Io.KnownBytes.{Keeps, Consumes}
 use Rattle.sb_types.specs.declared.fault.Fault.{Fault}
 use Rattle.sb_types.specs.declared.fault.Fault.TheVariants.{ReadFailed}
 use Rattle.sb_codec.specs.declared.message.Message.{Message}
+use Rattle.sb_frames.specs.Frames.{Front, short, whole, bad, front_of}
 use Rattle.sb_frames.specs.Receiving.{held_of}
 use Rattle.sb_frames.specs.Streams.{Stream, open_with, shut, Hands}
 use Rattle.sb_run.specs.declared.waiting.Waiting.{Waiting}
@@ -26,7 +27,17 @@ ReadsPiece old new from to (Err fault) = fault ≡ ReadFailed → HasGrown old n
 
 -- nothing came of it yet
 abbrev pub is_silent : Waiting → Bool
-is_silent waiting = length (held_of waiting.frames) == 0
+is_silent waiting = if length (held_of waiting.frames) == 0 then length waiting.came.items == 0 else false
+
+-- more of it does not change what is in front
+abbrev pub is_settled : Front → Bool
+is_settled short = false
+is_settled (whole message rest) = true
+is_settled (bad fault) = true
+
+-- the first message is whole, or none is in front, or there are as many bytes as that
+abbrev pub has_begun : ℕ → List ℕ → Bool
+has_begun most came = if nat_lt (length came) most then is_settled (front_of came) else true
 
 abbrev pub has_number : ℕ → Waiting → Bool
 has_number number waiting = waiting.number == number
@@ -34,14 +45,6 @@ has_number number waiting = waiting.number == number
 -- the list without the oldest that said nothing, or else without the oldest
 abbrev pub without_oldest : List Waiting → List Waiting
 without_oldest all = remove all (unwrap_or (position is_silent all) 0)
-
-abbrev pub without_at : List Waiting → Option ℕ → List Waiting
-without_at all (Some place) = remove all place
-without_at all None = all
-
--- the list without the one of this number, if it is there
-abbrev pub without_number : ℕ → List Waiting → List Waiting
-without_number number all = without_at all (position (has_number number) all)
 
 -- the list where one more has room
 abbrev pub with_room : ℕ → List Waiting → List Waiting

@@ -11,12 +11,11 @@ use mio::net::UnixStream;
 use mio::{Events, Interest, Poll, Registry, Token};
 use sb_types::Fault;
 use std::alloc::Global;
-use std::io;
 use std::marker::Brand;
 use std::sync::Wait;
 use std::sync::ledger::Blank;
-use std::thread;
 use std::time::{Clock, Duration, Instant};
+use std::{io, thread};
 
 /// How long the next accept waits after one that failed, in milliseconds: without free descriptors each fails at once.
 const ACCEPT_PAUSE: u64 = 20;
@@ -173,16 +172,20 @@ impl Backlog {
         registry: &Registry,
         number: usize,
     ) -> Result<(), Fault> {
-        if let Some(stream) = self.peers.take(number) {
-            return self.handover.give_session(node.rt, stream);
+        let begun = self.peers.take_session(node.alloc, registry, number)?;
+        if let Some((came, stream)) = begun {
+            let given = self.handover.give_session(node.rt, came, stream);
+            return note_given(node.counts, given);
         }
         let whole = self
             .callers
             .take_request::<Brand>(registry, number, Blank::new(1))?;
         match whole {
             Some((request, stream)) => {
-                self.handover
-                    .give_request(node.rt, node.asked, request, stream)
+                let given = self
+                    .handover
+                    .give_request(node.rt, node.asked, request, stream);
+                note_given(node.counts, given)
             }
             None => Ok(()),
         }
@@ -212,6 +215,14 @@ impl Backlog {
             Err(_) => Some(Duration::from_millis(ACCEPT_PAUSE)),
         }
     }
+}
+
+/// Counts a connection that could not be handed on as one that was turned away.
+fn note_given(counts: &Counts, given: Result<(), Fault>) -> Result<(), Fault> {
+    if given.is_err() {
+        counts.add_turned_away();
+    }
+    given
 }
 
 /// How long the next poll may wait, by how much is left to accept.

@@ -6,13 +6,14 @@ use crate::counts::Counts;
 use crate::ending::EndFlag;
 use crate::node::Pace;
 use crate::pool::{Source, Taken};
-use crate::sockets::{limit, blocking_stream};
+use crate::sockets::{blocking_stream, limit};
 use crate::timed::Timed;
 use crossbeam_channel::{Receiver, Sender, bounded};
 use mio::net;
 use sb_codec::{Ask, Message};
 use sb_types::Fault;
 use std::alloc::Global;
+use std::io::{Chain, Cursor, Read};
 use std::os::unix::net::UnixStream;
 use std::sync::Wait;
 use std::sync::atomic::{AtomicU64, Ordering};
@@ -24,8 +25,8 @@ const HANDED_MOST: usize = 1_024;
 /// What a worker is to do next.
 #[derive(Drop)]
 pub(crate) enum Job {
-    /// To serve a session.
-    Session(UnixStream),
+    /// To serve the session of a peer, of which this has come.
+    Session(Vec<u8>, UnixStream),
     /// To answer a caller's question.
     Question(Ask, UnixStream),
 }
@@ -84,7 +85,11 @@ pub(crate) fn new_handover(alloc: Global) -> Result<(Handover, Jobs, Requests), 
         to_owner,
         handed: 0,
     };
-    Ok((handover, Jobs { from: from_workers }, Requests { from: from_owner }))
+    Ok((
+        handover,
+        Jobs { from: from_workers },
+        Requests { from: from_owner },
+    ))
 }
 
 impl Handover {
@@ -104,16 +109,17 @@ impl Handover {
             .is_ok()
     }
 
-    /// Hands a session to the workers. `ReadFailed` if too many wait for one, or if the connection can't be used.
+    /// Hands the session of a peer to the workers, with what has come of it. `ReadFailed` if too many wait for one, or if the connection can't be used.
     pub(crate) fn give_session<R: Wait>(
         &mut self,
         rt: &R,
+        came: Vec<u8>,
         stream: net::UnixStream,
     ) -> Result<(), Fault> {
         let Ok(stream) = blocking_stream(stream) else {
             return Err(Fault::ReadFailed);
         };
-        if self.give(rt, Job::Session(stream)) {
+        if self.give(rt, Job::Session(came, stream)) {
             Ok(())
         } else {
             Err(Fault::ReadFailed)
@@ -163,6 +169,9 @@ impl Requests {
     }
 }
 
+/// What has come of a peer, and then the rest.
+pub(crate) type PeerInput<'a, R> = Chain<Cursor<Vec<u8>>, Timed<'a, R>>;
+
 /// What the workers of a node take their jobs from.
 #[derive(Drop)]
 pub(crate) struct Arrivals<'a, R> {
@@ -200,19 +209,20 @@ impl<'a, R> Arrivals<'a, R> {
 
 impl<'a, R: Clock> Arrivals<'a, R> {
     /// What a worker takes of a job. `ReadFailed` if the limits of the connection can't be set, or there is no descriptor.
-    fn taken_of(&self, job: Job) -> Result<Taken<Timed<'a, R>, Timed<'a, R>>, Fault>
+    fn taken_of(&self, job: Job) -> Result<Taken<PeerInput<'a, R>, Timed<'a, R>>, Fault>
         ensures { IfOk result (λ taken. IsNumbered taken) }
     {
         let pace = &self.pace;
         match job {
-            Job::Session(stream) => {
+            Job::Session(came, stream) => {
                 let Ok(input) = stream.try_clone() else {
                     return Err(Fault::ReadFailed);
                 };
                 if limit(&stream, pace.idle).is_err() {
                     return Err(Fault::ReadFailed);
                 }
-                let input = Timed::new(self.rt, input, pace.idle, pace.session);
+                let rest = Timed::new(self.rt, input, pace.idle, pace.session);
+                let input = Cursor::new(came).chain(rest);
                 let output = Timed::new(self.rt, stream, pace.idle, pace.session);
                 let before = self.sessions.fetch_add(1, Ordering::SeqCst);
                 Ok(Taken::Session(before.saturating_add(1), input, output))
@@ -229,7 +239,7 @@ impl<'a, R: Clock> Arrivals<'a, R> {
 }
 
 impl<'a, R: Wait + Clock + Sync> Source for Arrivals<'a, R> {
-    type In = Timed<'a, R>;
+    type In = PeerInput<'a, R>;
 
     type Out = Timed<'a, R>;
 
@@ -238,7 +248,7 @@ impl<'a, R: Wait + Clock + Sync> Source for Arrivals<'a, R> {
 
     ghost asks = { λ arrivals. Unit {0} };
 
-    fn next(&self) -> Option<Result<Taken<Timed<'a, R>, Timed<'a, R>>, Fault>> {
+    fn next(&self) -> Option<Result<Taken<PeerInput<'a, R>, Timed<'a, R>>, Fault>> {
         self.asked.count.fetch_add(1, Ordering::SeqCst);
         self.counts.free_worker(self.rt);
         let received = self.jobs.from.recv(self.rt);

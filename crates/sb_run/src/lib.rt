@@ -57,8 +57,9 @@
 //! - Slow peers hold all threads for news, or a session counts as slow that is not. Only `tools/check-node` refuses it.
 //! - A peer counts as silent or as heard that was not: no clause covers what `PeerReader` notes. The tests of `sb_run`
 //!   and `tools/check-node` refuse it.
-//! - A silent connection is never closed, is closed too soon, or is handed on though it said nothing. A request that
-//!   is whole is never handed on. The tests of `sb_run` and `tools/check-node` refuse it.
+//! - A silent connection is never closed, or is closed too soon. A Hello or a request that is whole is never handed
+//!   on. The tests of `sb_run` and `tools/check-node` refuse it.
+//! - A session does not read what came before a worker took it, or reads it twice. Tests refuse it.
 //! - A question goes to the owner's thread although a worker is free, or to workers that are busy.
 //!   `tools/check-node` refuses it.
 //! - A request or session may take too long, because its time never begins, or because it goes on once its time is
@@ -111,6 +112,7 @@ mod delivery;
 mod dialer;
 mod dialing;
 mod ending;
+mod first_message;
 mod gate;
 mod greeting;
 mod laws;

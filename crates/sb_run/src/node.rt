@@ -121,13 +121,13 @@ fn start_refusal<L: WriteLog>(settings: &Settings, log: &L) -> Option<Fault>
 /// this peer has the same again. If a peer's delta has writes after ones that the node lacks, the next round in turn is made at
 /// once, at most once a pause.
 ///
-/// A connection takes a worker or the calling thread only once it has something to say: a peer's first bytes, or a client's
+/// A connection takes a worker or the calling thread only once it has something to say: a peer's whole Hello, or a client's
 /// whole request. Until then it waits, for `idle` milliseconds at `sock` and for `request` at `control`, or `idle` if that is
 /// 0. At most 1,024 wait at a socket; one more closes the oldest that sent nothing, or else the oldest.
 ///
 /// A connection ends with a fault in these cases, which cost this connection alone:
 ///
-/// - It sent nothing in time, or made room for another.
+/// - Its Hello or its request was not whole in time, or it made room for another.
 /// - Its peer breaks the rules of a session or of the control socket.
 /// - It takes more than `max_reads` reads.
 /// - No byte moved for `idle` milliseconds, or for `dial_idle` if the node has dialed.

@@ -1,8 +1,10 @@
 //! Connections that wait until they have something to say.
-ghost use Rattle.std.specs.Prelude.{◌≡◌, ◌+◌, ◌<◌, ◌≤◌, ◌++◌, ◌∷◌, [], true, vec_len, length, drop, nat_lt, position, is_some, MatchBool, OnOk, IfSome, IfOk, IfErr};
+ghost use Rattle.std.specs.Prelude.{◌≡◌, ◌+◌, ◌<◌, ◌≤◌, ◌++◌, ◌∷◌, [], true, vec_len, length, position, MatchBool, OnOk, IfSome, IfOk, IfErr};
+ghost use Rattle.sb_run.specs.declared.first_message.TheConstants.{FIRST_MOST};
 ghost use Rattle.sb_run.specs.declared.waiting.TheConstants.{WAITING_MOST};
-ghost use Rattle.sb_run.specs.Arriving.{ReadsPiece, is_silent, has_number, without_oldest, without_number, with_room};
+ghost use Rattle.sb_run.specs.Arriving.{ReadsPiece, is_silent, has_begun, has_number, without_oldest, with_room};
 
+use crate::first_message::{FIRST_MOST, is_enough};
 use mio::net::UnixStream;
 use mio::{Interest, Registry, Token};
 use sb_codec::Message;
@@ -28,6 +30,8 @@ pub(crate) struct Waiting {
     frames: Frames,
     /// How many more reads it may take.
     left: u64,
+    /// What has come of a peer. Its worker reads that first.
+    came: Vec<u8>,
 }
 
 /// Reads what has come without waiting.
@@ -106,19 +110,37 @@ impl Waiting {
             until,
             frames: Frames::new(alloc),
             left: max_reads,
+            came: Vec::new(alloc),
         }
-    }
-
-    /// The connection itself.
-    pub(crate) fn into_stream(self) -> UnixStream {
-        self.stream
     }
 
     /// Whether nothing came of it yet.
     fn is_silent(&self) -> bool
         ensures { result ≡ is_silent self.now }
     {
-        self.frames.held() == 0
+        self.frames.held() == 0 && self.came.is_empty()
+    }
+
+    /// Makes one read of a peer, if one is left, without waiting. Says whether a worker is to take it. `Truncated` at an end
+    /// before that, `ReadFailed`, `TurnsSpent`, `NoMemory`; after each it is to be closed.
+    fn hear(&mut self, alloc: Global) -> Result<bool, Fault>
+        ensures number { self.new.number ≡ self.old.number }
+        ensures begun { IfOk result (λ is_enough. is_enough ≡ has_begun FIRST_MOST self.new.came.items) }
+        ensures counted { IfOk result (λ _. self.new.left + 1 ≡ self.old.left) }
+    {
+        if self.left == 0 {
+            return Err(Fault::TurnsSpent);
+        }
+        self.left -= 1;
+        let mut buffer = [0u8; FIRST_MOST];
+        let mut stream = &self.stream;
+        match stream.read(&mut buffer) {
+            Ok(0) => return Err(Fault::Truncated),
+            Ok(count) => self.came.extend_from_slice(&buffer[..count])?,
+            Err(error) if error.kind() == io::ErrorKind::WouldBlock => {}
+            Err(_) => return Err(Fault::ReadFailed),
+        }
+        is_enough(alloc, &self.came)
     }
 
     /// Makes one read of its request, without waiting: the request, once it is whole. None if more is to come. Its faults
@@ -208,13 +230,33 @@ impl WaitingList {
         Ok(has_closed)
     }
 
-    /// Takes out the one of this number, if it waits here.
-    pub(crate) fn take(&mut self, number: usize) -> Option<UnixStream>
-        ensures taken { is_some result ≡ is_some (position (has_number number) self.old.all.items) }
-        ensures left { self.new.all.items ≡ without_number number self.old.all.items }
+    /// Makes one read of the peer of this number. Gives its connection, and what has come on it, once a worker is to take it. None
+    /// if more is to come, which the registry then reports, or if no such one waits here. A fault closes it.
+    pub(crate) fn take_session(
+        &mut self,
+        alloc: Global,
+        registry: &Registry,
+        number: usize,
+    ) -> Result<Option<(Vec<u8>, UnixStream)>, Fault>
+        ensures begun { IfOk result (λ found. IfSome found (λ taken. has_begun FIRST_MOST taken.0.items ≡ true)) }
     {
-        let place = place_of(&self.all, number)?;
-        Some(self.all.remove(place).into_stream())
+        let Some(place) = place_of(&self.all, number) else {
+            return Ok(None);
+        };
+        match self.all[place].hear(alloc) {
+            Ok(false) => {
+                self.wait_on(registry, place, number)?;
+                Ok(None)
+            }
+            Ok(true) => {
+                let Waiting { stream, came, .. } = self.all.remove(place);
+                Ok(Some((came, stream)))
+            }
+            Err(fault) => {
+                self.all.remove(place);
+                Err(fault)
+            }
+        }
     }
 
     /// Makes one read of the request of this number, and gives it with its connection once it is whole. None if more is to come,
@@ -234,9 +276,12 @@ impl WaitingList {
         };
         let mut steps = Steps::<K>::new(blank);
         match self.all[place].read(&mut steps) {
-            Ok(None) => self.wait_on(registry, place, number),
+            Ok(None) => {
+                self.wait_on(registry, place, number)?;
+                Ok(None)
+            }
             Ok(Some(request)) => {
-                let stream = self.all.remove(place).into_stream();
+                let Waiting { stream, .. } = self.all.remove(place);
                 Ok(Some((request, stream)))
             }
             Err(fault) => {
@@ -247,12 +292,7 @@ impl WaitingList {
     }
 
     /// Has the registry report the one at this place again. `ReadFailed`, which closes it.
-    fn wait_on(
-        &mut self,
-        registry: &Registry,
-        place: usize,
-        number: usize,
-    ) -> Result<Option<(Message, UnixStream)>, Fault>
+    fn wait_on(&mut self, registry: &Registry, place: usize, number: usize) -> Result<(), Fault>
         requires { place < vec_len self.old.all }
     {
         let stream = &mut self.all[place].stream;
@@ -260,7 +300,7 @@ impl WaitingList {
             .reregister(stream, Token(number), Interest::READABLE)
             .is_ok()
         {
-            return Ok(None);
+            return Ok(());
         }
         self.all.remove(place);
         Err(Fault::ReadFailed)

@@ -287,17 +287,17 @@ fn a_node_beside_its_owner_and_its_peers(rt: HostRuntime) {
     same(&rt, &ran, &whole);
 }
 
-/// Whether nothing comes on connections on which nothing is sent, and no more than a Hello on one on which one byte is
-/// sent, until the node hangs up.
+/// Whether nothing comes on connections that send nothing, or one byte, until the node hangs up. Whether no more than a Hello
+/// comes on one that sends a Hello.
 fn hears_no_more<R: Net + Abort>(rt: &R, paths: &Paths) -> bool {
     let control = reach(rt, paths.control);
     let silent = reach(rt, paths.sock);
-    let slow = reach(rt, paths.sock);
-    let mut writer = &slow;
-    got(rt, writer.write_all(&HELLO_OF_C2[..1]));
+    let mut part = reach(rt, paths.sock);
+    got(rt, part.write_all(&HELLO_B[..1]));
+    let mut slow = reach(rt, paths.sock);
+    got(rt, slow.write_all(HELLO_B));
     let silence = hears_only(rt, &control, 0) && hears_only(rt, &silent, 0);
-    let hello = hears_only(rt, &slow, HELLO);
-    silence && hello
+    silence && hears_only(rt, &part, 0) && hears_only(rt, &slow, HELLO)
 }
 
 /// Whether no more than that came on the silent connections, and whether the write was done. Then how b's session
@@ -333,7 +333,7 @@ fn a_connection_that_says_nothing_ends(rt: HostRuntime) {
     );
     got(&rt, fs::remove_file(&rt, "idle.peer"));
     same(&rt, &heard, &(true, true, Ended::Bye(1), 1));
-    let whole = ran_of(2, 4, 2);
+    let whole = ran_of(2, 5, 2);
     same(&rt, &ran, &whole);
 }
 

@@ -24,15 +24,20 @@ const KIND_AT: usize = 6;
 /// The kind of an answer that has rows.
 const ROWS: u8 = 17;
 
+/// The first bytes of a frame that is much longer.
+const LONG_FRAME: [u8; 12] = [0xa7, 3, 0, 0, 255, 0, 2, 0, 0, 0, 0, 0];
+
 /// What is tried at a node with one worker.
 #[derive(Clone, Copy)]
 enum Play {
     /// Many connect at both sockets and say nothing.
     Silence,
-    /// A caller sends the second half of its request behind another's.
+    /// A caller sends the second half of its request after another's.
     SlowCaller,
     /// The only worker has a session that says nothing more.
     BusyWorker,
+    /// A peer sends the second half of its Hello after another peer's session.
+    SlowHello,
     /// A peer sends a byte every now and then.
     SlowPeer,
 }
@@ -72,7 +77,7 @@ fn play_silence<R: Net + Abort>(rt: &R, alloc: Global, paths: &Paths) -> bool {
     is_done && is_answered
 }
 
-/// Whether a whole request is answered before one of which half has come, and that one as soon as it is whole.
+/// Whether a whole request is answered before half a one, and that one as soon as it is whole.
 fn play_slow_caller<R: Net + Abort>(rt: &R, paths: &Paths) -> bool {
     let mut slow = reach(rt, paths.control);
     got(rt, slow.write_all(&PUT[..9]));
@@ -97,20 +102,32 @@ fn play_busy_worker<R: Net + Abort>(rt: &R, paths: &Paths) -> bool {
         && ask_is_answered(rt, paths.control)
 }
 
-/// Sends a byte of a Hello every now and then, until the node hangs up. Says whether it did before all were sent, and whether
-/// its owner is answered then.
+/// Whether a write and a session are answered while half of a peer's Hello has come, and that peer once it is whole.
+fn play_slow_hello<R: Net + Abort>(rt: &R, alloc: Global, paths: &Paths) -> bool {
+    let mut slow = reach(rt, paths.sock);
+    got(rt, slow.write_all(&HELLO_B[..6]));
+    let is_done = put_is_done(rt, paths.control) && is_served(rt, alloc, paths.sock);
+    got(rt, slow.write_all(&HELLO_B[6..]));
+    let mut greeting = [0u8; 12];
+    got(rt, slow.read_exact(&mut greeting));
+    is_done && greeting.as_slice() == HELLO_A
+}
+
+/// Sends a Hello, and then a byte of a long frame every now and then, until the node hangs up. Says whether it did before all
+/// were sent, and whether its owner is answered then.
 fn play_slow_peer<R: Net + Clock + Abort>(rt: &R, paths: &Paths) -> bool {
     let slow = reach(rt, paths.sock);
     let mut writer = &slow;
-    let mut sent: usize = 0;
-    for byte in HELLO_B {
+    got(rt, writer.write_all(HELLO_B));
+    let mut is_ended = false;
+    for byte in &LONG_FRAME {
         if writer.write_all(&[*byte]).is_err() {
+            is_ended = true;
             break;
         }
-        sent += 1;
         thread::sleep(rt, Duration::from_millis(100));
     }
-    sent < HELLO_B.len() && put_is_done(rt, paths.control)
+    is_ended && put_is_done(rt, paths.control)
 }
 
 /// Whether the play went as it should, and how long it took.
@@ -125,6 +142,7 @@ fn run_play<R: Net + Clock + Abort>(
         Play::Silence => play_silence(rt, alloc, paths),
         Play::SlowCaller => play_slow_caller(rt, paths),
         Play::BusyWorker => play_busy_worker(rt, paths),
+        Play::SlowHello => play_slow_hello(rt, alloc, paths),
         Play::SlowPeer => play_slow_peer(rt, paths),
     };
     (went, got(rt, began.elapsed(rt)))
@@ -187,6 +205,13 @@ fn callers_are_answered_while_all_workers_wait(rt: HostRuntime) {
 }
 
 #[test]
+fn a_hello_that_is_not_whole_holds_no_worker(rt: HostRuntime) {
+    let paths = paths_of("part.sock", "part.control", &["part.b"]);
+    let ran = play_beside(&rt, rt.alloc(), &paths, patient(), Play::SlowHello);
+    same(&rt, &ran.events, &3);
+}
+
+#[test]
 fn a_session_ends_after_its_time(rt: HostRuntime) {
     let paths = paths_of("slow.sock", "slow.control", &["slow.b"]);
     let mut pace = patient();
@@ -195,7 +220,7 @@ fn a_session_ends_after_its_time(rt: HostRuntime) {
     same(&rt, &(ran.faults, ran.events), &(1, 2));
 }
 
-/// Whether nothing comes of a request of which half was sent, until the node hangs up, and a whole one is answered before.
+/// Whether nothing comes of half a request, until the node hangs up, and a whole one is answered before.
 fn play_half(rt: &(impl Net + Abort), paths: &Paths) -> bool {
     let mut half = reach(rt, paths.control);
     got(rt, half.write_all(&PUT[..9]));
