@@ -90,7 +90,7 @@ impl Backlogs {
         Some(known)
     }
 
-    /// Gives back what was taken, since the peer at this index was not told.
+    /// Gives back what was taken, since the peer at this index may still lack it.
     pub(crate) fn give_back(&mut self, index: usize, taken: Backlog)
         ensures { spec.GivesBack index taken self.old.all.items self.new.all.items }
     {

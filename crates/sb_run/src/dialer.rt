@@ -35,7 +35,7 @@ pub(crate) struct Dialing<'a, O> {
     schedule: Mutex<Schedule<'a>>,
     /// The thread for news that is to dial next waits at it.
     parker: Mutex<Parker>,
-    /// The digests that tell of all owners that the node holds, if they were made.
+    /// The digests of all owners that the node holds, if they were made.
     digests: Mutex<Option<OwnDigests>>,
     /// What the peers may lack.
     backlogs: Mutex<Backlogs>,
@@ -46,7 +46,7 @@ pub(crate) struct Dialing<'a, O> {
 enum Plan<S: RoundsTag> {
     /// It lacks nothing.
     Nothing,
-    /// It is pushed what it lacks, which stands here twice: as what to give back, and as what to push.
+    /// It is pushed what it may lack: the backlog to give back if that fails, and the news to push.
     Push(Backlog, News<S>),
     /// A round is made with it.
     Round,
@@ -55,7 +55,7 @@ enum Plan<S: RoundsTag> {
 /// When a session was begun with a peer, as far as that counts at its end.
 #[derive(Clone, Copy)]
 struct SessionStart {
-    /// From when on it has waited as long as a connection may be idle; never, where none is given.
+    /// From when on it has waited as long as a connection may be idle. None if there is no such limit.
     waited_from: Option<Instant>,
     /// From when on the peer is a slow one.
     slow_from: Option<Instant>,
@@ -132,7 +132,7 @@ impl<'a, O: Observer> Dialing<'a, O> {
         &self.schedule
     }
 
-    /// The digests that tell of all owners that the node holds; one without length if memory is missing to make them.
+    /// The digests of all owners that the node holds; one without length if memory is missing to make them.
     fn own_digests<S: RoundsTag, H: Wait + Drop, Q: Wait>(
         &self,
         node: &NodeContext<S, H, Q>,
@@ -254,7 +254,8 @@ impl<'a, O: Observer> Dialing<'a, O> {
         }
     }
 
-    /// Brings the peer at this index the news for it: pushes it, or makes a round if it is much or nobody knows what the peer lacks.
+    /// Brings the peer at this index the news for it. It makes a round if there is much of it, or if nobody knows what the peer
+    /// lacks, and pushes it otherwise.
     pub(crate) fn bring_news<S: RoundsTag, H: Wait + Drop, Q: Wait + Net + Clock>(
         &self,
         node: &NodeContext<S, H, Q>,

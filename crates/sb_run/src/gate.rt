@@ -33,7 +33,7 @@ pub trait Gate {
     /// Sessions call it after each delta that entered something.
     fn entered(&self, _delta: &Delta) {}
 
-    /// Sessions call it behind each delta of which a block does not join on to what is held.
+    /// Sessions call it after each delta with a block that does not join on to what is held.
     fn missed(&self) {}
 
     /// A worker calls it once the session of this number is over.

@@ -107,15 +107,19 @@ fn start_refusal<L: WriteLog>(settings: &Settings, log: &L) -> Option<Fault>
 /// turns, unless nobody else is left. The observer gets each change of a peer's state. After the last round the node waits for
 /// the connections that are open, and ends. It removes what is at the paths of both sockets, even if another put it there since.
 ///
-/// After a write of a client, or something new from a peer, the node dials the next `fanout` peers, except those of which
-/// the last two sessions were not made to their end. It pushes to each what this peer may lack: its Hello, one delta and a
-/// Bye. It makes a round instead if no round with the peer was made to its end yet, if an owner was purged above what the
-/// peer may have, if the delta is longer than 1,024 bytes and than the node's own digests, or if its frame has no room for
-/// one more entry within the budget. The seats beyond two and one for each worker are for this: so many peers are dialed
-/// side by side. Without such seats they are dialed one after another, between the rounds in turn. A peer has at most one
-/// session for news at a time; news during one makes another after it. Peers whose last session took half a second or more
-/// leave one of these seats to others. News that comes within ten milliseconds goes together. With no pause there is no need
-/// of it.
+/// After a write of a client, or something new from a peer, the node dials the next `fanout` peers. A peer whose last two
+/// sessions were not made to their end is left out. The node pushes to each what this peer may lack: its Hello, one delta
+/// and a Bye. It makes a round instead in these cases:
+///
+/// - No round with the peer was made to its end yet.
+/// - An owner was purged above what the peer may have.
+/// - The delta is longer than 1,024 bytes, and than the node's own digests.
+/// - Its frame has no room for one more entry within the budget.
+///
+/// The seats beyond two and one for each worker are for this: so many peers are dialed side by side. Without such seats they
+/// are dialed one after another, between the rounds in turn. A peer has at most one session for news at a time; news during
+/// one makes another after it. Peers whose last session took half a second or more leave one of these seats to others. News
+/// that comes within ten milliseconds goes together. With no pause there is no need of it.
 ///
 /// A push is not a round. It counts as taken only if the peer greeted and ended the connection itself. If not, the next push to
 /// this peer has the same again. If a peer's delta has writes after ones that the node lacks, the next round in turn is made at

@@ -22,8 +22,8 @@ pub struct Peer<'a> {
     round: u64,
     /// How many more of its turns it is passed over.
     turns_out: u64,
-    /// How many sessions with it in a row did not end well, 2 for more: rounds that were not made to their end, and pushes
-    /// that it may not have taken.
+    /// How many sessions with it in a row did not end well, 2 for more. These are rounds that were not made to their end, and
+    /// pushes that it did not end itself.
     misses: u64,
 }
 
@@ -264,7 +264,7 @@ impl<'a> Peers<'a> {
     }
 
     /// Takes down how the round of this number with a peer ended, and whether that kept the node waiting. If the peer is
-    /// otherwise than before, it reports that to the observer, and says so.
+    /// otherwise than before, it reports that to the observer, and returns true.
     pub(crate) fn note<O: Observer>(
         &mut self,
         index: usize,
@@ -291,7 +291,7 @@ impl<'a> Peers<'a> {
     }
 
     /// Takes down how a push to a peer ended, and whether that kept the node waiting. A push that ended well leaves the peer as it
-    /// is by its rounds. If the peer is otherwise than before it tells the observer, and says so.
+    /// is by its rounds. If the peer is otherwise than before, it reports that to the observer, and returns true.
     pub(crate) fn note_push<O: Observer>(
         &mut self,
         index: usize,

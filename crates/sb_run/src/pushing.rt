@@ -30,7 +30,7 @@ const PUSH_LENGTH: u64 = 1_024;
 /// The length of a frame's header, and of the longest item that a delta can have beside its others.
 const NEXT_LENGTH_MOST: u64 = HEADER_LENGTH + BLOCK_HEAD_MOST + ENTRY_LENGTH_MOST;
 
-/// What the node told of some owners.
+/// What the node holds of some owners above their versions.
 #[derive(Drop)]
 pub(crate) struct News<S: RoundsTag> {
     delta: Delta,
@@ -39,8 +39,8 @@ pub(crate) struct News<S: RoundsTag> {
     ghost answered: { spec.IsAnswered S.opening S.settings delta },
 }
 
-/// Whether a delta of so many bytes is pushed: it is short, or no longer than the node's own digests, and nothing was cut off,
-/// since its frame has room for one more entry within the budget. A round brings any other.
+/// Whether a delta of so many bytes is pushed: it is short, or no longer than the node's own digests. Its frame also has room
+/// for one more entry within the budget, so nothing was cut off. A round brings any other.
 fn fits_push(length: u64, digests: u64, budget: u64) -> bool
     ensures { result ≡ spec.fits_push length digests budget }
 {

@@ -36,7 +36,7 @@ pub(crate) struct Turns<'a> {
     is_conflict_reported: bool,
     /// When the next round in turn is due. None if the clock can't be read.
     due: Option<Instant>,
-    /// From when on a gap may hasten the next round in turn; at once, where none is given.
+    /// From when on a gap may hasten the next round in turn. None if none was hastened.
     hastens_from: Option<Instant>,
 }
 

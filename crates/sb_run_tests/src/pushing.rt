@@ -112,7 +112,7 @@ fn push_as_c<R: Net + Abort>(rt: &R, sock: &str, delta: &[u8]) {
     }
 }
 
-/// A delta of c with one write under this version, behind the one before.
+/// A delta of c with one write under this version, after the one before.
 fn delta_of_c(version: u8) -> [u8; 56] {
     let mut delta = DELTA_A;
     delta[10] = b'c';
@@ -191,8 +191,8 @@ fn a_peer_that_accepts_late_has_the_news(rt: HostRuntime) {
     same(&rt, &(ran.rounds, ran.faults), &(1, 0));
 }
 
-/// Hears three pushes as b. It does not end the first, but the second, and then neither of two more. Returns how far b holds a
-/// behind the second, whether nobody dials after the last write, and how far b holds a behind the next turn.
+/// Hears four pushes as b, and ends the second alone. Returns how far b holds a after the second, and after the next turn.
+/// Between them it returns whether nobody dials after the last write.
 fn leave_open<R: Net + Abort + Clock>(
     rt: &R,
     alloc: Global,
@@ -219,7 +219,7 @@ fn leave_open<R: Net + Abort + Clock>(
     (behind_second, is_alone, in_turn)
 }
 
-/// What such a peer was not told for sure it is told again. Behind two faults in a row it is dialed in its turns alone.
+/// Such a peer gets the same again. After two faults in a row it is dialed in its turns alone.
 #[test]
 fn a_peer_that_never_ends_is_told_again(rt: HostRuntime) {
     let paths = paths_of("open.sock", "open.control", &["open.b"]);

@@ -5,7 +5,8 @@ use crate::peers::{hears_only, next_of, node_with, put_is_done, reach, serve_as_
 use crate::{got, holds, same};
 use sb_log::PlainLog;
 use sb_run::{
-    DownReason, Nobody, NodeConfig, Observer, OnLogFault, Pace, Paths, PeerState, Ran, Runtime, run_node,
+    DownReason, Nobody, NodeConfig, Observer, OnLogFault, Pace, Paths, PeerState, Ran, Runtime,
+    run_node,
 };
 use sb_session::Ended;
 use sb_testing::wire::HELLO_B;

@@ -128,7 +128,7 @@ fn a_silent_peer_delays_the_news_to_itself_alone(rt: HostRuntime) {
 }
 
 /// Is dialed as b in turn and for news. While it lets that wait, the owner writes twice more, and nobody else dials. Returns how
-/// far b holds a behind the session for news and behind the next.
+/// far b holds a after the session for news and after the next.
 fn let_news_wait<R: Net + Clock + Abort>(
     rt: &R,
     alloc: Global,

@@ -139,7 +139,10 @@ fn a_node_tells_how_it_is(rt: HostRuntime) {
     got(&rt, fs::remove_file(&rt, "tell.b"));
     holds(&rt, "b, c and the owner were served", played);
     same(&rt, &got(&rt, ran).rounds, &2);
-    let ends = [(PeerState::Down(DownReason::Unreachable), 1), (PeerState::Answers, 2)];
+    let ends = [
+        (PeerState::Down(DownReason::Unreachable), 1),
+        (PeerState::Answers, 2),
+    ];
     let told = *observer.told.lock(&rt);
     same(&rt, &told, &Some((WROTE_ONE, ends, (3, [1, 1, 1]))));
 }
@@ -165,7 +168,10 @@ fn a_node_tells_of_another_under_its_name(rt: HostRuntime) {
         is_log_open: true,
         conflict: Some(1),
     };
-    let ends = [(PeerState::Down(DownReason::EndedEarly), 1), (PeerState::Never, 0)];
+    let ends = [
+        (PeerState::Down(DownReason::EndedEarly), 1),
+        (PeerState::Never, 0),
+    ];
     let told = *observer.told.lock(&rt);
     same(&rt, &told, &Some((wanted, ends, (0, [0, 0, 0]))));
 }
