@@ -6,6 +6,7 @@
 //! holds without the option, if it has no default.
 use crate::failure::FaultPlace;
 use crate::help;
+use crate::metrics::Series;
 use crate::part::{Kind, Part, Range};
 use crate::serving::ServeArguments;
 use clap::ArgMatches;
@@ -335,11 +336,12 @@ const WORKERS: Part = Part {
     help: "How many connections of peers the node serves at once",
 };
 
-/// Greater: The additional seats stay empty.
-/// Smaller: Fault 5.
+/// The seats beyond workers and 2 are for news: so many peers get it at a time. See [News](#news).
+/// Greater: More slow peers delay nobody else, in more threads.
+/// Smaller: With workers and 2, peers get news one after another. Less: Fault 5.
 pub(crate) const SEATS: Part = Part {
     name: "seats",
-    kind: Kind::NumberElse(Range::Seats(SEATS_MOST), "workers and 2"),
+    kind: Kind::NumberElse(Range::Seats(SEATS_MOST), "workers, fanout and 2"),
     value: "S",
     help: "How many threads read and write the directory",
 };
@@ -360,14 +362,14 @@ const PAUSE: Part = Part {
     help: "How many milliseconds the node waits after each round in turn",
 };
 
-/// Each of these dials is a round. See [News](#news).
-/// Greater: News is everywhere sooner, in more rounds.
+/// To each it pushes what this peer may lack. See [News](#news).
+/// Greater: News is everywhere sooner, in more pushes.
 /// Smaller: With 0, news waits for the rounds in turn.
 const FANOUT: Part = Part {
     name: "fanout",
     kind: Kind::NumberOr(Range::Any, "3"),
     value: "K",
-    help: "How many peers the node dials right away, one after another, if it has news, 0 for none",
+    help: "How many peers the node dials right away, side by side, if it has news, 0 for none",
 };
 
 /// A connection that has said nothing yet holds no worker.
@@ -455,6 +457,26 @@ const METRICS: Part = Part {
     help: "The file in which the node reports how it is, in the text format of Prometheus",
 };
 
+/// With none the file stays small in a large cluster: a thousand nodes that hold each other make two million series.
+const METRICS_OWNERS: Part = Part {
+    name: "metrics-owners",
+    kind: Kind::OneOf(&["all", "none"], "all"),
+    value: "WHICH",
+    help: "Of which owners the file has the held version and the number of rows",
+};
+
+const METRICS_PEERS: Part = Part {
+    name: "metrics-peers",
+    kind: Kind::OneOf(&["all", "none"], "all"),
+    value: "WHICH",
+    help: "Of which peers the file has how the last round ended",
+};
+
+/// Whether an option says all.
+fn is_all(which: &str) -> bool {
+    matches!(which, "all")
+}
+
 /// What the command line gives for a node. `NoMemory`.
 pub(crate) fn serve_arguments<'a>(
     alloc: Global,
@@ -474,10 +496,21 @@ pub(crate) fn serve_arguments<'a>(
         purge_removals: PURGE_REMOVALS.number(given),
         has_time: LOG_TIME.is_given(given),
         metrics: METRICS.value_if_any(given),
+        series: Series {
+            has_owners: is_all(METRICS_OWNERS.value(given)),
+            has_peers: is_all(METRICS_PEERS.value(given)),
+        },
     })
 }
 
-/// The settings of a node. Without `--seats` there are two more seats than workers.
+/// How many seats so many workers and so many sessions for news have use for: two more, but not more than there may be.
+fn seats_for(workers: u64, fanout: u64) -> u64 {
+    let least = workers.saturating_add(2);
+    least.max(least.saturating_add(fanout).min(SEATS_MOST))
+}
+
+/// The settings of a node. Without `--seats` there is a seat for each worker, for each peer that is dialed at once for news, and
+/// two more. There are at most as many as there may be.
 fn settings_of<'a>(given: &ArgMatches<'a>) -> RawSettings<'a> {
     let workers = WORKERS.number(given);
     let order = match ORDER.value(given) {
@@ -491,7 +524,7 @@ fn settings_of<'a>(given: &ArgMatches<'a>) -> RawSettings<'a> {
         max_version: MAX_VERSION.number(given),
         seats: SEATS
             .number_if_any(given)
-            .unwrap_or(workers.saturating_add(2)),
+            .unwrap_or(seats_for(workers, FANOUT.number(given))),
         workers,
     }
 }
@@ -542,6 +575,8 @@ const SERVE_TASK: Task = Task {
         PURGE_REMOVALS,
         LOG_TIME,
         METRICS,
+        METRICS_OWNERS,
+        METRICS_PEERS,
     ],
 };
 

@@ -3,6 +3,7 @@ ghost use Rattle.std.specs.Prelude.{◌≡◌, IfErr};
 
 use crate::arrivals::Handover;
 use crate::context::NodeContext;
+use crate::counts::Counts;
 use crate::rounds::RoundsTag;
 use crate::sockets::WAKER_TOKEN;
 use crate::waiting::{Waiting, WaitingList, deadline_after};
@@ -71,6 +72,12 @@ impl Backlog {
         self.faults = self.faults.saturating_add(1);
     }
 
+    /// Notes that a connection was not accepted, or was closed to make room for others.
+    fn turn_away(&mut self, counts: &Counts) {
+        counts.add_turned_away();
+        self.note_fault();
+    }
+
     /// Lets a connection wait at this socket until it has something to say. `ReadFailed`, `NoMemory`; both close it.
     fn admit<S: RoundsTag, H: Wait + Drop, Q: Clock>(
         &mut self,
@@ -102,7 +109,7 @@ impl Backlog {
             At::Control => &mut self.callers,
         };
         if list.push(waiting)? {
-            self.note_fault();
+            self.turn_away(node.counts);
         }
         Ok(())
     }
@@ -125,13 +132,13 @@ impl Backlog {
                         node.counts.add_session();
                     }
                     if self.admit(node, registry, at, stream).is_err() {
-                        self.note_fault();
+                        self.turn_away(node.counts);
                     }
                 }
                 Err(error) if error.kind() == io::ErrorKind::WouldBlock => return Left::Nothing,
                 Err(_) => {
-                    self.note_fault();
-                    self.make_room();
+                    self.turn_away(node.counts);
+                    self.make_room(node.counts);
                     return Left::Failed;
                 }
             }
@@ -149,12 +156,12 @@ impl Backlog {
     }
 
     /// Closes a few of the oldest connections, since descriptors may be wanting, also to the other threads.
-    fn make_room(&mut self) {
+    fn make_room(&mut self, counts: &Counts) {
         for _ in 0..CLOSED_AT_ONCE {
             if !self.close_oldest() {
                 return;
             }
-            self.note_fault();
+            self.turn_away(counts);
         }
     }
 
@@ -167,15 +174,18 @@ impl Backlog {
     ) -> Result<(), Fault> {
         let begun = self.peers.take_session(node.alloc, registry, number)?;
         if let Some((came, stream)) = begun {
-            return self.handover.give_session(node.rt, came, stream);
+            let given = self.handover.give_session(node.rt, came, stream);
+            return note_given(node.counts, given);
         }
         let whole = self
             .callers
             .take_request::<Brand>(registry, number, Blank::new(1))?;
         match whole {
             Some((request, stream)) => {
-                self.handover
-                    .give_request(node.rt, node.asked, request, stream)
+                let given = self
+                    .handover
+                    .give_request(node.rt, node.asked, request, stream);
+                note_given(node.counts, given)
             }
             None => Ok(()),
         }
@@ -205,6 +215,14 @@ impl Backlog {
             Err(_) => Some(Duration::from_millis(ACCEPT_PAUSE)),
         }
     }
+}
+
+/// Counts a connection that could not be handed on as one that was turned away.
+fn note_given(counts: &Counts, given: Result<(), Fault>) -> Result<(), Fault> {
+    if given.is_err() {
+        counts.add_turned_away();
+    }
+    given
 }
 
 /// How long the next poll may wait, by how much is left to accept.
@@ -267,10 +285,9 @@ impl Acceptor {
                 return backlog.faults;
             }
             for event in &events {
-                if backlog
-                    .take_up(node, poll.registry(), event.token().0)
-                    .is_err()
-                {
+                let number = event.token().0;
+                if let Err(fault) = backlog.take_up(node, poll.registry(), number) {
+                    node.counts.note_version(&fault);
                     backlog.note_fault();
                 }
             }

@@ -2,6 +2,7 @@
 ghost use Rattle.std.specs.Prelude.{◌≡◌, IfOk, IfErr};
 ghost use Rattle.sb_run.specs.Sources.{IsNumbered};
 
+use crate::counts::Counts;
 use crate::ending::EndFlag;
 use crate::node::Pace;
 use crate::pool::{Source, Taken};
@@ -179,18 +180,20 @@ pub(crate) struct Arrivals<'a, R> {
     ending: &'a EndFlag,
     asked: &'a Asked,
     pace: Pace,
+    counts: &'a Counts,
     /// How many sessions were taken.
     sessions: AtomicU64,
 }
 
 impl<'a, R> Arrivals<'a, R> {
-    /// Gives these jobs until the node is to end, with the limits of its pace.
+    /// Gives these jobs until the node is to end, with the limits of its pace, and counts how many workers are busy.
     pub(crate) fn new(
         rt: &'a R,
         jobs: Jobs,
         ending: &'a EndFlag,
         asked: &'a Asked,
         pace: Pace,
+        counts: &'a Counts,
     ) -> Arrivals<'a, R> {
         Arrivals {
             rt,
@@ -198,6 +201,7 @@ impl<'a, R> Arrivals<'a, R> {
             ending,
             asked,
             pace,
+            counts,
             sessions: AtomicU64::new(0),
         }
     }
@@ -246,13 +250,15 @@ impl<'a, R: Wait + Clock + Sync> Source for Arrivals<'a, R> {
 
     fn next(&self) -> Option<Result<Taken<PeerInput<'a, R>, Timed<'a, R>>, Fault>> {
         self.asked.count.fetch_add(1, Ordering::SeqCst);
+        self.counts.free_worker(self.rt);
         let received = self.jobs.from.recv(self.rt);
         if self.ending.is_raised() {
             return None;
         }
-        match received {
-            Ok(job) => Some(self.taken_of(job)),
-            Err(_) => None,
-        }
+        let Ok(job) = received else {
+            return None;
+        };
+        self.counts.occupy_worker(self.rt);
+        Some(self.taken_of(job))
     }
 }

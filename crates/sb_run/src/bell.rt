@@ -1,4 +1,4 @@
-//! The bell that wakes the thread that dials.
+//! The bell that wakes the threads that dial.
 ghost use Rattle.std.specs.Prelude.{◌≡◌, IfErr};
 
 use crate::gate::{Gate, GatePoint};
@@ -7,29 +7,45 @@ use sb_types::{Delta, Fault};
 use std::alloc::Global;
 use std::sync::atomic::{AtomicBool, Ordering};
 
-/// Wakes the thread that dials when there is something new to pass on. Sessions pass it as a gate that turns nobody away.
+/// Wakes the threads that dial when there is something new to pass on. Sessions pass it as a gate that turns nobody away.
 #[derive(Drop)]
 pub(crate) struct Bell {
-    unparker: Unparker,
+    /// Wakes the thread of the turns.
+    turns: Unparker,
+    /// Wakes the thread that waits for news.
+    news: Unparker,
     /// Whether there is news that no burst has taken up.
     has_news: AtomicBool,
     /// Whether an owner may have come that was not held.
     has_new_owner: AtomicBool,
+    /// Whether a peer sent writes after ones that are missing.
+    has_gap: AtomicBool,
+}
+
+/// The threads that a bell wakes wait at them.
+#[derive(Drop)]
+pub(crate) struct Parkers {
+    pub(crate) turns: Parker,
+    pub(crate) news: Parker,
 }
 
 impl Bell {
-    /// A bell, and the place where the thread waits that it wakes. `NoMemory`.
-    pub(crate) fn new(alloc: Global) -> Result<(Bell, Parker), Fault>
+    /// A bell, and what the threads that it wakes wait at. `NoMemory`.
+    pub(crate) fn new(alloc: Global) -> Result<(Bell, Parkers), Fault>
         ensures { IfErr result (λ fault. fault ≡ Fault.NoMemory) }
     {
-        let parker = Parker::new(alloc)?;
-        let unparker = parker.unparker().clone()?;
+        let parkers = Parkers {
+            turns: Parker::new(alloc)?,
+            news: Parker::new(alloc)?,
+        };
         let bell = Bell {
-            unparker,
+            turns: parkers.turns.unparker().clone()?,
+            news: parkers.news.unparker().clone()?,
             has_news: AtomicBool::new(false),
             has_new_owner: AtomicBool::new(false),
+            has_gap: AtomicBool::new(false),
         };
-        Ok((bell, parker))
+        Ok((bell, parkers))
     }
 
     /// Says that there is news, and whether it is of an owner that was not held.
@@ -41,14 +57,25 @@ impl Bell {
         self.wake();
     }
 
-    /// Wakes the thread without news.
+    /// Wakes the threads without news.
     pub(crate) fn wake(&self) {
-        self.unparker.unpark();
+        self.turns.unpark();
+        self.news.unpark();
+    }
+
+    /// Whether there is news that was not taken.
+    pub(crate) fn has_news(&self) -> bool {
+        self.has_news.load(Ordering::SeqCst)
     }
 
     /// Whether there was news since this was last asked.
     pub(crate) fn take_news(&self) -> bool {
         self.has_news.swap(false, Ordering::SeqCst)
+    }
+
+    /// Whether a peer sent writes after ones that are missing, since this was last asked.
+    pub(crate) fn take_gap(&self) -> bool {
+        self.has_gap.swap(false, Ordering::SeqCst)
     }
 
     /// Whether an owner may have come since this was last asked.
@@ -70,5 +97,10 @@ impl Gate for Bell {
     fn entered(&self, delta: &Delta) {
         let is_new_owner = delta.blocks().iter().any(|block| block.after() == 0);
         self.ring(is_new_owner);
+    }
+
+    fn missed(&self) {
+        self.has_gap.store(true, Ordering::SeqCst);
+        self.turns.unpark();
     }
 }

@@ -43,7 +43,7 @@ impl<S: RoundsTag, H: Wait + Drop, Q> NodeContext<'_, S, H, Q> {
 }
 
 impl<S: RoundsTag, H: Wait + Drop, Q> NodeContext<'_, S, H, Q> {
-    /// Ends the thread that accepts, and with it what the workers and the calling thread wait for, and wakes the one that dials.
+    /// Ends the thread that accepts, and with it what the workers and the calling thread wait for, and wakes those that dial.
     pub(crate) fn end(&self) {
         self.ending.raise(self.sockets);
         self.bell.wake();

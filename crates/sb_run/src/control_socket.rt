@@ -1,10 +1,13 @@
 //! The calling thread of a running node: it answers what callers asked at the control socket, and makes the own writes.
 ghost use Rattle.std.specs.Prelude.{◌≡◌, true, false};
 ghost use Rattle.sb_run.specs.Control.{AnswersTo};
+ghost use Rattle.sb_run.specs.Closing.{seen_by};
 ghost use Rattle.sb_run.specs.Running.{IsOpenedFrom};
 
 use crate::arrivals::{Request, Requests};
+use crate::closable::ClosableLog;
 use crate::context::NodeContext;
+use crate::log_cause::LogCause;
 use crate::node::OnLogFault;
 use crate::observer::Observer;
 use crate::own_writes::OwnWrites;
@@ -52,7 +55,7 @@ impl<S: RoundsTag, H: Wait + Drop, Q: Wait + Clock> NodeContext<'_, S, H, Q> {
 }
 
 impl<S: RoundsTag, H: Wait + Drop, Q> NodeContext<'_, S, H, Q> {
-    /// Tells the dialing thread of a write that the last request made, and the observer of a log that it closed. Whether the node
+    /// Tells the threads that dial of a write that the last request made, and the observer of a log that it closed. Whether the node
     /// is to end with that.
     fn report_writes<L: WriteLog, O: Observer>(
         &self,
@@ -67,50 +70,77 @@ impl<S: RoundsTag, H: Wait + Drop, Q> NodeContext<'_, S, H, Q> {
         if let Some(version) = writes.take_stored() {
             self.bell.ring(version == 1);
         }
+        if writes.take_full() {
+            self.counts.add_full_write();
+        }
         if !writes.take_failure() {
             return false;
         }
         // A log that failed is closed, so it has a cause.
         let cause = writes.cause().unwrap_or(StoreCause::Other);
-        self.counts.fail_log(cause);
-        observer.log_failed(cause);
+        self.note_log_cause(LogCause::Store(cause), observer);
         match self.pace.on_log_fault {
             OnLogFault::Exit => true,
             OnLogFault::Serve => false,
         }
     }
+
+    /// Reports what the last request did to the log. Whether the node is to end with that, or because the log was closed since;
+    /// then its other threads end too.
+    fn ends_with_log<L: WriteLog, O: Observer>(
+        &self,
+        writes: &mut OwnWrites<L>,
+        observer: &O,
+    ) -> bool
+        ensures exits { result ≡ true → self.now.pace.on_log_fault ≡ OnLogFault.Exit }
+        ensures ends { writes.old.has_failed ≡ true → self.now.pace.on_log_fault ≡ OnLogFault.Exit → result ≡ true }
+        ensures same { (writes.new.log ≡ writes.old.log) × (writes.new.owed ≡ writes.old.owed) }
+    {
+        let has_ended = self.report_writes(writes, observer) || self.ends_by_log();
+        if has_ended {
+            self.end();
+        }
+        has_ended
+    }
 }
 
 impl<S: RoundsTag, H: Wait + Drop, Q: Wait + Clock> NodeContext<'_, S, H, Q> {
-    /// Answers one request after another, until the node is to end. It ends the node itself if the log failed and the node is to
-    /// exit then.
+    /// Answers one request after another, until the node is to end. It ends the node itself if the log takes no more writes and
+    /// the node is to exit then. If the log is closed at the start, that is before the first request.
     pub(crate) fn answer_requests<L: WriteLog + Drop, O: Observer>(
         &self,
         requests: Requests,
-        writes: OwnWrites<L>,
+        writes: OwnWrites<ClosableLog<L>>,
         seat: ReaderSeat<S>,
         observer: &O,
     ) -> ControlEnd<S>
-        requires opened { IsOpenedFrom (L.seen writes.log) S.opening }
-        ensures { result.has_left ≡ true → self.now.pace.on_log_fault ≡ OnLogFault.Exit }
+        requires opened { IsOpenedFrom (seen_by (L.seen writes.log.log) writes.log.closed_by) S.opening }
+        ensures exits { result.has_left ≡ true → self.now.pace.on_log_fault ≡ OnLogFault.Exit }
+        ensures failed { writes.has_failed ≡ true → self.now.pace.on_log_fault ≡ OnLogFault.Exit → result.has_left ≡ true }
     {
         let (mut writes, mut current) = (writes, seat);
         let mut faults: u64 = 0;
+        if self.ends_with_log(&mut writes, observer) {
+            return ControlEnd {
+                seat: current,
+                faults,
+                has_left: true,
+            };
+        }
         for _ in self.rt.forever() {
             let Some(request) = requests.next(self.rt, self.ending) else {
+                // A thread that dials ends the node too if it finds the log lost.
                 return ControlEnd {
                     seat: current,
                     faults,
-                    has_left: false,
+                    has_left: self.ends_by_log(),
                 };
             };
+            self.close_lost_log(&mut writes, observer);
             let (seat, failed) = self.answer_one(&mut writes, request, current);
             current = seat;
-            if failed {
-                faults = faults.saturating_add(1);
-            }
-            if self.report_writes(&mut writes, observer) {
-                self.end();
+            faults = faults.saturating_add(u64::from(failed));
+            if self.ends_with_log(&mut writes, observer) {
                 return ControlEnd {
                     seat: current,
                     faults,

@@ -91,6 +91,7 @@ impl<S: DirectoryTag, H: Wait + Drop, Q: Wait> Serving<'_, S, H, Q> {
         let mut handler = GatedHandler::new(served, gate, number);
         let session = session_of(self.directory);
         let ended = serve(connection, session, &mut handler);
+        gate.ended(number, &ended);
         (handler.into_inner().into_seat(), ended.is_err())
     }
 

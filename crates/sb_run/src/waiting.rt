@@ -24,7 +24,7 @@ pub(crate) const WAITING_MOST: usize = 1_024;
 pub(crate) struct Waiting {
     number: usize,
     stream: UnixStream,
-    /// When it is closed; never if this is none.
+    /// When it is closed; never if it has no moment.
     until: Option<Instant>,
     /// What has come of its request, if it is a caller.
     frames: Frames,

@@ -5,6 +5,8 @@
 #[cfg(test)]
 mod asking;
 #[cfg(test)]
+mod closing;
+#[cfg(test)]
 mod desk;
 #[cfg(test)]
 mod examples;
@@ -21,11 +23,17 @@ mod peers;
 #[cfg(test)]
 mod pooling;
 #[cfg(test)]
+mod pushing;
+#[cfg(test)]
 mod running;
+#[cfg(test)]
+mod side_by_side;
 #[cfg(test)]
 mod silence;
 #[cfg(test)]
 mod starting;
+#[cfg(test)]
+mod suffering;
 #[cfg(test)]
 mod telling;
 #[cfg(test)]

@@ -22,7 +22,7 @@ use std::process::Abort;
 use std::{fs, thread};
 
 /// A log of a with two writes.
-fn log_of_two(rt: &impl Abort, alloc: Global) -> PlainLog {
+pub(crate) fn log_of_two(rt: &impl Abort, alloc: Global) -> PlainLog {
     let mut log = new_log(rt, alloc, b"a");
     got(rt, log.put(&key(rt, b"x"), &weight(rt, 5)));
     got(rt, log.put(&key(rt, b"y"), &weight(rt, 5)));

@@ -5,7 +5,7 @@ use crate::peers::{next_of, node_with, put_is_done, reach, talk};
 use crate::running::{is_there, pace, paths_of, run_a, run_observed};
 use crate::{got, holds, same};
 use sb_node::NodeCore;
-use sb_run::{Observer, Paths};
+use sb_run::{Observer, Paths, PeerState};
 use sb_session::Ended;
 use sb_table::Table;
 use sb_types::Fault;
@@ -61,7 +61,7 @@ fn news_is_passed_on_at_once(rt: HostRuntime) {
     let paths = paths_of("wake.sock", "wake.control", &["wake.b"]);
     let alloc = rt.alloc();
     let listener = got(&rt, UnixListener::bind(&rt, "wake.b"));
-    let mut pace = pace(3, 0);
+    let mut pace = pace(1, 0);
     pace.pause = 5_000;
     let (ran, heard) = thread::join(
         &rt,
@@ -71,7 +71,7 @@ fn news_is_passed_on_at_once(rt: HostRuntime) {
     got(&rt, fs::remove_file(&rt, "wake.b"));
     same(&rt, &heard, &([true, true, true], [1, 1]));
     let ran = got(&rt, ran);
-    same(&rt, &(ran.rounds, ran.faults), &(3, 0));
+    same(&rt, &(ran.rounds, ran.faults), &(1, 0));
 }
 
 #[test]
@@ -134,7 +134,7 @@ struct Counter {
 impl Observer for Counter {
     fn listening(&self) {}
 
-    fn dialed(&self, _peer: &str, _ended: &Result<Ended, Fault>) {}
+    fn dialed(&self, _peer: &str, _state: PeerState) {}
 
     fn conflict(&self, _version: u64) {}
 
