@@ -1,7 +1,7 @@
 use Rattle.std.specs.Prelude.{IsErr}
 use Rattle.std.proofs.Common.{rules, sym, subst}
 use Rattle.sb_run.proofs.Leaving.{end_fault}
-use Rattle.sb_run.proofs.dialer.fn.Dialer.run_threads.scope.Goals as goal
+use Rattle.sb_run.proofs.dialer.Dialing.run_within.Goals as goal
 
 pub returns : goal.returns
 returns g c =
