@@ -12,10 +12,12 @@ _attrdir() {
   local -A values_of=(
     [--order]='breadth depth'
     [--on-log-fault]='serve exit'
+    [--metrics-owners]='all none'
+    [--metrics-peers]='all none'
     [--format]='text json'
   )
   local -A options_of=(
-    [serve]='--name --cluster --log --sock --control --budget --order --max-version --workers --seats --rounds --pause --fanout --idle --dial-idle --request --max-reads --on-log-fault --purge-removals --log-time --metrics --help'
+    [serve]='--name --cluster --log --sock --control --budget --order --max-version --workers --seats --rounds --pause --fanout --idle --session --dial-idle --request --max-reads --on-log-fault --purge-removals --log-time --metrics --metrics-owners --metrics-peers --help'
     [set]='--control --raw --help'
     [del]='--control --help'
     [get]='--control --owner --prefix --key --value --raw --format --help'

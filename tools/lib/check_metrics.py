@@ -11,14 +11,23 @@ from nodes import BYE, SECONDS, Difference, block, connect, delta, frame, hello,
 # each metric, in the order of the file, with its type and the labels of its values beside that of the node
 METRICS = {
     "attrdir_build_info": ("gauge", ("version", "frames", "logs")),
+    "attrdir_start_time_seconds": ("gauge", ()),
     "attrdir_rounds_total": ("counter", ()),
     "attrdir_round_faults_total": ("counter", ()),
     "attrdir_sessions_total": ("counter", ()),
+    "attrdir_session_faults_total": ("counter", ()),
+    "attrdir_other_versions_total": ("counter", ()),
+    "attrdir_turned_away_total": ("counter", ()),
+    "attrdir_workers": ("gauge", ()),
+    "attrdir_workers_busy": ("gauge", ()),
+    "attrdir_all_workers_busy_total": ("counter", ()),
     "attrdir_log_open": ("gauge", ()),
     "attrdir_log_fault": ("gauge", ("cause",)),
     "attrdir_name_conflict": ("gauge", ()),
     "attrdir_keys": ("gauge", ()),
     "attrdir_keys_limit": ("gauge", ()),
+    "attrdir_removals": ("gauge", ()),
+    "attrdir_full_writes_total": ("counter", ()),
     "attrdir_owners": ("gauge", ()),
     "attrdir_owners_limit": ("gauge", ()),
     "attrdir_held_version": ("gauge", ("owner",)),
@@ -40,8 +49,9 @@ def sample_of(line):
     return found[1], labels, int(found[3])
 
 
-def metrics_in(path, node):
-    """What the file says of a node: by name and label the value. Each metric stands once, with its help and its type above its values."""
+def metrics_in(path, node, without=()):
+    """What the file says of a node: by name and label the value. Each metric stands once, with its help and its type above its values, but for those
+    that the node is to leave out."""
     content = path.read_text()
     want("the end of the file", content[-1:], "\n")
     names, values = [], {}
@@ -60,16 +70,16 @@ def metrics_in(path, node):
             place = (name, *(it for _, it in labels[1:]))
             want(f"whether {place} stands twice", place in values, False)
             values[place] = value
-    want("the metrics", names, list(METRICS))
+    want("the metrics", names, [it for it in METRICS if it not in without])
     return values
 
 
-def awaits(path, node, wanted, fits=lambda found: True):
+def awaits(path, node, wanted, fits=lambda found: True, without=()):
     """Reads the file again and again until it has these values, by name and label, and what it says fits."""
     found, end = {}, time.monotonic() + SECONDS
     while time.monotonic() < end:
         if path.exists():
-            found = metrics_in(path, node)
+            found = metrics_in(path, node, without)
             if {it: found.get(it) for it in wanted} == wanted and fits(found):
                 return found
         time.sleep(0.01)
@@ -125,7 +135,7 @@ def metrics(check):
     named = str(odd).replace("\\", "\\\\").replace('"', '\\"')
     wanted = {(name,): value for name, value in (
         ("attrdir_log_open", 1), ("attrdir_name_conflict", 0), ("attrdir_keys", 3), ("attrdir_keys_limit", 4096), ("attrdir_owners", 2),
-        ("attrdir_owners_limit", 1024), ("attrdir_sessions_total", 0),
+        ("attrdir_owners_limit", 1024), ("attrdir_sessions_total", 0), ("attrdir_removals", 1), ("attrdir_workers", 4), ("attrdir_workers_busy", 0),
     )}
     wanted.update({("attrdir_held_version", "a"): 4, ("attrdir_held_version", "b"): 2, ("attrdir_rows", "a"): 2, ("attrdir_rows", "b"): 2})
     up, fault = ({(f"attrdir_peer_{it}", str(other.sock)): value for it, value in pair} for pair in ((("up", 1), ("fault", 0)), (("up", 0), ("fault", 16))))
@@ -153,14 +163,27 @@ def metrics_of_state(check):
     removes it."""
     folder = check.folder()
     path = folder / "a.prom"
+    began = time.time()
     node = check.node("a", "--pause", "10", "--metrics", str(path), folder=folder).start()
     none = {("attrdir_owners",): 1, ("attrdir_keys",): 0, ("attrdir_round_faults_total",): 0, ("attrdir_sessions_total",): 0}
     found = awaits(path, "a", none)
     release = ("attrdir_build_info", "0.2.0", "3", "2")
-    want("the release, and no owners or peers", [it for it in found if len(it) > 1], [release])
+    # (a node holds itself at 0 before its first write)
+    own = [("attrdir_held_version", "a"), ("attrdir_rows", "a")]
+    want("the release, and no other owner, and no peer", [it for it in found if len(it) > 1], [release, *own])
+    want("what it holds of itself", [found[it] for it in own], [0, 0])
+    if not began - 1 <= found["attrdir_start_time_seconds",] <= time.time():
+        raise Difference(f"it was started at {found['attrdir_start_time_seconds',]}, by its file")
+    # (a stage of s, which comes to 2 of 5)
+    give(node, delta("s", 0, [("k", 2, weight(5))], floor=5))
+    staged = [("attrdir_held_version", "s"), ("attrdir_rows", "s")]
+    found = awaits(path, "a", {it: 0 for it in staged})
+    want("how many owners it holds", found["attrdir_owners",], 2)
     give(node, delta("b", 0, [("k", 1, weight(5))]))
     give(node, delta("a", 0, [("k", 1, weight(6))]))
-    awaits(path, "a", {("attrdir_owners",): 2, ("attrdir_name_conflict",): 1, ("attrdir_sessions_total",): 2, ("attrdir_held_version", "b"): 1})
+    wanted = {("attrdir_owners",): 3, ("attrdir_name_conflict",): 1, ("attrdir_sessions_total",): 3, ("attrdir_session_faults_total",): 0}
+    found = awaits(path, "a", {**wanted, ("attrdir_held_version", "b"): 1})
+    want("the owners", [it[1] for it in found if it[0] == "attrdir_held_version"], ["b", "a", "s"])
     promtool_takes(check, path)
     files, end = [], time.monotonic() + 2.5
     while time.monotonic() < end:
@@ -207,6 +230,21 @@ def metrics_elsewhere(check):
     want("its log", run(check.program, "log", "--log", str(node.log), "--name", "a", "--cluster", "c")[1].splitlines()[-1], "last 2")
 
 
+def metrics_of_few(check):
+    """With none the file leaves out the owners, or the peers."""
+    folder = check.folder()
+    path = folder / "a.prom"
+    owners = ("attrdir_held_version", "attrdir_rows")
+    peers = ("attrdir_peer_up", "attrdir_peer_fault", "attrdir_peer_rounds_since")
+    other = check.node("b", folder=folder).start()
+    for options, without in (("--metrics-owners", "none"), owners), (("--metrics-peers", "none"), peers):
+        node = check.node("a", "--pause", "10", "--metrics", str(path), *options, folder=folder, peers=[other.sock]).start()
+        awaits(path, "a", {("attrdir_owners",): 2}, without=without)
+        promtool_takes(check, path)
+        node.kill()
+        path.unlink()
+
+
 def shortages(check):
     """At nine tenths of the keys, and of the owners, that a node may have it says so, once, with or without a file."""
     folder = check.folder()
@@ -230,6 +268,14 @@ def shortages(check):
     node.options = ("--pause", "10")
     node.start()
     awaits_line(node, "attrdir: warning node a: 3687 of 4096 keys are used")
+    # (the last ones all at once)
+    rest = "".join(f"m{at} weight 5\n" for at in range(4096 - 3687)).encode()
+    with subprocess.Popen([node.program, "set", "--control", str(node.control), "-"], stdin=subprocess.PIPE, stdout=subprocess.DEVNULL) as ran:
+        ran.communicate(rest, timeout=SECONDS)
+    want("the last keys", ran.returncode, 0)
+    awaits_line(node, "attrdir: error node a: all 4096 keys are used; no other is taken")
+    want("a key more", node.command("set", "n0", "weight", "5")[2].splitlines()[:1], ["fault 6"])
+    awaits_line(node, "attrdir: error node a: writes refused since all keys are used: 1; see RUNBOOK, Keys used up")
 
 
-PARTS = (metrics, metrics_of_state, metrics_elsewhere, shortages)
+PARTS = (metrics, metrics_of_state, metrics_of_few, metrics_elsewhere, shortages)

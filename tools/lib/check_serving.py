@@ -185,15 +185,15 @@ def turns(check):
     status, printed, said = node.ended()
     want("the end", (status, printed), (0, "rounds 7 faults 0 events 0\n"))
     want("the peers that were dialed", dialed, [0, 1, 2, 0, 1, 2, 0])
-    want("what is said of them", said[1:-1], [f"attrdir: warning peer {path}: ended a session before its end" for path in there])
+    want("what is said of them", said[1:-1], [f"attrdir: warning peer {path}: does not answer: it ended a session before its end" for path in there])
     node.peers = [folder / "nobody", there[1], folder / "no-folder/nobody"]
     status, printed, said = node.start().ended()
     want("the end", (status, printed), (0, "rounds 7 faults 5 events 0\n"))
     want("the first line", [said[0].find(str(it)) > 0 for it in (node.sock, node.control)], [True, True])
     if not said[0].index(str(node.sock)) < said[0].index("set") < said[0].index(str(node.control)):
         raise Difference(f"which socket is for whom: {said[0]}")
-    ends = ("does not answer", "ended a session before its end", "does not answer")
-    want("what is said of them", said[1:-1], [f"attrdir: warning peer {path}: {end}" for path, end in zip(node.peers, ends)])
+    ends = ("it cannot be reached", "it ended a session before its end", "it cannot be reached")
+    want("what is said of them", said[1:-1], [f"attrdir: warning peer {path}: does not answer: {end}" for path, end in zip(node.peers, ends)])
     want("the name in each line", [it.split(":")[0] for it in said], ["attrdir"] * 5)
 
 
@@ -202,7 +202,7 @@ def changes(check):
     folder = check.folder()
     peer = check.node("b", folder=folder)
     node = check.node("a", "--pause", "300", folder=folder, peers=[peer.sock]).start()
-    wanted = [f"attrdir: warning peer {peer.sock}: does not answer"]
+    wanted = [f"attrdir: warning peer {peer.sock}: does not answer: it cannot be reached"]
 
     def await_lines():
         end = time.monotonic() + SECONDS

@@ -5,3 +5,4 @@ pub mod Owners
 pub mod Removals
 pub mod Rows
 pub mod Status
+pub mod Troubles

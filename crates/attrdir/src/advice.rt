@@ -64,6 +64,9 @@ fn about_reading(place: FaultPlace<'_>) -> &'static str {
     }
 }
 
+/// What to do about a log whose file was lost while its node ran.
+pub(crate) const ABOUT_LOSS: &str = "put the file back, or see RUNBOOK, A removed log";
+
 /// What to do about the cause by which the store of a log failed.
 pub(crate) fn about_cause(cause: StoreCause) -> &'static str {
     match cause {

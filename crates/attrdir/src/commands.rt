@@ -6,6 +6,7 @@
 //! holds without the option, if it has no default.
 use crate::failure::FaultPlace;
 use crate::help;
+use crate::metrics::Series;
 use crate::part::{Kind, Part, Range};
 use crate::serving::ServeArguments;
 use clap::ArgMatches;
@@ -335,11 +336,12 @@ const WORKERS: Part = Part {
     help: "How many connections of peers the node serves at once",
 };
 
-/// Greater: The additional seats stay empty.
-/// Smaller: Fault 5.
+/// The seats beyond workers and 2 are for news: so many peers are told at a time. See [News](#news).
+/// Greater: More slow peers delay nobody else, in more threads.
+/// Smaller: With workers and 2, peers are told one after another. Less: Fault 5.
 pub(crate) const SEATS: Part = Part {
     name: "seats",
-    kind: Kind::NumberElse(Range::Seats(SEATS_MOST), "workers and 2"),
+    kind: Kind::NumberElse(Range::Seats(SEATS_MOST), "workers, fanout and 2"),
     value: "S",
     help: "How many threads read and write the directory",
 };
@@ -367,16 +369,27 @@ const FANOUT: Part = Part {
     name: "fanout",
     kind: Kind::NumberOr(Range::Any, "3"),
     value: "K",
-    help: "How many peers the node dials right away, one after another, if it has news, 0 for none",
+    help: "How many peers the node dials right away, side by side, if it has news, 0 for none",
 };
 
-/// Greater: A silent peer that has dialed holds a worker for longer.
+/// A connection that has said nothing yet holds no worker.
+/// Greater: A peer that falls silent in its session holds a worker for longer.
 /// Smaller: A peer over a slow link is cut off.
 const IDLE: Part = Part {
     name: "idle",
-    kind: Kind::NumberOr(Range::Any, "30000"),
+    kind: Kind::NumberOr(Range::Any, "5000"),
     value: "MS",
     help: "After how many milliseconds without a byte the node ends a connection, 0 for never",
+};
+
+/// A peer that sends a byte now and then is ended by this alone.
+/// Greater: A slow peer holds a worker for longer.
+/// Smaller: A long session over a slow link is cut off.
+const SESSION: Part = Part {
+    name: "session",
+    kind: Kind::NumberOr(Range::Any, "60000"),
+    value: "MS",
+    help: "After how many milliseconds the node ends the session of a peer that has dialed, 0 for no limit",
 };
 
 /// A peer that made the node wait so long is passed over in its next seven turns. See
@@ -390,7 +403,8 @@ const DIAL_IDLE: Part = Part {
     help: "After how many milliseconds without a byte it gives up a peer that it dials, 0 for never",
 };
 
-/// Greater: A silent caller holds the control socket for longer.
+/// A caller that is slow holds up nobody else. At most 1,024 wait at a socket; then the oldest that sent nothing is closed.
+/// Greater: A silent caller is closed later.
 /// Smaller: A slow caller is cut off.
 const REQUEST: Part = Part {
     name: "request",
@@ -443,6 +457,26 @@ const METRICS: Part = Part {
     help: "The file in which the node reports how it is, in the text format of Prometheus",
 };
 
+/// With none the file stays small in a large cluster: a thousand nodes that hold each other make two million series.
+const METRICS_OWNERS: Part = Part {
+    name: "metrics-owners",
+    kind: Kind::OneOf(&["all", "none"], "all"),
+    value: "WHICH",
+    help: "Of which owners the file has the held version and the number of rows",
+};
+
+const METRICS_PEERS: Part = Part {
+    name: "metrics-peers",
+    kind: Kind::OneOf(&["all", "none"], "all"),
+    value: "WHICH",
+    help: "Of which peers the file has how the last round ended",
+};
+
+/// Whether an option says all.
+fn is_all(which: &str) -> bool {
+    matches!(which, "all")
+}
+
 /// What the command line gives for a node. `NoMemory`.
 pub(crate) fn serve_arguments<'a>(
     alloc: Global,
@@ -462,10 +496,21 @@ pub(crate) fn serve_arguments<'a>(
         purge_removals: PURGE_REMOVALS.number(given),
         has_time: LOG_TIME.is_given(given),
         metrics: METRICS.value_if_any(given),
+        series: Series {
+            has_owners: is_all(METRICS_OWNERS.value(given)),
+            has_peers: is_all(METRICS_PEERS.value(given)),
+        },
     })
 }
 
-/// The settings of a node. Without `--seats` there are two more seats than workers.
+/// How many seats so many workers and so many sessions for news have use for: two more, but not more than there may be.
+fn seats_for(workers: u64, fanout: u64) -> u64 {
+    let least = workers.saturating_add(2);
+    least.max(least.saturating_add(fanout).min(SEATS_MOST))
+}
+
+/// The settings of a node. Without `--seats` there is a seat for each worker, for each peer that is dialed at once for news, and
+/// two more, as far as there may be so many.
 fn settings_of<'a>(given: &ArgMatches<'a>) -> RawSettings<'a> {
     let workers = WORKERS.number(given);
     let order = match ORDER.value(given) {
@@ -479,7 +524,7 @@ fn settings_of<'a>(given: &ArgMatches<'a>) -> RawSettings<'a> {
         max_version: MAX_VERSION.number(given),
         seats: SEATS
             .number_if_any(given)
-            .unwrap_or(workers.saturating_add(2)),
+            .unwrap_or(seats_for(workers, FANOUT.number(given))),
         workers,
     }
 }
@@ -494,6 +539,7 @@ fn pace_of(given: &ArgMatches<'_>) -> Pace {
         pause: PAUSE.number(given),
         fanout: FANOUT.number(given),
         idle: IDLE.number(given),
+        session: SESSION.number(given),
         dial_idle: DIAL_IDLE.number(given),
         request: REQUEST.number(given),
         max_reads: MAX_READS.number_if_any(given).unwrap_or(u64::MAX),
@@ -521,6 +567,7 @@ const SERVE_TASK: Task = Task {
         PAUSE,
         FANOUT,
         IDLE,
+        SESSION,
         DIAL_IDLE,
         REQUEST,
         MAX_READS,
@@ -528,6 +575,8 @@ const SERVE_TASK: Task = Task {
         PURGE_REMOVALS,
         LOG_TIME,
         METRICS,
+        METRICS_OWNERS,
+        METRICS_PEERS,
     ],
 };
 

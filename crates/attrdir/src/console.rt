@@ -1,12 +1,12 @@
 //! What a node that runs says on standard error.
-use crate::advice::about_cause;
+use crate::advice::{ABOUT_LOSS, about_cause};
 use crate::log_file::DroppedRemovals;
-use crate::metrics::Metrics;
+use crate::log_watch::LogWatch;
+use crate::metrics::{Metrics, Series};
 use crate::metrics_file::MetricsFile;
+use crate::troubles::TroubleLines;
 use jiff::Timestamp;
-use sb_log::StoreCause;
-use sb_run::{Observer, Status};
-use sb_session::Ended;
+use sb_run::{LogCause, LogLoss, Observer, PeerState, Status};
 use sb_types::{Fault, KEYS_MOST, OWNERS_MOST};
 use std::fmt;
 use std::sync::atomic::{AtomicBool, Ordering};
@@ -45,27 +45,47 @@ impl fmt::Display for Head {
     }
 }
 
+/// The number of the last fault of several.
+#[derive(Clone, Copy)]
+struct LastFault(u64);
+
+impl fmt::Display for LastFault {
+    fn fmt<W: fmt::Write>(&self, f: &mut fmt::Formatter<W>) -> fmt::Result {
+        write!(f, "the last by fault {}", self.0)
+    }
+}
+
 /// Says on standard error what a node meets, each thing in a line.
 #[derive(Drop)]
 pub(crate) struct Console<'r, 'a> {
     pub(crate) rt: &'r HostRuntime,
     pub(crate) name: &'a str,
     pub(crate) log: &'a str,
+    /// The file of its log.
+    pub(crate) watch: LogWatch<'a>,
     pub(crate) sock: &'a str,
     pub(crate) control: &'a str,
     /// Whether each line begins with the time.
     pub(crate) has_time: bool,
     /// The file that tells how the node is.
     pub(crate) metrics: Option<MetricsFile<'a>>,
+    /// Which metrics the file has.
+    pub(crate) series: Series,
+    /// When the node was started, in seconds since 1970; 0 if the clock could not be read.
+    pub(crate) started: u64,
     /// What was said to run out.
     pub(crate) shortage: Shortage,
+    /// What was said of what the node suffers.
+    pub(crate) troubles: TroubleLines,
 }
 
-/// Of what it was said that it runs out.
+/// Of what it was said that nine tenths are used, and that all are.
 #[derive(Drop)]
 pub(crate) struct Shortage {
     keys: AtomicBool,
+    all_keys: AtomicBool,
     owners: AtomicBool,
+    all_owners: AtomicBool,
 }
 
 impl Shortage {
@@ -73,7 +93,9 @@ impl Shortage {
     pub(crate) fn new() -> Shortage {
         Shortage {
             keys: AtomicBool::new(false),
+            all_keys: AtomicBool::new(false),
             owners: AtomicBool::new(false),
+            all_owners: AtomicBool::new(false),
         }
     }
 }
@@ -100,7 +122,7 @@ impl Console<'_, '_> {
         }
     }
 
-    /// Says once that something runs out, where it does.
+    /// Says once that nine tenths of something are used, if that is so.
     fn warn(&self, was_said: &AtomicBool, what: &str, count: usize, most: usize) {
         if is_nearly(count, most) && !was_said.swap(true, Ordering::SeqCst) {
             let (rt, head) = (self.rt, self.head(Level::Warning));
@@ -109,6 +131,75 @@ impl Console<'_, '_> {
                 self.name
             );
         }
+    }
+
+    /// Says once that all of something are used, if that is so, and what follows of it.
+    fn say_used_up(&self, was_said: &AtomicBool, what: &str, count: usize, most: usize) {
+        if count >= most && !was_said.swap(true, Ordering::SeqCst) {
+            let (rt, head) = (self.rt, self.head(Level::Error));
+            let _ = eprintln!(rt;
+                "{head} node {}: all {most} {what} are used; no other is taken",
+                self.name
+            );
+        }
+    }
+
+    /// Says of what little is left, and of what nothing.
+    fn report_shortages(&self, keys: usize, owners: usize) {
+        let shortage = &self.shortage;
+        self.warn(&shortage.keys, "keys", keys, KEYS_MOST);
+        self.say_used_up(&shortage.all_keys, "keys", keys, KEYS_MOST);
+        self.warn(&shortage.owners, "owners", owners, OWNERS_MOST);
+        self.say_used_up(&shortage.all_owners, "owners", owners, OWNERS_MOST);
+    }
+
+    /// Prints how many times a trouble happened since the last line about it, if a line is due, and what to do about it.
+    fn print_trouble<A: fmt::Display + Drop>(
+        &self,
+        level: Level,
+        what: &str,
+        times: Option<u64>,
+        advice: A,
+    ) {
+        if let Some(times) = times {
+            let (rt, head) = (self.rt, self.head(level));
+            let _ = eprintln!(rt; "{head} node {}: {what}: {times}; {advice}", self.name);
+        }
+    }
+
+    /// Prints what the node suffered since the last lines about it, each trouble at most once in a minute.
+    fn report_troubles(&self, status: &Status<'_>) {
+        let (troubles, now, lines) = (&status.troubles, status.uptime, &self.troubles);
+        self.print_trouble(
+            Level::Warning,
+            "sessions of other nodes ended with a fault",
+            lines.session_faults.take(troubles.session_faults, now),
+            LastFault(troubles.last_session_fault),
+        );
+        self.print_trouble(
+            Level::Warning,
+            "frames of another version refused",
+            lines.other_versions.take(troubles.other_versions, now),
+            "run the same release at both ends",
+        );
+        self.print_trouble(
+            Level::Warning,
+            "callers turned away",
+            lines.turned_away.take(troubles.turned_away, now),
+            "let the process open more files, or end silent callers",
+        );
+        self.print_trouble(
+            Level::Warning,
+            "times that all workers were busy for longer than a second",
+            lines.busy_times.take(troubles.busy_times, now),
+            "give it more --workers, or end silent peers",
+        );
+        self.print_trouble(
+            Level::Error,
+            "writes refused since all keys are used",
+            lines.full_writes.take(troubles.full_writes, now),
+            "see RUNBOOK, Keys used up",
+        );
     }
 
     /// Writes the file of metrics, and says where it can't be written, and where it can again.
@@ -142,6 +233,12 @@ impl Console<'_, '_> {
         );
     }
 
+    /// The log failed when its removals were to be dropped.
+    pub(crate) fn not_purged(&self) {
+        let (rt, head) = (self.rt, self.head(Level::Warning));
+        let _ = eprintln!(rt; "{head} log {}: its removals could not be purged", self.log);
+    }
+
     /// The node ended after its last round.
     pub(crate) fn ended(&self) {
         let (rt, head) = (self.rt, self.head(Level::Info));
@@ -158,18 +255,22 @@ impl Observer for Console<'_, '_> {
         );
     }
 
-    fn dialed(&self, peer: &str, ended: &Result<Ended, Fault>) {
+    fn dialed(&self, peer: &str, state: PeerState) {
         let rt = self.rt;
-        let level = match ended {
-            Ok(Ended::RoundsDone) => Level::Info,
-            _ => Level::Warning,
+        let level = match state {
+            PeerState::Never | PeerState::Answers => Level::Info,
+            PeerState::Down(_) | PeerState::Failed(_) => Level::Warning,
         };
         let head = self.head(level);
-        let _ = match ended {
-            Ok(Ended::RoundsDone) => eprintln!(rt; "{head} peer {peer}: answers"),
-            Ok(_) => eprintln!(rt; "{head} peer {peer}: ended a session before its end"),
-            Err(Fault::ReadFailed) => eprintln!(rt; "{head} peer {peer}: does not answer"),
-            Err(fault) => eprintln!(rt; "{head} peer {peer}: fault {}: {fault}", fault.number()),
+        let _ = match state {
+            PeerState::Never => Ok(()),
+            PeerState::Answers => eprintln!(rt; "{head} peer {peer}: answers"),
+            PeerState::Down(reason) => {
+                eprintln!(rt; "{head} peer {peer}: does not answer: {reason}")
+            }
+            PeerState::Failed(fault) => {
+                eprintln!(rt; "{head} peer {peer}: fault {}: {fault}", fault.number())
+            }
         };
     }
 
@@ -183,14 +284,21 @@ impl Observer for Console<'_, '_> {
         );
     }
 
-    fn log_failed(&self, cause: StoreCause) {
+    fn log_failed(&self, cause: LogCause) {
         let (rt, head) = (self.rt, self.head(Level::Error));
+        let advice = match cause {
+            LogCause::Store(cause) => about_cause(cause),
+            LogCause::Lost(_) => ABOUT_LOSS,
+        };
         let _ = eprintln!(rt;
-            "{head} log {}: fault {}: {cause}; no more writes are taken: {}, and start the node again",
+            "{head} log {}: fault {}: {cause}; no more writes are taken: {advice}, and start the node again",
             self.log,
-            Fault::StoreFailed.number(),
-            about_cause(cause)
+            Fault::StoreFailed.number()
         );
+    }
+
+    fn log_loss(&self) -> Option<LogLoss> {
+        self.watch.loss(self.rt)
     }
 
     fn wants_status(&self) -> bool {
@@ -201,14 +309,11 @@ impl Observer for Console<'_, '_> {
         let metrics = Metrics {
             name: self.name,
             status,
+            started: self.started,
+            series: self.series,
         };
-        self.warn(&self.shortage.keys, "keys", status.keys, KEYS_MOST);
-        self.warn(
-            &self.shortage.owners,
-            "owners",
-            metrics.owners(),
-            OWNERS_MOST,
-        );
+        self.report_shortages(status.keys, metrics.owners());
+        self.report_troubles(status);
         if let Some(file) = &self.metrics {
             self.write_metrics(file, &metrics);
         }

@@ -32,6 +32,17 @@ pub(crate) struct DroppedRemovals {
     pub(crate) floor: u64,
 }
 
+/// What became of the removals of a log when its node starts.
+#[derive(Drop)]
+pub(crate) enum StartPurge {
+    /// They stay: there are fewer than it takes.
+    Few,
+    /// They are dropped.
+    Dropped(DroppedRemovals),
+    /// The store of the log failed when they were to be dropped, and the log is closed. Before, it was read as this table.
+    Failed(Table),
+}
+
 /// A fault of a log, or of printing its lines.
 fn failure_of_fault(path: &str, fault: Fault) -> Failure<'_> {
     match fault {
@@ -226,30 +237,30 @@ fn count_removals(table: &Table) -> usize
     count
 }
 
-/// Drops the removals of a log up to its last version, where it has `least` of them or more, and tells what went. Nothing goes where
-/// `least` is 0. The faults of `load`, then those of `purge`.
+/// Drops the removals of a log up to its last version, if it has `least` of them or more, and says what became of them. Nothing is
+/// dropped if `least` is 0. If the store of the log fails then, that is no fault: it leaves the log closed, and the removals are
+/// dropped or are not. The faults are those of `load`.
 pub(crate) fn purge_removals<L: WriteLog>(
     rt: &HostRuntime,
     log: &mut L,
     least: u64,
-) -> Result<Option<DroppedRemovals>, Fault>
-    ensures never { least ≡ 0 → (result ≡ Ok None) × (log.new ≡ log.old) }
-    ensures few { IfOk result (λ done. IfNone done ((L.seen log.new).is_clean ≡ true → ((L.seen log.new).content ≡ (L.seen log.old).content)
-        × ((least ≡ 0) ⊎ (spec.removals_in (L.seen log.old).content.entries < least)))) }
-    ensures many { IfOk result (λ done. IfSome done (λ p. (L.seen log.new).is_clean ≡ true
-        → (least ≤ p.removals) × ((p.removals ≡ spec.removals_in (L.seen log.old).content.entries)
-        × ((p.floor ≡ (L.seen log.old).content.held) × ((L.seen log.new).content ≡ purged p.floor (L.seen log.old).content))))) }
+) -> Result<StartPurge, Fault>
+    ensures never { least ≡ 0 → (result ≡ Ok StartPurge.Few) × (log.new ≡ log.old) }
+    ensures done { IfOk result (λ purge. spec.IsPurged least (L.seen log.old) purge (L.seen log.new)) }
     ensures failed { IfErr result (λ fault. spec.FailsToDrop (L.seen log.old) fault (L.seen log.new)) }
 {
     if least == 0 {
-        return Ok(None);
+        return Ok(StartPurge::Few);
     }
     let table = log.load(rt.alloc())?;
     let removals = count_removals(&table);
     if (removals as u64) < least {
-        return Ok(None);
+        return Ok(StartPurge::Few);
     }
     let floor = table.upto();
-    log.purge(floor)?;
-    Ok(Some(DroppedRemovals { removals, floor }))
+    match log.purge(floor) {
+        Ok(()) => Ok(StartPurge::Dropped(DroppedRemovals { removals, floor })),
+        Err(Fault::StoreFailed) => Ok(StartPurge::Failed(table)),
+        Err(fault) => Err(fault),
+    }
 }

@@ -36,6 +36,7 @@ mod failure;
 mod help;
 mod keeping;
 mod log_file;
+mod log_watch;
 mod metrics;
 mod metrics_file;
 mod one_row;
@@ -45,6 +46,7 @@ mod pausing;
 mod release;
 mod serving;
 mod status;
+mod troubles;
 mod watching;
 mod words;
 

@@ -1,7 +1,8 @@
 //! What a node tells of itself, in the text format of Prometheus.
 use crate::release::{FRAMES, LOGS, RELEASE};
-use sb_run::{LastRound, Peer, Status};
+use sb_run::{Peer, PeerState, Status};
 use sb_types::{KEYS_MOST, Name, OWNERS_MOST};
+use sb_views::OwnerView;
 use std::{fmt, str};
 
 /// How the node of this name is, in the text format of Prometheus.
@@ -9,6 +10,18 @@ use std::{fmt, str};
 pub(crate) struct Metrics<'a, 's> {
     pub(crate) name: &'a str,
     pub(crate) status: &'a Status<'s>,
+    /// When the node was started, in seconds since 1970.
+    pub(crate) started: u64,
+    pub(crate) series: Series,
+}
+
+/// Which of the metrics that grow with the cluster the file has.
+#[derive(Clone, Copy)]
+pub(crate) struct Series {
+    /// Those of each owner.
+    pub(crate) has_owners: bool,
+    /// Those of each peer.
+    pub(crate) has_peers: bool,
 }
 
 /// A metric: its name, its type, and what it says.
@@ -23,6 +36,12 @@ const BUILD_INFO: Metric = Metric {
     name: "attrdir_build_info",
     kind: "gauge",
     help: "1, with the release, the version of frames and the form of logs.",
+};
+
+const START_TIME: Metric = Metric {
+    name: "attrdir_start_time_seconds",
+    kind: "gauge",
+    help: "When the node was started, in seconds since 1970.",
 };
 
 const ROUNDS: Metric = Metric {
@@ -41,6 +60,42 @@ const SESSIONS: Metric = Metric {
     name: "attrdir_sessions_total",
     kind: "counter",
     help: "Connections of peers that it took.",
+};
+
+const SESSION_FAULTS: Metric = Metric {
+    name: "attrdir_session_faults_total",
+    kind: "counter",
+    help: "Sessions that other nodes dialed and that ended with a fault.",
+};
+
+const OTHER_VERSIONS: Metric = Metric {
+    name: "attrdir_other_versions_total",
+    kind: "counter",
+    help: "Frames of another version that it refused.",
+};
+
+const TURNED_AWAY: Metric = Metric {
+    name: "attrdir_turned_away_total",
+    kind: "counter",
+    help: "Connections that it could not accept, or closed to make room for others.",
+};
+
+const WORKERS: Metric = Metric {
+    name: "attrdir_workers",
+    kind: "gauge",
+    help: "Workers that serve its peers.",
+};
+
+const WORKERS_BUSY: Metric = Metric {
+    name: "attrdir_workers_busy",
+    kind: "gauge",
+    help: "Workers that serve a peer or answer a question.",
+};
+
+const BUSY_TIMES: Metric = Metric {
+    name: "attrdir_all_workers_busy_total",
+    kind: "counter",
+    help: "Times that all workers were busy for longer than a second.",
 };
 
 const LOG_OPEN: Metric = Metric {
@@ -71,6 +126,18 @@ const KEYS_LIMIT: Metric = Metric {
     name: "attrdir_keys_limit",
     kind: "gauge",
     help: "The most keys of an owner.",
+};
+
+const REMOVALS: Metric = Metric {
+    name: "attrdir_removals",
+    kind: "gauge",
+    help: "Removed keys of its own that count until they are purged.",
+};
+
+const FULL_WRITES: Metric = Metric {
+    name: "attrdir_full_writes_total",
+    kind: "counter",
+    help: "Writes that it refused because it has the most keys.",
 };
 
 const OWNERS: Metric = Metric {
@@ -106,7 +173,7 @@ const PEER_UP: Metric = Metric {
 const PEER_FAULT: Metric = Metric {
     name: "attrdir_peer_fault",
     kind: "gauge",
-    help: "The number of the fault of the last round with a peer, 0 for none.",
+    help: "The number of the fault by which a peer does not answer or refuses, 0 for none.",
 };
 
 const PEER_ROUNDS_SINCE: Metric = Metric {
@@ -154,7 +221,30 @@ fn is_among(peers: &[Peer<'_>], path: &str) -> bool {
     false
 }
 
-/// What is told of a peer.
+/// What the file has of an owner.
+#[derive(Clone, Copy)]
+enum OfOwner {
+    HeldVersion,
+    Rows,
+}
+
+impl OfOwner {
+    fn metric(self) -> Metric {
+        match self {
+            OfOwner::HeldVersion => HELD_VERSION,
+            OfOwner::Rows => ROWS,
+        }
+    }
+
+    fn value(self, view: &OwnerView) -> u64 {
+        match self {
+            OfOwner::HeldVersion => view.upto(),
+            OfOwner::Rows => view.len() as u64,
+        }
+    }
+}
+
+/// What the file has of a peer.
 #[derive(Clone, Copy)]
 enum OfPeer {
     Up,
@@ -173,25 +263,37 @@ impl OfPeer {
 
     /// Its value, where so many rounds were made.
     fn value(self, peer: &Peer<'_>, rounds: u64) -> u64 {
-        match (self, peer.last()) {
-            (OfPeer::Up, LastRound::Done) => 1,
-            (OfPeer::Fault, LastRound::Failed(number)) => number as u64,
+        match (self, peer.state()) {
+            (OfPeer::Up, PeerState::Answers) => 1,
+            (OfPeer::Up, _) => 0,
+            (OfPeer::Fault, state) => state.number() as u64,
             (OfPeer::RoundsSince, _) => rounds.saturating_sub(peer.round()),
-            _ => 0,
         }
     }
 }
 
 impl Metrics<'_, '_> {
-    /// How many owners the node holds, itself counted, which it holds also where it wrote nothing.
+    /// How many owners the node holds, itself counted, which it holds also if it wrote nothing.
     pub(crate) fn owners(&self) -> usize {
         let mut count: usize = 1;
         for (owner, _) in self.status.snapshot.owners() {
-            if owner.bytes() != self.name.as_bytes() {
-                count = count.saturating_add(1);
-            }
+            count = count.saturating_add(usize::from(!self.is_node(owner)));
+        }
+        for owner in self.status.owners_at_zero {
+            let is_other = !self.is_node(owner) && !self.is_shown(owner);
+            count = count.saturating_add(usize::from(is_other));
         }
         count
+    }
+
+    /// Whether the owner is the node itself.
+    fn is_node(&self, owner: &Name) -> bool {
+        owner.bytes() == self.name.as_bytes()
+    }
+
+    /// Whether the snapshot shows the owner.
+    fn is_shown(&self, owner: &Name) -> bool {
+        self.status.snapshot.upto(owner) != 0
     }
 
     /// A metric of the node.
@@ -223,21 +325,41 @@ impl Metrics<'_, '_> {
         writeln!(f, "{name}{{node=\"{node}\",cause=\"{cause}\"}} 1")
     }
 
-    /// What the node has done since it started, and whether it takes writes.
+    /// What the node has done and suffered since it started, and whether it takes writes.
     fn write_course<W: fmt::Write>(&self, f: &mut fmt::Formatter<W>) -> fmt::Result {
-        let status = self.status;
+        let (status, troubles) = (self.status, &self.status.troubles);
+        self.write_one(f, &START_TIME, self.started)?;
         self.write_one(f, &ROUNDS, status.rounds)?;
         self.write_one(f, &FAULTS, status.faults)?;
         self.write_one(f, &SESSIONS, status.sessions)?;
+        self.write_one(f, &SESSION_FAULTS, troubles.session_faults)?;
+        self.write_one(f, &OTHER_VERSIONS, troubles.other_versions)?;
+        self.write_one(f, &TURNED_AWAY, troubles.turned_away)?;
+        self.write_one(f, &WORKERS, status.workers)?;
+        self.write_one(f, &WORKERS_BUSY, status.busy_workers)?;
+        self.write_one(f, &BUSY_TIMES, troubles.busy_times)?;
         self.write_one(f, &LOG_OPEN, u64::from(status.log_cause.is_none()))?;
         self.write_log_fault(f)?;
         self.write_one(f, &NAME_CONFLICT, u64::from(status.conflict.is_some()))
+    }
+
+    /// How many of its own keys are removed: those of which the snapshot has no row.
+    fn removals(&self) -> u64 {
+        let mut rows: usize = 0;
+        for (owner, view) in self.status.snapshot.owners() {
+            if self.is_node(owner) {
+                rows = view.len();
+            }
+        }
+        self.status.keys.saturating_sub(rows) as u64
     }
 
     /// How much of what it may have it has.
     fn write_room<W: fmt::Write>(&self, f: &mut fmt::Formatter<W>) -> fmt::Result {
         self.write_one(f, &KEYS, self.status.keys as u64)?;
         self.write_one(f, &KEYS_LIMIT, KEYS_MOST as u64)?;
+        self.write_one(f, &REMOVALS, self.removals())?;
+        self.write_one(f, &FULL_WRITES, self.status.troubles.full_writes)?;
         self.write_one(f, &OWNERS, self.owners() as u64)?;
         self.write_one(f, &OWNERS_LIMIT, OWNERS_MOST as u64)
     }
@@ -254,15 +376,18 @@ impl Metrics<'_, '_> {
         writeln!(f, "{name}{{node=\"{node}\",owner=\"{owner}\"}} {value}")
     }
 
-    /// What it holds of each owner.
-    fn write_owners<W: fmt::Write>(&self, f: &mut fmt::Formatter<W>) -> fmt::Result {
-        write_head(f, &HELD_VERSION)?;
+    /// A metric of each owner: those that the snapshot shows, and then those that are held at version 0, of which it shows
+    /// nothing.
+    fn write_owners<W: fmt::Write>(&self, f: &mut fmt::Formatter<W>, what: OfOwner) -> fmt::Result {
+        let metric = what.metric();
+        write_head(f, &metric)?;
         for (owner, view) in self.status.snapshot.owners() {
-            self.write_of_owner(f, &HELD_VERSION, owner, view.upto())?;
+            self.write_of_owner(f, &metric, owner, what.value(view))?;
         }
-        write_head(f, &ROWS)?;
-        for (owner, view) in self.status.snapshot.owners() {
-            self.write_of_owner(f, &ROWS, owner, view.len() as u64)?;
+        for owner in self.status.owners_at_zero {
+            if !self.is_shown(owner) {
+                self.write_of_owner(f, &metric, owner, 0)?;
+            }
         }
         Ok(())
     }
@@ -287,9 +412,15 @@ impl fmt::Display for Metrics<'_, '_> {
         self.write_release(f)?;
         self.write_course(f)?;
         self.write_room(f)?;
-        self.write_owners(f)?;
-        self.write_peers(f, OfPeer::Up)?;
-        self.write_peers(f, OfPeer::Fault)?;
-        self.write_peers(f, OfPeer::RoundsSince)
+        if self.series.has_owners {
+            self.write_owners(f, OfOwner::HeldVersion)?;
+            self.write_owners(f, OfOwner::Rows)?;
+        }
+        if self.series.has_peers {
+            self.write_peers(f, OfPeer::Up)?;
+            self.write_peers(f, OfPeer::Fault)?;
+            self.write_peers(f, OfPeer::RoundsSince)?;
+        }
+        Ok(())
     }
 }

@@ -2,11 +2,16 @@
 use crate::commands::SEATS;
 use crate::console::{Console, Shortage};
 use crate::failure::{Failure, FaultPlace};
-use crate::log_file::{error_of, has_folder, open_log, purge_removals};
+use crate::log_file::{StartPurge, error_of, has_folder, open_log, purge_removals};
+use crate::log_watch::LogWatch;
+use crate::metrics::Series;
 use crate::metrics_file::{MetricsFile, may_replace, writes_over};
+use crate::troubles::TroubleLines;
 use crate::words::name_of;
+use jiff::Timestamp;
 use sb_log::{LogError, WriteLog};
-use sb_run::{NodeConfig, Pace, Paths, Ran, Runtime, run_node};
+use sb_run::{NodeConfig, Pace, Paths, Ran, Runtime, run_closed_node, run_node};
+use sb_table::Table;
 use sb_types::{Fault, RawSettings, Settings};
 use std::fs::{remove_file, symlink_metadata};
 use std::io::ErrorKind;
@@ -35,6 +40,8 @@ pub(crate) struct ServeArguments<'a> {
     pub(crate) has_time: bool,
     /// The path of the file for metrics.
     pub(crate) metrics: Option<&'a str>,
+    /// Which metrics that file has.
+    pub(crate) series: Series,
 }
 
 /// Prints what the node did. `WriteFailed` if standard output does not take it.
@@ -137,22 +144,29 @@ fn place_of<'a>(rt: &HostRuntime, fault: &Fault, given: &ServeArguments<'a>) -> 
     }
 }
 
-/// Drops the tombstones of a log if there are many, and prints that. The faults of `purge_removals`.
+/// Drops the tombstones of a log if there are many, and prints what became of them. Returns the table of the log, if its
+/// store failed on the way and it is closed now. The faults of `purge_removals`.
 fn purge_first<'a, L: WriteLog>(
     rt: &HostRuntime,
     console: &Console<'_, '_>,
     given: &ServeArguments<'a>,
     log: &mut L,
-) -> Result<(), Failure<'a>> {
+) -> Result<Option<Table>, Failure<'a>> {
     match purge_removals(rt, log, given.purge_removals) {
-        Ok(Some(purged)) => console.purged(purged),
-        Ok(None) => {}
-        Err(fault) => match error_of(fault, log.cause()) {
-            LogError::Store(cause) => return Err(Failure::of_store(given.log, cause)),
-            LogError::Fault(fault) => return Err(Failure::at(place_of(rt, &fault, given), fault)),
-        },
+        Ok(StartPurge::Few) => Ok(None),
+        Ok(StartPurge::Dropped(dropped)) => {
+            console.purged(dropped);
+            Ok(None)
+        }
+        Ok(StartPurge::Failed(table)) => {
+            console.not_purged();
+            Ok(Some(table))
+        }
+        Err(fault) => Err(match error_of(fault, log.cause()) {
+            LogError::Store(cause) => Failure::of_store(given.log, cause),
+            LogError::Fault(fault) => Failure::at(place_of(rt, &fault, given), fault),
+        }),
     }
-    Ok(())
 }
 
 /// What prints the lines of a node, which has printed none yet.
@@ -165,16 +179,24 @@ fn console_of<'r, 'a>(rt: &'r HostRuntime, given: &ServeArguments<'a>) -> Consol
         rt,
         name: given.name,
         log: given.log,
+        watch: LogWatch::new(rt, given.log),
         sock: given.sock,
         control: given.control,
         has_time: given.has_time,
         metrics,
+        series: given.series,
+        started: match Timestamp::now(rt) {
+            Ok(now) => now.as_second().max(0) as u64,
+            Err(_) => 0,
+        },
         shortage: Shortage::new(),
+        troubles: TroubleLines::new(),
     }
 }
 
-/// Runs a node with a log, and prints what it did. If the log has many tombstones, they are dropped first. The faults
-/// of `purge_removals`, then those of `run_node`, then `WriteFailed`.
+/// Runs a node with a log, and prints what it did. If the log has many tombstones, they are dropped first. If the store of
+/// the log fails then, the node runs as one whose log is closed. The faults of `purge_removals`, then those of `run_node`,
+/// then `WriteFailed`.
 fn run<'a, L: WriteLog + Drop, R: Runtime + Net<Listener = TcpListener, Stream = TcpStream>>(
     rt: &HostRuntime,
     runtime: &R,
@@ -189,13 +211,16 @@ fn run<'a, L: WriteLog + Drop, R: Runtime + Net<Listener = TcpListener, Stream =
         peers: given.peers.as_slice(),
     };
     let console = console_of(rt, given);
-    purge_first(rt, &console, given, &mut log)?;
+    let left = purge_first(rt, &console, given, &mut log)?;
     let config = NodeConfig {
         settings,
         paths,
         pace: given.pace,
     };
-    let ran = run_node(runtime, rt.alloc(), config, log, &console);
+    let ran = match left {
+        None => run_node(runtime, rt.alloc(), config, log, &console),
+        Some(table) => run_closed_node(runtime, rt.alloc(), config, log, table, &console),
+    };
     console.remove_metrics();
     match ran {
         Ok(ran) => {

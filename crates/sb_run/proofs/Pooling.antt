@@ -4,19 +4,25 @@ use Rattle.sb_directory.specs.Seats.{Seat}
 use Rattle.sb_directory.specs.Serving.{IsStill, IsLater}
 use Rattle.sb_directory.specs.Handling.{still-same, still-on, later-same, later-on}
 use Rattle.sb_run.specs.declared.gate.GatePoint.{GatePoint}
-use Rattle.sb_run.specs.Gates.{IsShut, AreShut}
+use Rattle.sb_run.specs.Gates.{IsShut}
 use Rattle.sb_run.specs.Pools.{IsKept}
 
 pub kept_same : (shut : Type 0) (seat : Seat) → IsKept shut seat seat
 kept_same shut seat = record { later = later-same seat; still = λ _. still-same seat }
 
--- a gate that is shut for every session is shut for the next
-pub kept_on : (lets : ℕ → GatePoint → Type 0) (session : ℕ) (old mid new : Seat)
-    → IsKept (AreShut lets) old mid → IsKept (IsShut (lets session)) mid new → IsKept (AreShut lets) old new
-kept_on lets session old mid new first next = record {
+pub kept_on : (shut : Type 0) (old mid new : Seat) → IsKept shut old mid → IsKept shut mid new → IsKept shut old new
+kept_on shut old mid new first next = record {
   later = later-on old mid new first.later next.later;
-  still = λ shut. still-on old mid new (first.still shut) (next.still (shut session));
+  still = λ is. still-on old mid new (first.still is) (next.still is);
 }
+
+-- what is kept where one thing is shut is kept where all is
+pub kept_if : (all one : Type 0) (old new : Seat) → (all → one) → IsKept one old new → IsKept all old new
+kept_if all one old new shuts kept = record { later = kept.later; still = λ is. kept.still (shuts is) }
+
+-- a seat that is only later is kept where nothing is said to be shut
+pub kept_later : (shut : Type 0) (old new : Seat) → IsLater old new → (shut → ⊥) → IsKept shut old new
+kept_later shut old new later never = record { later = later; still = λ is. absurd (never is) }
 
 -- what a session behind a gate keeps of a seat
 pub kept_behind : {G : Type 0} (lets : G → ℕ → GatePoint → Type 0) (gate held : G) (session named : ℕ) (old before after new : Seat)

@@ -4,6 +4,11 @@ pub mod Control
 pub mod Gates
 pub mod Hellos
 pub mod Pools
+pub mod Sources
+pub mod Arriving
 pub mod Running
 pub mod Turns
+pub mod Deliveries
 pub mod Together
+pub mod Closing
+pub mod LogCauses

@@ -1,32 +1,77 @@
--- How rounds ended, and whose turn is next.
-use Rattle.std.specs.Prelude.{ℕ, Bool, true, false, nat_lt, if◌then◌else◌, Result, Ok, Err}
+-- How peers are by their rounds, and whose turn is next.
+use Rattle.std.specs.Prelude.{ℕ, Bool, true, false, nat_eq, nat_lt, if◌then◌else◌, Result, Ok, Err}
 use Rattle.sb_types.specs.declared.fault.Fault.{Fault}
+use Rattle.sb_types.specs.declared.fault.Fault.TheVariants as faults
 use Rattle.sb_types.specs.Faults.{number_of}
-use Rattle.sb_types.specs.Text.{is_between}
 use Rattle.sb_session.specs.declared.talk.Ended.{Ended}
 use Rattle.sb_session.specs.declared.talk.Ended.TheVariants as endings
-use Rattle.sb_run.specs.declared.peers.LastRound.{LastRound}
-use Rattle.sb_run.specs.declared.peers.LastRound.TheVariants.{Never, Done, Early, Failed}
+use Rattle.sb_run.specs.declared.peer_state.DownReason.{DownReason}
+use Rattle.sb_run.specs.declared.peer_state.DownReason.TheVariants.{Unreachable, Silent, ReadFailed, HungUp, BrokenOff, EndedEarly}
+use Rattle.sb_run.specs.declared.peer_state.PeerState.{PeerState}
+use Rattle.sb_run.specs.declared.peer_state.PeerState.TheVariants.{Never, Answers, Down, Failed}
 
--- how a round ended
-abbrev pub last_of : Result Ended Fault → LastRound
-last_of (Ok (endings.Bye reason)) = Early
-last_of (Ok endings.End) = Early
-last_of (Ok endings.RoundsDone) = Done
-last_of (Err fault) = Failed (number_of fault)
+-- how a peer is by a session that ended so, whether it was heard in it, and whether no byte came for too long
+abbrev pub state_of : Result Ended Fault → Bool → Bool → PeerState
+state_of (Ok endings.RoundsDone) was_heard was_silent = Answers
+state_of (Ok (endings.Bye reason)) was_heard was_silent = Down EndedEarly
+state_of (Ok endings.End) was_heard was_silent = Down EndedEarly
+state_of (Err faults.ReadFailed) was_heard was_silent = Down (if was_silent then Silent else ReadFailed)
+state_of (Err (faults.WriteFailed count)) was_heard was_silent = Down (if was_heard then BrokenOff else HungUp)
+state_of (Err other) was_heard was_silent = Failed other
 
-abbrev pub has_failed : LastRound → Bool
-has_failed Never = false
-has_failed Done = false
-has_failed Early = false
-has_failed (Failed number) = true
+-- the number of the fault for which a peer is down; an end before its time is none
+abbrev pub number_of_reason : DownReason → ℕ
+number_of_reason Unreachable = 16
+number_of_reason Silent = 16
+number_of_reason ReadFailed = 16
+number_of_reason HungUp = 17
+number_of_reason BrokenOff = 17
+number_of_reason EndedEarly = 0
 
--- it ended by what a Hello is refused for
-abbrev pub was_refused : LastRound → Bool
-was_refused Never = false
-was_refused Done = false
-was_refused Early = false
-was_refused (Failed number) = is_between 22 25 number
+-- the number of the fault by which a peer is as it is, 0 where there is none
+abbrev pub number_of_state : PeerState → ℕ
+number_of_state Never = 0
+number_of_state Answers = 0
+number_of_state (Down reason) = number_of_reason reason
+number_of_state (Failed fault) = number_of fault
+
+-- a peer is dialed for news unless it is down or had a fault
+abbrev pub takes_news : PeerState → Bool
+takes_news Never = true
+takes_news Answers = true
+takes_news (Down reason) = false
+takes_news (Failed fault) = false
+
+-- by such a fault a Hello, or the frame in which it comes, is refused
+abbrev pub is_refusal : Fault → Bool
+is_refusal faults.BadVersion = true
+is_refusal faults.NoHello = true
+is_refusal faults.WrongCluster = true
+is_refusal faults.SameName = true
+is_refusal faults.SecondHello = true
+is_refusal other = false
+
+-- a peer that is as the first says is so still where a round ends as the second says: while it is down, whatever the reason; with
+-- the same fault; and behind a refused Hello where it hangs up unheard, which is the same refusal
+abbrev pub is_still : PeerState → PeerState → Bool
+is_still Never ended = false
+is_still Answers Never = false
+is_still Answers Answers = true
+is_still Answers (Down reason) = false
+is_still Answers (Failed fault) = false
+is_still (Down first) Never = false
+is_still (Down first) Answers = false
+is_still (Down first) (Down reason) = true
+is_still (Down first) (Failed fault) = false
+is_still (Failed first) Never = false
+is_still (Failed first) Answers = false
+is_still (Failed first) (Down HungUp) = is_refusal first
+is_still (Failed first) (Down reason) = false
+is_still (Failed first) (Failed fault) = nat_eq (number_of first) (number_of fault)
+
+-- how a peer is behind a round that ended so: it keeps its first reason or fault as long as it is so still
+abbrev pub state_after : PeerState → PeerState → PeerState
+state_after before ended = if is_still before ended then before else ended
 
 -- whose turn it is of so many: behind the last comes the first
 abbrev pub turn_of : ℕ → ℕ → ℕ

@@ -1,4 +1,4 @@
-//! The bell that wakes the thread that dials.
+//! The bell that wakes the threads that dial.
 ghost use Rattle.std.specs.Prelude.{◌≡◌, IfErr};
 
 use crate::gate::{Gate, GatePoint};
@@ -7,29 +7,42 @@ use sb_types::{Delta, Fault};
 use std::alloc::Global;
 use std::sync::atomic::{AtomicBool, Ordering};
 
-/// Wakes the thread that dials where there is something new to pass on. Sessions pass it as a gate that turns nobody away.
+/// Wakes the threads that dial where there is something new to pass on. Sessions pass it as a gate that turns nobody away.
 #[derive(Drop)]
 pub(crate) struct Bell {
-    unparker: Unparker,
+    /// Wakes the thread of the turns.
+    turns: Unparker,
+    /// Wakes the thread that waits for news.
+    news: Unparker,
     /// Whether there is news that no burst has taken up.
     has_news: AtomicBool,
     /// Whether an owner may have come of whom nothing was held.
     has_new_owner: AtomicBool,
 }
 
+/// Where the threads wait that a bell wakes.
+#[derive(Drop)]
+pub(crate) struct Parkers {
+    pub(crate) turns: Parker,
+    pub(crate) news: Parker,
+}
+
 impl Bell {
-    /// A bell, and the place where the thread waits that it wakes. `NoMemory`.
-    pub(crate) fn new(alloc: Global) -> Result<(Bell, Parker), Fault>
+    /// A bell, and where the threads wait that it wakes. `NoMemory`.
+    pub(crate) fn new(alloc: Global) -> Result<(Bell, Parkers), Fault>
         ensures { IfErr result (λ fault. fault ≡ Fault.NoMemory) }
     {
-        let parker = Parker::new(alloc)?;
-        let unparker = parker.unparker().clone()?;
+        let parkers = Parkers {
+            turns: Parker::new(alloc)?,
+            news: Parker::new(alloc)?,
+        };
         let bell = Bell {
-            unparker,
+            turns: parkers.turns.unparker().clone()?,
+            news: parkers.news.unparker().clone()?,
             has_news: AtomicBool::new(false),
             has_new_owner: AtomicBool::new(false),
         };
-        Ok((bell, parker))
+        Ok((bell, parkers))
     }
 
     /// Says that there is news, and whether it is of an owner of whom nothing was held.
@@ -41,9 +54,15 @@ impl Bell {
         self.wake();
     }
 
-    /// Wakes the thread without news.
+    /// Wakes the threads without news.
     pub(crate) fn wake(&self) {
-        self.unparker.unpark();
+        self.turns.unpark();
+        self.news.unpark();
+    }
+
+    /// Whether there is news that was not taken.
+    pub(crate) fn has_news(&self) -> bool {
+        self.has_news.load(Ordering::SeqCst)
     }
 
     /// Whether there was news since this was last asked.

@@ -1,22 +1,55 @@
 //! What the threads of a running node count for whoever looks at it.
 
-use sb_log::StoreCause;
+use crate::busy::BusyWorkers;
+use crate::log_cause::LogCause;
+use crate::status::Troubles;
+use sb_session::Ended;
+use sb_types::Fault;
 use std::sync::atomic::{AtomicU64, Ordering};
+use std::time::{Clock, Instant};
 
 /// What is counted of a node since it started.
 #[derive(Drop)]
 pub(crate) struct Counts {
+    /// When the node started; none if the clock could not be read.
+    started: Option<Instant>,
     sessions: AtomicU64,
-    /// The number of the cause by which the store of the log failed, 0 if it did not.
+    /// The number of the cause by which the log takes no more writes, 0 if it takes them.
     log_cause: AtomicU64,
+    /// How many sessions that others dialed ended with a fault.
+    session_faults: AtomicU64,
+    /// The number of the fault of the last of them, 0 if there was none.
+    last_session_fault: AtomicU64,
+    /// How many frames of another version came.
+    other_versions: AtomicU64,
+    /// How many connections could not be accepted, or were closed to make room for others.
+    turned_away: AtomicU64,
+    /// How many writes were refused because there are too many keys.
+    full_writes: AtomicU64,
+    busy: BusyWorkers,
 }
 
 impl Counts {
-    /// Nothing is counted yet.
-    pub(crate) fn new() -> Counts {
+    /// Nothing is counted yet of a node with so many workers, which starts now.
+    pub(crate) fn new<Q: Clock>(clock: &Q, workers: u64) -> Counts {
         Counts {
+            started: Instant::now(clock).ok(),
             sessions: AtomicU64::new(0),
             log_cause: AtomicU64::new(0),
+            session_faults: AtomicU64::new(0),
+            last_session_fault: AtomicU64::new(0),
+            other_versions: AtomicU64::new(0),
+            turned_away: AtomicU64::new(0),
+            full_writes: AtomicU64::new(0),
+            busy: BusyWorkers::new(workers),
+        }
+    }
+
+    /// For how long the node runs, in milliseconds; 0 if the clock cannot be read.
+    pub(crate) fn uptime<Q: Clock>(&self, clock: &Q) -> u64 {
+        match (self.started, Instant::now(clock)) {
+            (Some(started), Ok(now)) => now.saturating_duration_since(started).as_millis() as u64,
+            _ => 0,
         }
     }
 
@@ -30,13 +63,70 @@ impl Counts {
         self.sessions.load(Ordering::SeqCst)
     }
 
-    /// The store of the log failed, by this cause, and the log is closed.
-    pub(crate) fn fail_log(&self, cause: StoreCause) {
-        self.log_cause.store(cause.number(), Ordering::SeqCst);
+    /// A worker is free, and waits for something to do.
+    pub(crate) fn free_worker<Q: Clock>(&self, clock: &Q) {
+        self.busy.end(self.uptime(clock));
     }
 
-    /// Why the log is closed; none if it is open.
-    pub(crate) fn log_cause(&self) -> Option<StoreCause> {
-        StoreCause::from_number(self.log_cause.load(Ordering::SeqCst))
+    /// A worker that waited has something to do.
+    pub(crate) fn occupy_worker<Q: Clock>(&self, clock: &Q) {
+        self.busy.begin(self.uptime(clock));
+    }
+
+    /// A session that another node dialed has ended.
+    pub(crate) fn end_session(&self, ended: &Result<Ended, Fault>) {
+        if let Err(fault) = ended {
+            self.session_faults.fetch_add(1, Ordering::SeqCst);
+            self.last_session_fault
+                .store(u64::from(fault.number()), Ordering::SeqCst);
+            self.note_version(fault);
+        }
+    }
+
+    /// A connection ended with this fault, be it of a frame of another version.
+    pub(crate) fn note_version(&self, fault: &Fault) {
+        if matches!(fault, Fault::BadVersion) {
+            self.other_versions.fetch_add(1, Ordering::SeqCst);
+        }
+    }
+
+    /// A connection could not be accepted, or was closed to make room for others.
+    pub(crate) fn add_turned_away(&self) {
+        self.turned_away.fetch_add(1, Ordering::SeqCst);
+    }
+
+    /// A write was refused because there are too many keys.
+    pub(crate) fn add_full_write(&self) {
+        self.full_writes.fetch_add(1, Ordering::SeqCst);
+    }
+
+    /// How many workers are busy.
+    pub(crate) fn busy_workers(&self) -> u64 {
+        self.busy.busy()
+    }
+
+    /// What the node suffered in so many milliseconds since it started.
+    pub(crate) fn troubles(&self, uptime: u64) -> Troubles {
+        Troubles {
+            session_faults: self.session_faults.load(Ordering::SeqCst),
+            last_session_fault: self.last_session_fault.load(Ordering::SeqCst),
+            other_versions: self.other_versions.load(Ordering::SeqCst),
+            turned_away: self.turned_away.load(Ordering::SeqCst),
+            full_writes: self.full_writes.load(Ordering::SeqCst),
+            busy_times: self.busy.times_until(uptime),
+        }
+    }
+
+    /// The log takes no more writes, by this cause. Returns whether no cause was noted before, which then stays.
+    pub(crate) fn fail_log(&self, cause: LogCause) -> bool {
+        let noted = self
+            .log_cause
+            .compare_exchange(0, cause.number(), Ordering::SeqCst, Ordering::SeqCst);
+        noted.is_ok()
+    }
+
+    /// Why the log takes no more writes; none if it takes them.
+    pub(crate) fn log_cause(&self) -> Option<LogCause> {
+        LogCause::from_number(self.log_cause.load(Ordering::SeqCst))
     }
 }

@@ -1,312 +1,233 @@
-//! The thread that dials the peers of a node: in turn, with a pause after each round, and in bursts where there is news.
+//! What the threads that dial the peers of a node share: they make its rounds, in turn and for news.
+ghost use Rattle.std.specs.Prelude.{◌≡◌, vec_len, vec_capacity, IfErr};
 
+use crate::bell::Parkers;
 use crate::context::NodeContext;
 use crate::dialing::{dial_peer, digests_of_all};
+use crate::moments::{has_come, moment_after};
+use crate::node::Pace;
 use crate::observer::Observer;
-use crate::peers::Peers;
-use crate::rounds::{Rounds, RoundsTag};
-use crate::status::Status;
+use crate::rounds::RoundsTag;
+use crate::schedule::{Cause, NewsStep, RoundEnd, Schedule};
+use crate::turns::Turns;
+use core::mem::replace_with;
 use crossbeam_utils::sync::Parker;
 use sb_directory::ReaderSeat;
+use sb_types::Fault;
+use std::alloc::Global;
 use std::net::Net;
-use std::sync::Wait;
+use std::sync::{Mutex, Wait};
 use std::thread;
-use std::time::{Clock, Duration, Instant};
+use std::thread::Threads;
+use std::time::Clock;
 
-/// After how long the observer is told again how the node is, in milliseconds.
-const STATUS_INTERVAL: u64 = 1_000;
+/// How long a session takes, at least, whose peer is a slow one, in milliseconds.
+const SLOW_SESSION: u64 = 500;
 
-/// How long after a burst begins news is gathered for the next, in milliseconds.
-const NEWS_INTERVAL: u64 = 10;
+/// What the threads that dial share.
+#[derive(Drop)]
+pub(crate) struct Dialing<'a, O> {
+    observer: &'a O,
+    schedule: Mutex<Schedule<'a>>,
+    /// Where the one of the threads for news waits that is to dial next.
+    parker: Mutex<Parker>,
+    /// How many exchanges tell of all owners that the node holds, where that was counted.
+    exchanges: Mutex<Option<u64>>,
+}
 
-/// Dials the peers of a node.
+/// What it takes to dial the peers of a node.
 #[derive(Drop)]
 pub(crate) struct Dialer<'a, O> {
-    peers: Peers<'a>,
-    observer: &'a O,
-    /// Where it waits until there is news.
-    parker: Parker,
-    /// How many rounds were made so far.
-    rounds: u64,
-    /// How many of them had a fault.
-    faults: u64,
-    /// When the observer is to be told again how the node is; at once, where none is given.
-    status_due: Option<Instant>,
-    /// Whether the observer was told that another node writes under this node's name.
-    is_conflict_reported: bool,
-    /// How many exchanges tell of all owners that the node holds, where that was counted.
-    exchanges: Option<u64>,
-    /// When the next round in turn is due. None where the clock can't be read.
-    due: Option<Instant>,
-    /// Until when news is gathered for the next burst.
-    gathers_until: Option<Instant>,
-    /// How many more peers the current burst dials.
-    burst_left: u64,
-}
-
-/// Why the next round is made.
-#[derive(Clone, Copy, PartialEq, Eq)]
-enum Cause {
-    /// It is due.
-    Turn,
-    /// There is news.
-    News,
-}
-
-/// The moment so many milliseconds after this one.
-fn moment_after<Q: Clock>(clock: &Q, milliseconds: u64) -> Option<Instant> {
-    match Instant::now(clock) {
-        Ok(now) => now.checked_add(Duration::from_millis(milliseconds)),
-        Err(_) => None,
-    }
-}
-
-/// Whether a moment has come; also where the clock can't be read, which is no reason to wait.
-fn is_past<Q: Clock>(clock: &Q, moment: Instant) -> bool {
-    match Instant::now(clock) {
-        Ok(now) => now >= moment,
-        Err(_) => true,
-    }
-}
-
-/// How long it is until a moment; nothing where that has come.
-fn time_until<Q: Clock>(clock: &Q, moment: Instant) -> Duration {
-    match Instant::now(clock) {
-        Ok(now) => moment.saturating_duration_since(now),
-        Err(_) => Duration::ZERO,
-    }
+    /// What the threads share.
+    pub(crate) dialing: Dialing<'a, O>,
+    /// What the thread of the turns has alone.
+    pub(crate) turns: Turns<'a>,
 }
 
 impl<'a, O: Observer> Dialer<'a, O> {
-    /// Dials these peers in turn, and waits for news at this parker.
-    pub(crate) fn new(peers: Peers<'a>, observer: &'a O, parker: Parker) -> Dialer<'a, O> {
-        Dialer {
-            peers,
-            observer,
-            parker,
-            rounds: 0,
-            faults: 0,
-            status_due: None,
-            is_conflict_reported: false,
-            exchanges: None,
-            due: None,
-            gathers_until: None,
-            burst_left: 0,
-        }
+    /// Dials these peers at this pace, with so many threads for news. `NoMemory`.
+    pub(crate) fn new(
+        alloc: Global,
+        paths: &[&'a str],
+        pace: &Pace,
+        threads: usize,
+        observer: &'a O,
+        parkers: Parkers,
+    ) -> Result<Dialer<'a, O>, Fault>
+        ensures { IfErr result (λ fault. fault ≡ Fault.NoMemory) }
+    {
+        let Parkers { turns, news } = parkers;
+        let schedule = Schedule::new(alloc, paths, pace.rounds, threads)?;
+        Ok(Dialer {
+            turns: Turns::new(alloc, &schedule, threads == 0, turns)?,
+            dialing: Dialing {
+                observer,
+                schedule: Mutex::new(schedule),
+                parker: Mutex::new(news),
+                exchanges: Mutex::new(None),
+            },
+        })
     }
+}
 
+impl<'a, O: Observer> Dialing<'a, O> {
     /// The observer of the node.
     pub(crate) fn observer(&self) -> &'a O {
         self.observer
     }
 
+    /// The schedule of the peers, which other threads wait for meanwhile.
+    pub(crate) fn schedule(&self) -> &Mutex<Schedule<'a>> {
+        &self.schedule
+    }
+
     /// How many exchanges tell of all owners that the node holds; 1 where memory is wanting to count them.
     fn count_exchanges<S: RoundsTag, H: Wait + Drop, Q: Wait>(
-        &mut self,
+        &self,
         node: &NodeContext<S, H, Q>,
         seat: &mut ReaderSeat<S>,
     ) -> u64 {
+        let mut exchanges = self.exchanges.lock(node.rt);
         if node.bell.take_new_owner() {
-            self.exchanges = None;
+            *exchanges = None;
         }
-        if self.exchanges.is_none() {
-            self.exchanges = digests_of_all(node, seat);
+        if let Some(count) = *exchanges {
+            return count;
         }
-        self.exchanges.unwrap_or(1)
+        *exchanges = digests_of_all(node, seat);
+        (*exchanges).unwrap_or(1)
     }
 
-    /// Makes one round with the peer at this index.
-    fn round<S: RoundsTag, H: Wait + Drop, Q: Wait + Net + Clock>(
-        &mut self,
+    /// Makes one round with the peer at this index, which has begun.
+    pub(crate) fn round<S: RoundsTag, H: Wait + Drop, Q: Wait + Net + Clock>(
+        &self,
         node: &NodeContext<S, H, Q>,
         seat: ReaderSeat<S>,
         index: usize,
+        cause: Cause,
     ) -> ReaderSeat<S> {
         let mut seat = seat;
         let exchanges = self.count_exchanges(node, &mut seat);
+        let path = self.schedule.lock(node.rt).path(index);
         let patience = moment_after(node.rt, node.pace.dial_idle);
-        let (seat, ended) = dial_peer(node, self.peers.path(index), seat, exchanges);
-        if ended.is_err() {
-            self.faults = self.faults.saturating_add(1);
-        }
-        let has_waited = node.pace.dial_idle != 0
-            && patience.is_some_and(|moment| is_past(node.rt, moment));
-        if self
-            .peers
-            .note(index, self.rounds, &ended, has_waited, self.observer)
-        {
-            self.status_due = None;
-        }
+        let slow_from = moment_after(node.rt, SLOW_SESSION);
+        let (seat, state) = dial_peer(node, path, seat, exchanges);
+        let end = RoundEnd {
+            state,
+            has_waited: node.pace.dial_idle != 0 && has_come(node.rt, patience),
+            is_slow: has_come(node.rt, slow_from),
+        };
+        self.schedule
+            .lock(node.rt)
+            .end_round(index, cause, end, self.observer);
+        self.look_at_log(node);
+        node.bell.wake();
         seat
     }
 
-    /// Tells the observer how the node is, where it wants to know and is to be told by now.
-    fn tell_status<S: RoundsTag, H: Wait + Drop, Q: Wait + Clock>(
-        &mut self,
-        node: &NodeContext<S, H, Q>,
-        seat: ReaderSeat<S>,
-    ) -> ReaderSeat<S> {
-        let is_early = self
-            .status_due
-            .is_some_and(|moment| !is_past(node.rt, moment));
-        if is_early || !self.observer.wants_status() {
-            return seat;
-        }
-        self.status_due = moment_after(node.rt, STATUS_INTERVAL);
-        let mut seat = seat;
-        let keys = node.directory.keys(node.rt, &mut seat);
-        let conflict = node.directory.conflict(node.rt, &mut seat);
-        match seat.enter() {
-            Ok(entered) => {
-                self.observer.status(&Status {
-                    rounds: self.rounds,
-                    faults: self.faults,
-                    sessions: node.counts.sessions(),
-                    keys,
-                    log_cause: node.counts.log_cause(),
-                    conflict,
-                    snapshot: entered.snapshot(),
-                    peers: self.peers.all(),
-                });
-                entered.leave()
-            }
-            Err(seat) => seat,
-        }
-    }
-
-    /// Publishes what there was no memory to publish before, and tells the observer, once, that another node writes under this
-    /// node's name.
-    fn refresh_and_report<S: RoundsTag, H: Wait + Drop, Q: Wait>(
-        &mut self,
-        node: &NodeContext<S, H, Q>,
-        seat: &mut ReaderSeat<S>,
-    ) {
-        let _ = node.directory.refresh(node.rt, seat);
-        if self.is_conflict_reported {
-            return;
-        }
-        if let Some(version) = node.directory.conflict(node.rt, seat) {
-            self.is_conflict_reported = true;
-            self.observer.conflict(version);
-        }
-    }
-
-    /// Makes one round, of a burst or in turn, if there is a peer for it. After one in turn the next is due behind the pause.
-    fn next_round<S: RoundsTag, H: Wait + Drop, Q: Wait + Net + Clock>(
-        &mut self,
-        node: &NodeContext<S, H, Q>,
-        seat: ReaderSeat<S>,
-        cause: Cause,
-    ) -> ReaderSeat<S> {
-        let next = match cause {
-            Cause::Turn => self.peers.next_in_turn(),
-            Cause::News => self.peers.next_in_burst(),
-        };
-        self.rounds = self.rounds.saturating_add(1);
-        let mut current = seat;
-        if let Some(index) = next {
-            current = self.round(node, current, index);
-        }
-        current = self.tell_status(node, current);
-        if cause == Cause::Turn {
-            self.refresh_and_report(node, &mut current);
-            self.due = moment_after(node.rt, node.pace.pause);
-        }
-        current
-    }
-
-    /// Waits until the next round in turn is due or the node ends, whatever the news.
-    fn wait_for_turn<S: RoundsTag, H: Wait + Drop, Q: Wait + Clock>(
+    /// Looks whether the file of the log is lost, behind a round, and ends the node if it is to exit then.
+    pub(crate) fn look_at_log<S: RoundsTag, H: Wait + Drop, Q: Wait>(
         &self,
         node: &NodeContext<S, H, Q>,
     ) {
+        node.look_at_log(self.observer);
+        if node.ends_by_log() {
+            node.end();
+        }
+    }
+
+    /// How many rounds had a fault, once all that are to be made have ended.
+    pub(crate) fn faults_if_done<S: RoundsTag, H: Wait + Drop, Q: Wait>(
+        &self,
+        node: &NodeContext<S, H, Q>,
+    ) -> Option<u64> {
+        self.schedule.lock(node.rt).faults_if_done()
+    }
+
+    /// What a thread that dials for news is to do next.
+    pub(crate) fn next_news<S: RoundsTag, H: Wait + Drop, Q: Wait + Clock>(
+        &self,
+        node: &NodeContext<S, H, Q>,
+    ) -> NewsStep {
+        self.schedule
+            .lock(node.rt)
+            .next_news(node.rt, node.bell, &node.pace)
+    }
+
+    /// Waits until there is a peer to dial for news: its index. None once the node is to end. One thread waits at a time, and
+    /// the others wait for it.
+    fn wait_for_news<S: RoundsTag, H: Wait + Drop, Q: Wait + Clock>(
+        &self,
+        node: &NodeContext<S, H, Q>,
+    ) -> Option<usize> {
+        let parker = self.parker.lock(node.rt);
         for _ in node.rt.forever() {
             if node.ending.is_raised() {
-                return;
+                return None;
             }
-            match self.due {
-                Some(due) if is_past(node.rt, due) => return,
-                Some(due) => self.parker.park_deadline(node.rt, due),
-                None => self.parker.park(node.rt),
-            }
-        }
-        unreachable!()
-    }
-
-    /// Begins a burst, where there is news and a peer for it. News that comes soon after a burst began is gathered first.
-    fn begins_burst<S: RoundsTag, H: Wait + Drop, Q: Wait + Clock>(
-        &mut self,
-        node: &NodeContext<S, H, Q>,
-    ) -> bool {
-        if node.pace.fanout == 0 || !node.bell.take_news() {
-            return false;
-        }
-        let size = node.pace.fanout.min(self.peers.count_without_fault());
-        if size == 0 {
-            return false;
-        }
-        if let Some(moment) = self.gathers_until {
-            thread::sleep(node.rt, time_until(node.rt, moment));
-            let _ = node.bell.take_news();
-        }
-        self.gathers_until = moment_after(node.rt, NEWS_INTERVAL);
-        self.burst_left = size;
-        true
-    }
-
-    /// Waits until the next round is to be made, and says why.
-    fn wait_for_round<S: RoundsTag, H: Wait + Drop, Q: Wait + Clock>(
-        &mut self,
-        node: &NodeContext<S, H, Q>,
-    ) -> Cause {
-        let Some(due) = self.due else {
-            self.wait_for_turn(node);
-            return Cause::Turn;
-        };
-        for _ in node.rt.forever() {
-            if self.burst_left != 0 && self.peers.count_without_fault() != 0 {
-                self.burst_left = self.burst_left.saturating_sub(1);
-                return Cause::News;
-            }
-            if node.ending.is_raised() || is_past(node.rt, due) {
-                return Cause::Turn;
-            }
-            if !self.begins_burst(node) {
-                self.parker.park_deadline(node.rt, due);
+            match self.next_news(node) {
+                NewsStep::Dial(index) => return Some(index),
+                NewsStep::Wait(Some(moment)) => parker.park_deadline(node.rt, moment),
+                NewsStep::Wait(None) => parker.park(node.rt),
             }
         }
         unreachable!()
     }
 
-    /// Makes all rounds of the node's pace. None where the node ended before the last of them.
-    pub(crate) fn dial_all<S: RoundsTag, H: Wait + Drop, Q: Wait + Net + Clock>(
-        self,
+    /// Dials peers for news from a seat until the node is to end.
+    fn dial_for_news<S: RoundsTag, H: Wait + Drop, Q: Wait + Net + Clock>(
+        &self,
         node: &NodeContext<S, H, Q>,
         seat: ReaderSeat<S>,
-    ) -> (ReaderSeat<S>, Option<Rounds<S>>) {
-        let mut dialer = self;
+    ) -> (ReaderSeat<S>, ()) {
         let mut current = seat;
-        let mut cause = Cause::Turn;
-        if node.pace.rounds == 0 {
-            for _ in node.rt.forever() {
-                if node.ending.is_raised() {
-                    return (current, None);
-                }
-                current = dialer.next_round(node, current, cause);
-                cause = dialer.wait_for_round(node);
-            }
-            unreachable!();
-        }
-        for round in 1..=node.pace.rounds {
-            if node.ending.is_raised() {
-                return (current, None);
-            }
-            current = dialer.next_round(node, current, cause);
-            if round != node.pace.rounds {
-                cause = dialer.wait_for_round(node);
+        for _ in node.rt.forever() {
+            match self.wait_for_news(node) {
+                Some(index) => current = self.round(node, current, index, Cause::News),
+                None => return (current, ()),
             }
         }
-        dialer.wait_for_turn(node);
-        (current, Some(Rounds::new(node.pace.rounds, dialer.faults)))
+        unreachable!()
+    }
+
+    /// Dials peers for news from a seat that stays in its place.
+    fn dial_in_place<S: RoundsTag, H: Wait + Drop, Q: Wait + Net + Clock>(
+        &self,
+        node: &NodeContext<S, H, Q>,
+        seat: &mut ReaderSeat<S>,
+    ) {
+        // `self` is handed in: the prover keeps no clause of a closure that captures a struct with a lifetime.
+        replace_with(
+            seat,
+            self,
+            |seat, dialing| -> (ReaderSeat<S>, ()) { dialing.dial_for_news(node, seat) },
+        );
+    }
+}
+
+impl<O: Observer + Sync> Dialing<'_, O> {
+    /// Dials peers for news until the node is to end, from each seat in a thread of its own.
+    pub(crate) fn dial_from_all<
+        S: RoundsTag + Send + Sync,
+        H: Wait + Drop + Send + Sync,
+        Q: Threads + Wait + Net + Clock + Sync,
+    >(
+        &self,
+        node: &NodeContext<S, H, Q>,
+        seats: Vec<ReaderSeat<S>>,
+    ) -> Vec<ReaderSeat<S>>
+        ensures { (vec_len result ≡ vec_len seats) × (vec_capacity result ≡ vec_capacity seats) }
+    {
+        let mut seats = seats;
+        let threads = seats.len();
+        if threads != 0 {
+            thread::for_each_mut(
+                node.rt,
+                seats.as_mut_slice(),
+                threads,
+                &|_, seat| self.dial_in_place(node, seat),
+            );
+        }
+        seats
     }
 }

@@ -6,12 +6,15 @@ ghost use Rattle.sb_run.specs.Hellos.{Greets};
 use crate::context::NodeContext;
 use crate::gate::GatedHandler;
 use crate::greeting::session_of;
+use crate::peer_reader::PeerReader;
+use crate::peer_state::{DownReason, PeerState};
 use crate::rounds::RoundsTag;
 use crate::sockets::{connect, limit};
 use sb_directory::{ReaderSeat, SeatHandler};
 use sb_frames::{Connection, Steps};
 use sb_session::{Ended, dial};
 use sb_types::{Fault, OWNERS_MOST};
+use std::io;
 use std::io::{Read, Write};
 use std::marker::Brand;
 use std::net::Net;
@@ -62,40 +65,53 @@ impl<S: RoundsTag, H: Wait + Drop, Q: Wait> NodeContext<'_, S, H, Q> {
     }
 }
 
-/// A session over the connection to a peer, which may be idle for the node's `dial_idle`, and how it ended. It ends by
-/// `ReadFailed` also if that limit can't be set. Its reads are the first of a ledger.
+/// A session over the connection to a peer, which may be idle for the node's `dial_idle`, and how the peer is by it. Its reads
+/// are the first of a ledger.
 fn dial_stream<S: RoundsTag, H: Wait + Drop, Q: Wait, K: Ledger>(
     node: &NodeContext<S, H, Q>,
-    stream: UnixStream,
+    stream: &UnixStream,
     seat: ReaderSeat<S>,
     exchanges: u64,
     blank: Blank,
-) -> (ReaderSeat<S>, Result<Ended, Fault>)
+) -> (ReaderSeat<S>, PeerState)
     requires name { blank.name ≡ K.name }
     requires parts { blank.parts ≡ K.parts }
     requires some { 0 < blank.parts }
     ensures { IsLater seat result.0 }
 {
-    if limit(&stream, node.pace.dial_idle).is_err() {
-        return (seat, Err(Fault::ReadFailed));
-    }
     let max_reads = node.pace.max_reads;
     let steps = Steps::<K>::new(blank);
-    let mut connection = Connection::new(node.alloc, &stream, &stream, max_reads, steps);
-    node.talk(&mut connection, seat, exchanges)
+    let reader = PeerReader::new(stream);
+    let mut connection = Connection::new(node.alloc, reader, stream, max_reads, steps);
+    let (seat, ended) = node.talk(&mut connection, seat, exchanges);
+    let (reader, _) = connection.into_parts();
+    let state = PeerState::of(&ended, reader.was_heard(), reader.was_silent());
+    (seat, state)
 }
 
-/// Dials the peer at a path, for so many exchanges, and how that ended: by `ReadFailed` also if the peer can't be reached.
+/// A connection to the peer at a path, with the node's `dial_idle` as its limit.
+fn reach<S: RoundsTag, H: Wait + Drop, Q: Net>(
+    node: &NodeContext<S, H, Q>,
+    path: &str,
+) -> io::Result<UnixStream> {
+    let stream = connect(node.rt, path)?;
+    limit(&stream, node.pace.dial_idle)?;
+    Ok(stream)
+}
+
+/// Dials the peer at a path, for so many exchanges, and how the peer is by this round.
 pub(crate) fn dial_peer<S: RoundsTag, H: Wait + Drop, Q: Wait + Net>(
     node: &NodeContext<S, H, Q>,
     path: &str,
     seat: ReaderSeat<S>,
     exchanges: u64,
-) -> (ReaderSeat<S>, Result<Ended, Fault>)
+) -> (ReaderSeat<S>, PeerState)
     ensures { IsLater seat result.0 }
 {
-    let Ok(stream) = connect(node.rt, path) else {
-        return (seat, Err(Fault::ReadFailed));
-    };
-    dial_stream::<S, H, Q, Brand>(node, stream, seat, exchanges, Blank::new(1))
+    match reach(node, path) {
+        Ok(stream) => {
+            dial_stream::<S, H, Q, Brand>(node, &stream, seat, exchanges, Blank::new(1))
+        }
+        Err(_) => (seat, PeerState::Down(DownReason::Unreachable)),
+    }
 }

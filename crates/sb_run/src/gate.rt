@@ -3,7 +3,7 @@ ghost use Rattle.std.specs.Prelude.{◌≡◌, ◌⊎◌, MatchBool};
 
 use sb_digest::Digest;
 use sb_holdings::{BlockEnd, Report};
-use sb_session::Handler;
+use sb_session::{Ended, Handler};
 use sb_types::{Delta, Fault, Name};
 
 /// Where a session asks its gate.
@@ -32,6 +32,9 @@ pub trait Gate {
 
     /// Sessions call it behind each delta of which something was entered.
     fn entered(&self, _delta: &Delta) {}
+
+    /// A worker calls it once the session of this number is over.
+    fn ended(&self, _session: u64, _ended: &Result<Ended, Fault>) {}
 }
 
 /// A gate that every session passes.

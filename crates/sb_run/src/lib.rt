@@ -1,8 +1,9 @@
 //! The running node: it serves its peers and its clients over sockets, and dials its peers.
 //!
-//! `run_node` runs the node that owns a log: workers serve the peers that connect, one thread dials the peers in turn and
-//! where there is news, and the calling thread answers clients at the control socket. Each write of a client is in the
-//! log before the directory takes it. A program with connections of its own serves them by `Serving`, and asks by
+//! `run_node` runs the node that owns a log. One thread accepts at both sockets. Workers serve the peers that connect, and
+//! answer questions of clients. One thread dials the peers in turn, and others dial them if there is news. The calling thread
+//! makes the writes of clients: each is in the log before the directory takes it. `run_closed_node` runs a node whose log takes
+//! no writes. A program with connections of its own serves them by `Serving`, and asks by
 //! `ask_control`.
 //!
 //! ```rust
@@ -35,20 +36,34 @@
 //! - A connection that moves no byte stays open, or a request that is not whole in time is served. Tests and
 //!   `tools/check-node` refuse it.
 //! - A node does not end, or a node with endless rounds ends. Tests and `tools/check-node` refuse it.
-//! - A peer is dialed at another time, or news does not wake the dialing thread. Tests and `tools/check-node`
-//!   refuse it.
+//! - A peer is dialed at another time, or news does not wake the threads that dial. Tests and
+//!   `tools/check-node` refuse it.
 //! - A node removes a socket at which somebody listens. Tests and `tools/check-node` refuse it.
 //! - `Timed::left` does not call `time_between`, or a read or a write waits longer than it grants. Tests refuse it.
 //! - The loop that accepts connections ends if one accept fails. Only `tools/check-node` refuses it.
-//! - `Dialer`, `Counts` or `Peers` gives the observer a wrong state, or reports too seldom or never. The tests of
-//!   `sb_run` and `tools/check-node` refuse it.
+//! - `Turns`, `Schedule`, `Counts`, `BusyWorkers` or `Peers` gives the observer a wrong state, or reports too seldom or
+//!   never. The tests of `sb_run` and `tools/check-node` refuse it.
 //! - If a peer is passed over, another than the next is dialed, or nobody. `next_in_turn` covers the first turn
 //!   alone. The tests of `sb_run` and `tools/check-node` refuse it.
-//! - No burst is dialed. The tests of `sb_run` and `tools/check-node` refuse it.
-//! - A request may take too long, because its time never begins, or because it goes on once its time is over. The
-//!   tests of `sb_run` and `tools/check-node` refuse it.
-//! - A log that failed does not end a node that must exit. Only `tools/check-node` refuses it.
-//! - `Peers::note` returns that nothing was news, or loses the last peer. Tests refuse it.
+//! - No burst is dialed, or its peers are dialed one after another. The tests of `sb_run` and `tools/check-node`
+//!   refuse it.
+//! - A session for news begins that `Deliveries::begin` refused, or ends unnoted, so that its peer gets no more news.
+//!   The tests of `sb_run` and `tools/check-node` refuse it.
+//! - Slow peers hold all threads for news, or a session counts as slow that is not. Only `tools/check-node` refuses it.
+//! - A peer counts as silent or as heard that was not: no clause covers what `PeerReader` notes. The tests of `sb_run`
+//!   and `tools/check-node` refuse it.
+//! - A silent connection is never closed, is closed too soon, or is handed on though it said nothing. A request that
+//!   is whole is never handed on. The tests of `sb_run` and `tools/check-node` refuse it.
+//! - A question goes to the owner's thread although a worker is free, or to workers that are busy.
+//!   `tools/check-node` refuses it.
+//! - A request or session may take too long, because its time never begins, or because it goes on once its time is
+//!   over. The tests of `sb_run` and `tools/check-node` refuse it.
+//! - A log that failed while the node runs does not end a node that must exit. Tests and `tools/check-node` refuse it.
+//! - A node never asks whether the file of its log is lost, or goes on writing to it. Tests and `tools/check-node`
+//!   refuse it.
+//! - `run_closed_node` opens with another table than it was given. No clause promises what a node shows. Tests refuse
+//!   it.
+//! - `Peers::note` does not tell the observer, or loses the last peer. Tests refuse it.
 //! - `OwnWrites::put` owes a write for missing memory although it could share it. Tests refuse it.
 //! - What could not be published for missing memory waits for the next event, since `refresh` always reports
 //!   missing memory. Nothing refuses it.
@@ -64,7 +79,7 @@
 //!   `owners_behind_the_first_digest_are_asked_for` refuses it.
 //! - A source numbers two sessions alike, or begins with another number than 1. A node's own gate ignores the
 //!   number. Nothing refuses it.
-//! - A worker of `serve_pool`, or the dialing thread, applies deltas that no peer sent, and drops those that came.
+//! - A worker of `serve_pool`, or a thread that dials, applies deltas that no peer sent, and drops those that came.
 //!   Tests refuse it. The steps of one session are proved: `serve`, `dial`, `SeatHandler`, `GatedHandler`.
 //! - `serve_pool` returns all seats and serves nobody, or its sessions make fewer reads than allowed. Tests refuse
 //!   it.
@@ -77,26 +92,38 @@
 #![tactic(auto)]
 
 mod accepting;
+mod arrivals;
 mod asking;
 mod bell;
+mod busy;
+mod closable;
 mod context;
 mod control;
 mod control_socket;
 mod counts;
+mod delivery;
 mod dialer;
 mod dialing;
 mod ending;
 mod gate;
 mod greeting;
 mod laws;
+mod log_cause;
+mod log_watch;
+mod moments;
 mod node;
+mod node_gate;
 mod observer;
 mod one_message;
 mod own_writes;
+mod peer_reader;
+mod peer_state;
 mod peers;
 mod pool;
+mod reporting;
 mod rounds;
 mod runtime;
+mod schedule;
 mod seats;
 mod serving;
 mod sockets;
@@ -104,15 +131,19 @@ mod status;
 mod tagged;
 mod threads;
 mod timed;
+mod turns;
+mod waiting;
 
 pub use asking::ask_control;
 pub use gate::{Gate, GatePoint, Open};
 pub use laws::{running_nodes_keep_truth, running_nodes_tell_truth};
-pub use node::{NodeConfig, OnLogFault, Pace, Paths, Ran, run_node};
+pub use log_cause::{LogCause, LogLoss};
+pub use node::{NodeConfig, OnLogFault, Pace, Paths, Ran, run_closed_node, run_node};
 pub use observer::{Nobody, Observer};
 pub use own_writes::{OwnWrites, Stored};
-pub use peers::{LastRound, Peer};
-pub use pool::{Pooled, Source};
+pub use peer_state::{DownReason, PeerState};
+pub use peers::Peer;
+pub use pool::{Pooled, Source, Taken};
 pub use runtime::Runtime;
 pub use serving::Serving;
-pub use status::Status;
+pub use status::{Status, Troubles};

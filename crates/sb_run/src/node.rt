@@ -1,14 +1,17 @@
 //! A node that runs: it serves its peers and its clients, and dials its peers.
-ghost use Rattle.std.specs.Prelude.{◌≡◌, false, None, Err, IfOk, IfErr, IfSome};
+ghost use Rattle.std.specs.Prelude.{◌≡◌, ◌+◌, ◌≤◌, true, false, None, Err, IfOk, IfErr, IfSome, IsErr};
+ghost use Rattle.sb_run.specs.Closing.{seen_by};
 ghost use Rattle.sb_run.specs.Running as spec;
-ghost use Rattle.sb_run.specs.Running.{IsRunningFault};
+ghost use Rattle.sb_run.specs.Running.{IsReadFrom, IsRunningFault, IsOpenedFault, RunsClosed};
 
+use crate::closable::ClosableLog;
 use crate::observer::Observer;
 use crate::own_writes::OwnWrites;
 use crate::runtime::Runtime;
 use crate::tagged::{NodeStart, run_tagged};
 use sb_log::WriteLog;
 use sb_node::NodeCore;
+use sb_table::Table;
 use sb_types::{Fault, Settings};
 use sb_views::NewHistory;
 use std::alloc::Global;
@@ -43,10 +46,12 @@ pub struct Pace {
     pub rounds: u64,
     /// How long it waits after each round in turn, in milliseconds.
     pub pause: u64,
-    /// How many peers it dials one after another, without a pause, where it has something new to pass on; 0 for none.
+    /// How many peers it dials side by side where it has something new to pass on; 0 for none.
     pub fanout: u64,
     /// How long a connection may move no byte, in milliseconds; 0 for no limit.
     pub idle: u64,
+    /// How long the session of a peer that has dialed may take, in milliseconds; 0 for no limit.
+    pub session: u64,
     /// The same of a connection to a peer that it dials.
     pub dial_idle: u64,
     /// How long the request of a connection at the control socket may take until it is whole, and then its answer, in
@@ -92,30 +97,49 @@ fn start_refusal<L: WriteLog>(settings: &Settings, log: &L) -> Option<Fault>
     None
 }
 
-/// Runs the node that owns a log. It binds both sockets, each at a path where no file is or a socket at which nobody
-/// listens, and tells the observer. Workers serve peers on `sock`, as many at once as there are workers. The calling thread
-/// serves clients on `control`, one connection after another. One more thread dials the peers in turn, one a round, with a
-/// pause after each. A round has as many exchanges of digests and deltas as it takes to tell of all owners that the node
-/// holds: one, where the budget has room for a digest of all. A peer that let a round wait for `dial_idle` milliseconds is
-/// passed over in its next seven turns, unless nobody else is left. The observer is told of a round that ended otherwise
-/// than the one before with that peer. After the last round the node ends, once the connections that are open have ended,
-/// and removes what is at the paths of both sockets, also where another put it there since.
+/// Runs the node that owns a log. It binds both sockets, each at a path that has no file or a socket without a listener, and
+/// reports that to the observer. One thread accepts at both. Workers serve peers, as many at once as there are workers, and
+/// answer questions of clients. The calling thread makes the own writes, one after another, and answers questions while no
+/// worker is free. One more thread dials the peers in turn, one a round, with a pause after each.
 ///
-/// Where a client wrote, or a peer told of something new, the node dials the next `fanout` peers one after another, without a
-/// pause, but for those whose last round had a fault. News that comes within ten milliseconds goes together. These are rounds too.
-/// With no pause there is no need of them.
+/// A round has as many exchanges of digests and deltas as it takes to name all owners that the node holds: one, if the budget
+/// has room for a digest of all. A peer that let a round wait for `dial_idle` milliseconds is passed over in its next seven
+/// turns, unless nobody else is left. The observer gets each change of a peer's state. After the last round the node waits for
+/// the connections that are open, and ends. It removes what is at the paths of both sockets, even if another put it there since.
 ///
-/// A connection ends with a fault where its peer breaks the rules of a session or of the control socket, where it takes
-/// more than `max_reads` reads, where no byte moved for `idle` milliseconds, or for `dial_idle` where the node has dialed, or
-/// where a request or its answer took longer than `request`. That costs this connection alone.
+/// After a write of a client, or something new from a peer, the node dials the next `fanout` peers, except those that are down
+/// or had a fault in their last round. The seats beyond two and one for each worker are for this: so many peers are dialed side
+/// by side. Without such seats they are dialed one after another, between the rounds in turn. A peer has at most one session for
+/// news at a time; news during one makes another after it. Peers whose last session took half a second or more leave one of
+/// these seats to others. News that comes within ten milliseconds goes together. These are rounds too. With no pause there is
+/// no need of them.
 ///
-/// Where a fault of its store closes the log it tells the observer, and goes on or ends, as `on_log_fault` says.
+/// A connection takes a worker or the calling thread only once it has something to say: a peer's first bytes, or a client's
+/// whole request. Until then it waits, for `idle` milliseconds at `sock` and for `request` at `control`, or `idle` if that is
+/// 0. At most 1,024 wait at a socket; one more closes the oldest that sent nothing, or else the oldest.
 ///
-/// `BadSetting` where there are fewer seats than two beside one for each worker; `WrongCluster` where the log is of another
-/// cluster than the settings'; the faults of the log's `load`; `NoMemory`; `ReadFailed` where a socket can't be bound;
-/// `NoMemory` where the thread of the pool, or the one that dials, can't be made; `StoreFailed` where the log failed and the
-/// node is to exit then. With each of these no file is left that was not there before. Where the thread of a worker can't be
-/// made, the node serves fewer peers at once.
+/// A connection ends with a fault in these cases, which cost this connection alone:
+///
+/// - It sent nothing in time, or made room for another.
+/// - Its peer breaks the rules of a session or of the control socket.
+/// - It takes more than `max_reads` reads.
+/// - No byte moved for `idle` milliseconds, or for `dial_idle` if the node has dialed.
+/// - A session that a peer dialed took longer than `session`, or a request or its answer longer than `request`.
+///
+/// If a fault of its store closes the log, the node reports that to the observer, and goes on or ends, as `on_log_fault` says.
+/// It does the same if the observer finds that the file of the log is lost: it closes the log, and refuses writes by `Closed`.
+///
+/// After each of these faults no file is left that was not there before:
+///
+/// - `BadSetting` if there are fewer seats than two beside one for each worker.
+/// - `WrongCluster` if the log is of another cluster than the settings'.
+/// - The faults of the log's `load`.
+/// - `ReadFailed` if a socket cannot be bound.
+/// - `NoMemory`, also if the thread that accepts, that of the pool, the first for news, or the one that dials in turn cannot be
+///   made.
+/// - `StoreFailed` if the log failed or its file was lost, and the node is to exit then.
+///
+/// If the thread of a worker cannot be made, the node serves fewer peers at once.
 pub fn run_node<
     L: WriteLog + Drop,
     R: Runtime + Net<Listener = TcpListener, Stream = TcpStream>,
@@ -134,15 +158,100 @@ pub fn run_node<
     if let Some(fault) = start_refusal(&settings, &log) {
         return Err(fault);
     }
+    let config = NodeConfig {
+        settings,
+        paths,
+        pace,
+    };
     let mut log = log;
-    let me = *log.owner();
     let table = log.load(alloc)?;
-    let core = NodeCore::open(alloc, settings, me, table)?;
+    run_opened(
+        rt,
+        alloc,
+        config,
+        OwnWrites::new(ClosableLog::new(log)),
+        table,
+        observer,
+    )
+}
+
+/// Runs the node that owns a log whose store failed, with the table that was read from it before. All is as with `run_node`,
+/// but that the log is not read: the node refuses writes by `Closed`, and serves its peers and readers. It tells the observer at
+/// once that the log failed, and ends then, if that is what `on_log_fault` says. A log that is open is run by `run_node`.
+pub fn run_closed_node<
+    L: WriteLog + Drop,
+    R: Runtime + Net<Listener = TcpListener, Stream = TcpStream>,
+    O: Observer + Sync,
+>(
+    rt: &R,
+    alloc: Global,
+    config: NodeConfig,
+    log: L,
+    table: Table,
+    observer: &O,
+) -> Result<Ran, Fault>
+    ensures refused { IfSome (spec.start_refusal config.entry.settings (L.seen log)) (λ fault. result ≡ Err fault) }
+    ensures closed { (L.seen log).is_open ≡ false → RunsClosed (spec.start_refusal config.entry.settings (L.seen log)) config.entry.pace.on_log_fault result }
+    ensures open { (L.seen log).is_open ≡ true → IfErr result (IsRunningFault config.entry.settings (L.seen log) config.entry.pace.on_log_fault) }
+    ensures rounds { IfOk result (λ ran. ran.rounds ≡ config.entry.pace.rounds) }
+{
+    if log.cause().is_none() {
+        return run_node(rt, alloc, config, log, observer);
+    }
+    let NodeConfig {
+        settings,
+        paths,
+        pace,
+    } = config;
+    if let Some(fault) = start_refusal(&settings, &log) {
+        return Err(fault);
+    }
+    let config = NodeConfig {
+        settings,
+        paths,
+        pace,
+    };
+    run_opened(
+        rt,
+        alloc,
+        config,
+        OwnWrites::closed(ClosableLog::new(log)),
+        table,
+        observer,
+    )
+}
+
+/// Runs a node that opens with the table of its own writes, which was read from their log. `NoMemory`; `ReadFailed` if a socket
+/// cannot be bound; `StoreFailed` if the log failed and the node is to exit then.
+fn run_opened<
+    L: WriteLog + Drop,
+    R: Runtime + Net<Listener = TcpListener, Stream = TcpStream>,
+    O: Observer + Sync,
+>(
+    rt: &R,
+    alloc: Global,
+    config: NodeConfig,
+    writes: OwnWrites<ClosableLog<L>>,
+    table: Table,
+    observer: &O,
+) -> Result<Ran, Fault>
+    requires read { IsReadFrom (seen_by (L.seen writes.log.log) writes.log.closed_by) table }
+    requires seats { config.settings.workers + 2 ≤ config.settings.seats }
+    ensures fault { IfErr result (IsOpenedFault config.entry.pace.on_log_fault) }
+    ensures exits { writes.has_failed ≡ true → config.entry.pace.on_log_fault ≡ OnLogFault.Exit → IsErr result }
+    ensures rounds { IfOk result (λ ran. ran.rounds ≡ config.entry.pace.rounds) }
+{
+    let NodeConfig {
+        settings,
+        paths,
+        pace,
+    } = config;
+    let core = NodeCore::open(alloc, settings, *writes.owner(), table)?;
     let start = NodeStart {
         new_history: NewHistory::new(),
         blank: Blank::new(settings.seats()),
         core,
-        writes: OwnWrites::new(log),
+        writes,
     };
     run_tagged::<Brand, L, R, O>(rt, alloc, start, &paths, pace, observer)
 }

@@ -1,9 +1,8 @@
 //! The observer of a running node.
 
+use crate::log_cause::{LogCause, LogLoss};
+use crate::peer_state::PeerState;
 use crate::status::Status;
-use sb_log::StoreCause;
-use sb_session::Ended;
-use sb_types::Fault;
 
 /// Receives the events of a running node. Each method runs on the thread where the event happened, and that thread waits until it
 /// returns.
@@ -20,7 +19,7 @@ use sb_types::Fault;
 ///         self.is_noted.store(true, Ordering::SeqCst);
 ///     }
 ///
-///     fn dialed(&self, _peer: &str, _ended: &Result<Ended, Fault>) {}
+///     fn dialed(&self, _peer: &str, _state: PeerState) {}
 ///
 ///     fn conflict(&self, _version: u64) {}
 /// }
@@ -46,26 +45,32 @@ pub trait Observer {
     /// Both sockets are bound, and nothing is served or dialed yet. It is told once.
     fn listening(&self);
 
-    /// How a round with the peer at this path ended: `RoundsDone` where all exchanges of digests of this one round were made;
-    /// `ReadFailed` also where the peer could not be reached. Each peer's first
-    /// round is told, and then each that ended otherwise than its round before, be it by another fault; but `WriteFailed` is
-    /// not told behind a refusal of the peer's Hello, since it is the same one.
-    fn dialed(&self, peer: &str, ended: &Result<Ended, Fault>);
+    /// How the peer at this path is, where its last round ended so that it is otherwise than before: it was not dialed yet,
+    /// answered, was down, or had another fault. `Answers` where all exchanges of digests of this one round were made. A peer
+    /// that is down is told once, for its first reason, until a round ends otherwise. One that hangs up unheard behind a
+    /// refused Hello is as it was, since that is the same refusal.
+    fn dialed(&self, peer: &str, state: PeerState);
 
     /// Another node writes under this node's name, of which this version was seen. It is told once, behind a round.
     fn conflict(&self, version: u64);
 
-    /// The store of the node's own log failed at a write, by this cause, and the log is closed. The log has the write or has it
-    /// not. It is told once.
-    fn log_failed(&self, _cause: StoreCause) {}
+    /// The node takes no more writes into its log, by this cause. If the store of the log failed at a write, the log has the write
+    /// or has it not. It is told once.
+    fn log_failed(&self, _cause: LogCause) {}
+
+    /// How the file of the node's log was lost; none if it is there, or if that cannot be seen. It is asked behind each round, and
+    /// before each request that the calling thread answers, until the log fails.
+    fn log_loss(&self) -> Option<LogLoss> {
+        None
+    }
 
     /// Whether it wants to know how the node is.
     fn wants_status(&self) -> bool {
         false
     }
 
-    /// How the node is, where it wants to know: behind a round that ended otherwise than the one before with that peer, and
-    /// behind each that ends a second or more after it was told last.
+    /// How the node is, where it wants to know: behind a round by which a peer is otherwise than before, and behind each that
+    /// ends a second or more after it was told last.
     fn status(&self, _status: &Status<'_>) {}
 
     /// At this path lay the socket of a node that no longer runs, and it was removed. It is told before `listening`.
@@ -79,7 +84,7 @@ pub struct Nobody;
 impl Observer for Nobody {
     fn listening(&self) {}
 
-    fn dialed(&self, _peer: &str, _ended: &Result<Ended, Fault>) {}
+    fn dialed(&self, _peer: &str, _state: PeerState) {}
 
     fn conflict(&self, _version: u64) {}
 }

@@ -6,9 +6,10 @@ ghost use Rattle.sb_directory.specs.Seats.{with_last_call};
 ghost use Rattle.sb_directory.specs.Serving.{IsLater};
 ghost use Rattle.sb_run.specs.OwnWriting.{IsUndisputed, version_of, count_owed, count_shared, news_after, IsHeldBack, IsHandedIn, IsStored, IsRefused};
 
+use crate::closable::ClosableLog;
 use sb_directory::{Directory, DirectoryTag, ReaderSeat, Receipt};
 use sb_log::{Committed, StoreCause, WriteLog};
-use sb_types::{Fault, Key, Slot};
+use sb_types::{Fault, Key, Name, Slot};
 use std::sync::Wait;
 
 /// What became of a write that the log took.
@@ -41,6 +42,8 @@ pub struct OwnWrites<L: WriteLog> {
     stored: Option<u64>,
     /// Whether a write closed the log by a fault of its store, where it was not asked for since.
     has_failed: bool,
+    /// Whether a write was refused because there are too many keys, where it was not asked for since.
+    was_full: bool,
 }
 
 impl<L: WriteLog> OwnWrites<L> {
@@ -55,7 +58,30 @@ impl<L: WriteLog> OwnWrites<L> {
             owed: None,
             stored: None,
             has_failed: false,
+            was_full: false,
         }
+    }
+
+    /// The own writes of a log whose store failed. Nothing is owed.
+    pub(crate) fn closed(log: L) -> OwnWrites<L>
+        ensures log { result.log ≡ log }
+        ensures owed { result.owed ≡ None }
+        ensures failed { (result.stored ≡ None) × (result.has_failed ≡ true) }
+    {
+        OwnWrites {
+            log,
+            owed: None,
+            stored: None,
+            has_failed: true,
+            was_full: false,
+        }
+    }
+
+    /// Whose writes they are.
+    pub(crate) fn owner(&self) -> &Name
+        ensures { result.now ≡ (L.seen self.now.log).owner }
+    {
+        self.log.owner()
     }
 
     /// The version of the last write that the log took, or that was handed in, since this was last asked; none where there was none.
@@ -76,6 +102,16 @@ impl<L: WriteLog> OwnWrites<L> {
         has_failed
     }
 
+    /// Whether a write was refused since this was last asked because there are too many keys.
+    pub(crate) fn take_full(&mut self) -> bool
+        ensures full { (result ≡ self.old.was_full) × (self.new.was_full ≡ false) }
+        ensures same { (self.new.log ≡ self.old.log) × (self.new.owed ≡ self.old.owed) × (self.new.stored ≡ self.old.stored) × (self.new.has_failed ≡ self.old.has_failed) }
+    {
+        let was_full = self.was_full;
+        self.was_full = false;
+        was_full
+    }
+
     /// Why the log is closed; none if it is open.
     pub(crate) fn cause(&self) -> Option<StoreCause>
         ensures { result ≡ L.why self.now.log }
@@ -93,6 +129,7 @@ impl<L: WriteLog> OwnWrites<L> {
         // A log is said to have failed only where this write closed it by a fault of its store.
         ensures failed { self.new.has_failed ≡ true → (self.old.has_failed ≡ true) ⊎ (result ≡ Err Fault.StoreFailed) }
         ensures fails { result ≡ Err Fault.StoreFailed → self.new.has_failed ≡ true }
+        ensures full { result ≡ Err Fault.TableFull → self.new.was_full ≡ true }
         // One that was open and is closed now has failed.
         ensures closes { (L.seen self.old.log).is_open ≡ true → (L.seen self.new.log).is_open ≡ false → self.new.has_failed ≡ true }
     {
@@ -100,6 +137,7 @@ impl<L: WriteLog> OwnWrites<L> {
         match &kept {
             Ok(committed) => self.stored = Some(committed.entry().version()),
             Err(Fault::StoreFailed) => self.has_failed = true,
+            Err(Fault::TableFull) => self.was_full = true,
             Err(_) => {}
         }
         kept
@@ -179,5 +217,16 @@ impl<L: WriteLog> OwnWrites<L> {
                 Ok(Stored::Owed(version, fault))
             }
         }
+    }
+}
+
+impl<L: WriteLog> OwnWrites<ClosableLog<L>> {
+    /// Closes the log, by this cause. From here on each write is refused by `Closed`.
+    pub(crate) fn close_log(&mut self, cause: StoreCause)
+        ensures closed { self.new.log.closed_by ≡ Some cause }
+        ensures log { self.new.log.log ≡ self.old.log.log }
+        ensures same { (self.new.owed ≡ self.old.owed) × (self.new.stored ≡ self.old.stored) × (self.new.has_failed ≡ self.old.has_failed) }
+    {
+        self.log.close_by(cause);
     }
 }

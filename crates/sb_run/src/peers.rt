@@ -1,60 +1,20 @@
 //! The peers of a node, and whose turn it is to be dialed.
-ghost use Rattle.std.specs.Prelude.{◌≡◌, ◌≢◌, ◌⊎◌, ◌+◌, ◌-◌, ◌<◌, ℕ, ◌&&◌, true, false, nat_lt, map, None, Some, is_err, slice_get, vec_len, if◌then◌else◌, IfSome, IfOk, IfErr};
+ghost use Rattle.std.specs.Prelude.{◌≡◌, ◌≢◌, ◌+◌, ◌-◌, ◌<◌, ℕ, ◌&&◌, not, false, true, nat_lt, map, None, Some, slice_get, vec_len, IfSome, IfOk, IfErr};
 ghost use Rattle.sb_run.specs.Turns as spec;
-ghost use Rattle.sb_run.specs.declared.peers.LastRound.TheVariants as lasts;
 
 use crate::observer::Observer;
-use sb_session::Ended;
+use crate::peer_state::PeerState;
 use sb_types::Fault;
 use std::alloc::Global;
 
 /// How many of its turns a peer is passed over that kept the node waiting.
 const TURNS_OUT: u64 = 7;
 
-/// How the last round with a peer ended.
-#[derive(Clone, Copy, Debug, PartialEq, Eq, Drop)]
-pub enum LastRound {
-    /// There was none.
-    Never,
-    /// All its exchanges were made.
-    Done,
-    /// The peer ended it before.
-    Early,
-    /// By the fault of this number.
-    Failed(u8),
-}
-
-impl LastRound {
-    fn of(ended: &Result<Ended, Fault>) -> LastRound
-        ensures { result ≡ spec.last_of ended.now }
-    {
-        match ended {
-            Ok(Ended::RoundsDone) => LastRound::Done,
-            Ok(_) => LastRound::Early,
-            Err(fault) => LastRound::Failed(fault.number()),
-        }
-    }
-
-    /// Whether it ended by a fault.
-    fn has_failed(&self) -> bool
-        ensures { result ≡ spec.has_failed self.now }
-    {
-        matches!(self, LastRound::Failed(_))
-    }
-
-    /// Whether the Hello of the peer was none for this node.
-    fn was_refused(&self) -> bool
-        ensures { result ≡ spec.was_refused self.now }
-    {
-        matches!(self, LastRound::Failed(22..=25))
-    }
-}
-
 /// A peer that is dialed.
-#[derive(Drop)]
+#[derive(Clone, Copy, Drop)]
 pub struct Peer<'a> {
     path: &'a str,
-    last: LastRound,
+    state: PeerState,
     /// The number of its last round, from 1; 0 where there was none.
     round: u64,
     /// How many more of its turns it is passed over.
@@ -67,9 +27,11 @@ impl<'a> Peer<'a> {
         self.path
     }
 
-    /// How the last round with it ended; but where that was `WriteFailed` behind a refusal of its Hello, still that refusal.
-    pub fn last(&self) -> LastRound {
-        self.last
+    /// How it is, by the rounds with it.
+    pub fn state(&self) -> PeerState
+        ensures { result ≡ self.now.state }
+    {
+        self.state
     }
 
     /// The number of its last round, from 1; 0 where there was none.
@@ -77,34 +39,29 @@ impl<'a> Peer<'a> {
         self.round
     }
 
-    /// Takes down how its round of this number ended, and whether it kept the node waiting. Says whether that is news: it
-    /// ended otherwise than the round before, and not by a write that failed behind a refused Hello, which is the same
-    /// refusal.
-    fn note(&mut self, round: u64, ended: &Result<Ended, Fault>, has_waited: bool) -> bool
+    /// Takes down how its round of this number ended, and whether it kept the node waiting. Says whether the peer is otherwise
+    /// than before.
+    fn note(&mut self, round: u64, ended: PeerState, has_waited: bool) -> bool
         ensures path { self.new.path ≡ self.old.path }
         ensures round { self.new.round ≡ round }
-        ensures turns { self.new.turns_out ≡ spec.turns_after (has_waited && is_err ended.now) self.old.turns_out }
-        ensures last { self.new.last ≡ (if result then spec.last_of ended.now else self.old.last) }
-        ensures news { result ≡ true → (spec.last_of ended.now ≢ self.old.last)
-            × (spec.last_of ended.now ≡ lasts.Failed 17 → spec.was_refused self.old.last ≡ false) }
-        ensures same { result ≡ false → (spec.last_of ended.now ≡ self.old.last)
-            ⊎ ((spec.last_of ended.now ≡ lasts.Failed 17) × (spec.was_refused self.old.last ≡ true)) }
+        ensures turns { self.new.turns_out ≡ spec.turns_after (has_waited && nat_lt 0 (spec.number_of_state ended)) self.old.turns_out }
+        ensures state { self.new.state ≡ spec.state_after self.old.state ended }
+        ensures change { result ≡ not (spec.is_still self.old.state ended) }
     {
         self.round = round;
-        if has_waited && ended.is_err() {
+        if has_waited && ended.has_fault() {
             self.turns_out = TURNS_OUT;
         }
-        let now = LastRound::of(ended);
-        if now == self.last || now == LastRound::Failed(17) && self.last.was_refused() {
+        if self.state.is_still(&ended) {
             return false;
         }
-        self.last = now;
+        self.state = ended;
         true
     }
 }
 
 /// Whose turn it is of so many: behind the last comes the first.
-fn turn_of(count: usize, turn: usize) -> usize
+pub(crate) fn turn_of(count: usize, turn: usize) -> usize
     ensures { result ≡ spec.turn_of count turn }
 {
     if turn < count { turn } else { 0 }
@@ -131,7 +88,7 @@ impl<'a> Peers<'a> {
         for path in paths {
             all.push(Peer {
                 path: *path,
-                last: LastRound::Never,
+                state: PeerState::Never,
                 round: 0,
                 turns_out: 0,
             })?;
@@ -154,7 +111,7 @@ impl<'a> Peers<'a> {
         ensures burst { self.new.burst_turn ≡ self.old.burst_turn }
         // One turn of those in which it is passed over is over, and all else of the peers is as it was.
         ensures passed { IfSome result (λ taken. IfSome (slice_get self.old.all.items taken.0) (λ before. IfSome (slice_get self.new.all.items taken.0)
-            (λ after. (after.turns_out ≡ before.turns_out - 1) × (after.path ≡ before.path) × (after.last ≡ before.last) × (after.round ≡ before.round)))) }
+            (λ after. (after.turns_out ≡ before.turns_out - 1) × (after.path ≡ before.path) × (after.state ≡ before.state) × (after.round ≡ before.round)))) }
         ensures others { IfSome result (λ taken. (index : ℕ) → index ≢ taken.0 → slice_get self.new.all.items index ≡ slice_get self.old.all.items index) }
     {
         let turn = turn_of(self.all.len(), self.turn);
@@ -194,60 +151,60 @@ impl<'a> Peers<'a> {
         None
     }
 
-    /// Takes the next turn of a burst: the index of the peer whose turn it is, and whether its last round had a fault. None
-    /// where there are no peers.
+    /// Takes the next turn of a burst: the index of the peer whose turn it is, and whether it is dialed for news. None where
+    /// there are no peers.
     fn take_burst_turn(&mut self) -> Option<(usize, bool)>
         ensures none { result ≡ None → vec_len self.old.all ≡ 0 }
         ensures turn { IfSome result (λ taken. taken.0 ≡ spec.turn_of (vec_len self.old.all) self.old.burst_turn) }
         ensures next { IfSome result (λ taken. self.new.burst_turn ≡ taken.0 + 1) }
-        ensures failed { IfSome result (λ taken. IfSome (slice_get self.old.all.items taken.0) (λ peer. taken.1 ≡ spec.has_failed peer.last)) }
+        ensures fit { IfSome result (λ taken. IfSome (slice_get self.old.all.items taken.0) (λ peer. taken.1 ≡ spec.takes_news peer.state)) }
         ensures within { IfSome result (λ taken. taken.0 < vec_len self.new.all) }
         ensures turns { (self.new.turn ≡ self.old.turn) × (self.new.all ≡ self.old.all) }
     {
         let turn = turn_of(self.all.len(), self.burst_turn);
         self.burst_turn = turn.saturating_add(1);
         let peer = self.all.get(turn)?;
-        Some((turn, peer.last.has_failed()))
+        Some((turn, peer.state.takes_news()))
     }
 
-    /// The index of the next peer whose last round had no fault; none where each had one.
+    /// The index of the next peer that is dialed for news; none where nobody is.
     pub(crate) fn next_in_burst(&mut self) -> Option<usize>
         ensures first { IfSome (slice_get self.old.all.items (spec.turn_of (vec_len self.old.all) self.old.burst_turn))
-            (λ peer. spec.has_failed peer.last ≡ false → result ≡ Some (spec.turn_of (vec_len self.old.all) self.old.burst_turn)) }
-        ensures fit { IfSome result (λ index. IfSome (slice_get self.new.all.items index) (λ peer. spec.has_failed peer.last ≡ false)) }
+            (λ peer. spec.takes_news peer.state ≡ true → result ≡ Some (spec.turn_of (vec_len self.old.all) self.old.burst_turn)) }
+        ensures fit { IfSome result (λ index. IfSome (slice_get self.new.all.items index) (λ peer. spec.takes_news peer.state ≡ true)) }
         ensures within { IfSome result (λ index. index < vec_len self.new.all) }
         ensures next { IfSome result (λ index. self.new.burst_turn ≡ index + 1) }
         ensures turns { (self.new.turn ≡ self.old.turn) × (self.new.all ≡ self.old.all) }
     {
-        let (turn, has_failed) = self.take_burst_turn()?;
-        if has_failed {
-            self.pass_over_in_burst()
-        } else {
+        let (turn, takes_news) = self.take_burst_turn()?;
+        if takes_news {
             Some(turn)
+        } else {
+            self.pass_over_in_burst()
         }
     }
 
-    /// The index of the next peer whose last round had no fault, behind one whose last round had one.
+    /// The index of the next peer that is dialed for news, behind one that is not.
     fn pass_over_in_burst(&mut self) -> Option<usize>
-        ensures fit { IfSome result (λ index. IfSome (slice_get self.new.all.items index) (λ peer. spec.has_failed peer.last ≡ false)) }
+        ensures fit { IfSome result (λ index. IfSome (slice_get self.new.all.items index) (λ peer. spec.takes_news peer.state ≡ true)) }
         ensures within { IfSome result (λ index. index < vec_len self.new.all) }
         ensures next { IfSome result (λ index. self.new.burst_turn ≡ index + 1) }
         ensures turns { (self.new.turn ≡ self.old.turn) × (self.new.all ≡ self.old.all) }
     {
         for _ in 0..self.all.len() {
-            let (turn, has_failed) = self.take_burst_turn()?;
-            if !has_failed {
+            let (turn, takes_news) = self.take_burst_turn()?;
+            if takes_news {
                 return Some(turn);
             }
         }
         None
     }
 
-    /// How many peers had no fault in their last round.
-    pub(crate) fn count_without_fault(&self) -> u64 {
+    /// How many peers are dialed for news.
+    pub(crate) fn count_for_news(&self) -> u64 {
         let mut count: u64 = 0;
         for peer in &self.all {
-            if !peer.last.has_failed() {
+            if peer.state.takes_news() {
                 count = count.saturating_add(1);
             }
         }
@@ -264,34 +221,45 @@ impl<'a> Peers<'a> {
         }
     }
 
+    /// Whether the peer at this index is dialed for news; false where there is none.
+    pub(crate) fn takes_news(&self, index: usize) -> bool
+        ensures { IfSome (slice_get self.now.all.items index) (λ peer. result ≡ spec.takes_news peer.state) }
+    {
+        match self.all.get(index) {
+            Some(peer) => peer.state.takes_news(),
+            None => false,
+        }
+    }
+
     /// All of them, in the order of their paths.
     pub(crate) fn all(&self) -> &[Peer<'a>] {
         &self.all
     }
 
-    /// Takes down how the round of this number with a peer ended, and whether that kept the node waiting. Tells the observer
-    /// where it is news, and says whether it is.
+    /// Takes down how the round of this number with a peer ended, and whether that kept the node waiting. Where the peer is
+    /// otherwise than before it tells the observer, and says so.
     pub(crate) fn note<O: Observer>(
         &mut self,
         index: usize,
         round: u64,
-        ended: &Result<Ended, Fault>,
+        ended: PeerState,
         has_waited: bool,
         observer: &O,
     ) -> bool
         ensures turns { (self.new.turn ≡ self.old.turn) × (self.new.burst_turn ≡ self.old.burst_turn) }
         ensures noted { IfSome (slice_get self.old.all.items index) (λ before. IfSome (slice_get self.new.all.items index) (λ after.
-            (after.path ≡ before.path) × (after.round ≡ round) × (after.turns_out ≡ spec.turns_after (has_waited && is_err ended.now) before.turns_out)
-            × (after.last ≡ (if result then spec.last_of ended.now else before.last)))) }
+            (after.path ≡ before.path) × (after.round ≡ round)
+            × (after.turns_out ≡ spec.turns_after (has_waited && nat_lt 0 (spec.number_of_state ended)) before.turns_out)
+            × (after.state ≡ spec.state_after before.state ended) × (result ≡ not (spec.is_still before.state ended)))) }
         ensures others { (other : ℕ) → other ≢ index → slice_get self.new.all.items other ≡ slice_get self.old.all.items other }
     {
         let Some(peer) = self.all.get_mut(index) else {
             return false;
         };
-        let is_news = peer.note(round, ended, has_waited);
-        if is_news {
+        let has_changed = peer.note(round, ended, has_waited);
+        if has_changed {
             observer.dialed(peer.path, ended);
         }
-        is_news
+        has_changed
     }
 }

@@ -1,7 +1,8 @@
 //! How a running node is.
 
+use crate::log_cause::LogCause;
 use crate::peers::Peer;
-use sb_log::StoreCause;
+use sb_types::Name;
 use sb_views::Snapshot;
 
 /// How a running node is, as the thread that dials finds it.
@@ -13,14 +14,41 @@ pub struct Status<'a> {
     pub faults: u64,
     /// How many connections of peers it took.
     pub sessions: u64,
+    /// For how long it runs, in milliseconds.
+    pub uptime: u64,
+    /// How many workers serve its peers and answer questions, and how many of them are busy.
+    pub workers: u64,
+    pub busy_workers: u64,
+    /// What it suffered.
+    pub troubles: Troubles,
     /// How many keys its own table has, removed ones counted.
     pub keys: usize,
     /// Why its log takes no writes; none if it takes them.
-    pub log_cause: Option<StoreCause>,
+    pub log_cause: Option<LogCause>,
     /// The version under its name that another node wrote; none where no such was seen.
     pub conflict: Option<u64>,
-    /// What the dialing thread's seat sees of it.
+    /// What the seat of the thread that dials in turn sees of it.
     pub snapshot: Snapshot<'a>,
+    /// The owners that it held at version 0 shortly before, in ascending order: each of which it has a stage alone, and itself
+    /// before its first write. None is listed if memory is missing. The snapshot may show some of them by now.
+    pub owners_at_zero: &'a [Name],
     /// Whom it dials.
     pub peers: &'a [Peer<'a>],
+}
+
+/// What a node suffered since it started, by how many times.
+#[derive(Clone, Copy, Debug, PartialEq, Eq)]
+pub struct Troubles {
+    /// Sessions that other nodes dialed and that ended with a fault.
+    pub session_faults: u64,
+    /// The number of the fault of the last of them; 0 if there was none.
+    pub last_session_fault: u64,
+    /// Frames of another version that came, at either socket.
+    pub other_versions: u64,
+    /// Connections at either socket that it could not accept, or that it closed to make room for others.
+    pub turned_away: u64,
+    /// Writes that it refused because it has as many keys as it may.
+    pub full_writes: u64,
+    /// Times that all its workers were busy for longer than a second. The present time counts too.
+    pub busy_times: u64,
 }

@@ -1,22 +1,25 @@
 //! A running node over a directory of its own, under a tag that names it in proofs.
-ghost use Rattle.std.specs.Prelude.{◌≡◌, ◌⊎◌, ◌+◌, ◌≤◌, vec_len, vec_capacity, IsOk, IfOk, IfErr};
-ghost use Rattle.sb_run.specs.Running.{IsEndFault, IsTagOf, IsStarted};
+ghost use Rattle.std.specs.Prelude.{◌≡◌, ◌⊎◌, ◌+◌, ◌≤◌, vec_len, vec_capacity, IsOk, IsErr, IfOk, IfErr};
+ghost use Rattle.sb_run.specs.Closing.{seen_by};
+ghost use Rattle.sb_run.specs.Running.{IsOpenedFault, IsTagOf, IsStarted};
 
+use crate::accepting::Acceptor;
+use crate::arrivals::{Asked, new_handover};
 use crate::bell::Bell;
+use crate::closable::ClosableLog;
 use crate::context::NodeContext;
 use crate::counts::Counts;
 use crate::dialer::Dialer;
 use crate::ending::EndFlag;
-use crate::node::{Pace, Paths, Ran};
+use crate::node::{OnLogFault, Pace, Paths, Ran};
 use crate::observer::Observer;
 use crate::own_writes::OwnWrites;
-use crate::peers::Peers;
 use crate::rounds::{RoundsTag, rounds_channel};
 use crate::runtime::Runtime;
 use crate::seats::{ThreadSeats, gather_seats, part_seats};
 use crate::sockets::BoundSockets;
-use crate::threads::ThreadsEnd;
-use sb_directory::{Directory, ReaderSeat};
+use crate::threads::{Links, ThreadsEnd};
+use sb_directory::Directory;
 use sb_log::WriteLog;
 use sb_node::NodeCore;
 use sb_types::Fault;
@@ -36,26 +39,25 @@ pub(crate) struct NodeStart<L: WriteLog> {
     /// The node as it was opened.
     pub(crate) core: NodeCore,
     /// Its log, and the write in it that is still to be handed to the directory.
-    pub(crate) writes: OwnWrites<L>,
+    pub(crate) writes: OwnWrites<ClosableLog<L>>,
 }
 
-/// Makes the directory, and gives a seat to each thread. It also gives the other seats, in a list with room for all.
-/// `NoMemory`.
+/// Makes the directory, and gives a seat to each thread; those beyond are for news, in a list with room for all. `NoMemory`.
 fn seat_all<S: RoundsTag, R: Wait>(
     rt: &R,
     alloc: Global,
     new_history: NewHistory,
     blank: Blank,
     core: NodeCore,
-) -> Result<(Directory<S, &R>, ThreadSeats<S>, Vec<ReaderSeat<S>>), Fault>
+) -> Result<(Directory<S, &R>, ThreadSeats<S>), Fault>
     requires history { new_history.seen.book ≡ S.history }
     requires tagged { IsTagOf S.opening S.settings S.seats S.parts core }
     requires name { blank.name ≡ S.name }
     requires parts { blank.parts ≡ S.parts }
     requires enough { core.settings.workers + 2 ≤ core.settings.seats }
     ensures workers { IfOk result (λ seated. vec_len seated.1.workers ≡ S.settings.workers) }
-    ensures all { IfOk result (λ seated. vec_len seated.2 + (vec_len seated.1.workers + 2) ≡ S.seats) }
-    ensures room { IfOk result (λ seated. S.seats ≤ vec_capacity seated.2) }
+    ensures all { IfOk result (λ seated. vec_len seated.1.news + (vec_len seated.1.workers + 2) ≡ S.seats) }
+    ensures room { IfOk result (λ seated. S.seats ≤ vec_capacity seated.1.news) }
     ensures memory { IfErr result (λ fault. fault ≡ Fault.NoMemory) }
 {
     let settings = core.settings();
@@ -65,8 +67,8 @@ fn seat_all<S: RoundsTag, R: Wait>(
     let Ok((directory, seats)) = made else {
         return Err(Fault::NoMemory);
     };
-    let (thread_seats, spare) = part_seats(seats, settings.workers() as usize)?;
-    Ok((directory, thread_seats, spare))
+    let thread_seats = part_seats(seats, settings.workers() as usize)?;
+    Ok((directory, thread_seats))
 }
 
 /// Makes the directory and its seats, binds both sockets, runs the threads, and removes the sockets' files. `NoMemory`;
@@ -88,27 +90,38 @@ pub(crate) fn run_tagged<
     requires tagged { IsTagOf S.opening S.settings S.seats S.parts start.core }
     requires name { start.blank.name ≡ S.name }
     requires parts { start.blank.parts ≡ S.parts }
-    requires started { IsStarted (L.seen start.writes.log) start.core }
+    requires started { IsStarted (seen_by (L.seen start.writes.log.log) start.writes.log.closed_by) start.core }
     requires rounds { pace.rounds ≡ S.rounds }
     ensures rounds { IfOk result (λ ran. ran.rounds ≡ pace.rounds) }
-    ensures fault { IfErr result (λ fault. IsEndFault pace.on_log_fault fault ⊎ (fault ≡ Fault.ReadFailed)) }
+    ensures fault { IfErr result (IsOpenedFault pace.on_log_fault) }
+    ensures failed { start.writes.has_failed ≡ true → pace.on_log_fault ≡ OnLogFault.Exit → IsErr result }
 {
-    let workers = start.core.settings().workers();
     let (rounds_sender, rounds_receiver) = rounds_channel::<S>(alloc)?;
-    let (bell, parker) = Bell::new(alloc)?;
-    let dialer = Dialer::new(Peers::new(alloc, paths.peers)?, observer, parker);
-    let (directory, thread_seats, spare) = seat_all::<S, R>(
+    let (bell, parkers) = Bell::new(alloc)?;
+    let (handover, jobs, requests) = new_handover(alloc)?;
+    let events = Acceptor::events(alloc)?;
+    let (directory, thread_seats) = seat_all::<S, R>(
         rt,
         alloc,
         start.new_history,
         start.blank,
         start.core,
     )?;
-    let Ok(sockets) = BoundSockets::bind(rt, paths.sock, paths.control, observer) else {
+    let threads = thread_seats.news.len();
+    let dialer = Dialer::new(alloc, paths.peers, &pace, threads, observer, parkers)?;
+    let Ok((sockets, poll)) = BoundSockets::bind(rt, paths.sock, paths.control, observer) else {
         return Err(Fault::ReadFailed);
     };
     observer.listening();
-    let (ending, counts) = (EndFlag::new(), Counts::new());
+    let links = Links {
+        acceptor: Acceptor::new(alloc, poll, events, handover),
+        jobs,
+        requests,
+        rounds_sender,
+        rounds_receiver,
+    };
+    let workers = directory.settings().workers();
+    let (ending, counts, asked) = (EndFlag::new(), Counts::new(rt, workers), Asked::new());
     let node = NodeContext {
         rt,
         alloc,
@@ -117,18 +130,12 @@ pub(crate) fn run_tagged<
         ending: &ending,
         bell: &bell,
         counts: &counts,
-        workers,
+        asked: &asked,
         pace,
     };
-    let finished = dialer.run_threads(
-        &node,
-        start.writes,
-        thread_seats,
-        rounds_sender,
-        rounds_receiver,
-    );
+    let finished = dialer.run_threads(&node, start.writes, thread_seats, links);
     sockets.remove(rt);
-    close(rt, directory, finished?, spare)
+    close(rt, directory, finished?)
 }
 
 /// Closes the directory, and says what the node did.
@@ -136,11 +143,10 @@ fn close<S: RoundsTag, R: Wait>(
     rt: &R,
     directory: Directory<S, &R>,
     finished: ThreadsEnd<S>,
-    spare: Vec<ReaderSeat<S>>,
 ) -> Result<Ran, Fault>
     requires parts { S.seats ≡ S.parts }
-    requires all { vec_len spare + (vec_len finished.thread_seats.workers + 2) ≡ S.seats }
-    requires room { S.seats ≤ vec_capacity spare }
+    requires all { vec_len finished.thread_seats.news + (vec_len finished.thread_seats.workers + 2) ≡ S.seats }
+    requires room { S.seats ≤ vec_capacity finished.thread_seats.news }
     ensures ok { IsOk result }
     ensures rounds { IfOk result (λ ran. ran.rounds ≡ S.rounds) }
 {
@@ -149,7 +155,7 @@ fn close<S: RoundsTag, R: Wait>(
         rounds,
         faults,
     } = finished;
-    match directory.close(rt, gather_seats(thread_seats, spare)) {
+    match directory.close(rt, gather_seats(thread_seats)) {
         Ok(closing) => Ok(Ran {
             rounds: rounds.made,
             faults,

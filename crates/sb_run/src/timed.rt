@@ -1,4 +1,4 @@
-//! Connections with a limit on how long a request or its answer takes.
+//! Connections with a limit on how long a session, a request or its answer takes.
 
 ghost use Rattle.std.specs.Prelude.{◌≡◌, ◌≢◌, ◌⊎◌, ◌+◌, ◌*◌, ◌<◌, ◌≤◌, None, Some, Ok, IfOk, IfSome, IsSome};
 ghost use Rattle.std.specs.Duration.{as_nanos};
@@ -24,7 +24,7 @@ fn time_between(now: Instant, until: Instant) -> io::Result<Duration>
 #[derive(Drop)]
 pub(crate) struct Timed<'a, Q> {
     clock: &'a Q,
-    stream: &'a UnixStream,
+    stream: UnixStream,
     /// How long no byte may move, in milliseconds; 0 for no limit.
     idle: u64,
     /// How long all of it may take, in milliseconds; 0 for no limit.
@@ -34,7 +34,7 @@ pub(crate) struct Timed<'a, Q> {
 
 impl<'a, Q: Clock> Timed<'a, Q> {
     /// This way of the connection, which may be idle for so many milliseconds, and may take so many in all; 0 for no limit.
-    pub(crate) fn new(clock: &'a Q, stream: &'a UnixStream, idle: u64, whole: u64) -> Timed<'a, Q> {
+    pub(crate) fn new(clock: &'a Q, stream: UnixStream, idle: u64, whole: u64) -> Timed<'a, Q> {
         Timed {
             clock,
             stream,
@@ -90,7 +90,7 @@ impl<Q: Clock> Read for Timed<'_, Q> {
         if let Some(left) = self.left()? {
             self.stream.set_read_timeout(Some(left))?;
         }
-        let mut stream = self.stream;
+        let mut stream = &self.stream;
         stream.read(buffer)
     }
 }
@@ -100,7 +100,7 @@ impl<Q: Clock> Write for Timed<'_, Q> {
         if let Some(left) = self.left()? {
             self.stream.set_write_timeout(Some(left))?;
         }
-        let mut stream = self.stream;
+        let mut stream = &self.stream;
         stream.write(bytes)
     }
 

@@ -3,8 +3,7 @@ use crate::making::{name, new_log, settings};
 use crate::running::{pace, paths_of, ran_of};
 use crate::{got, same};
 use sb_log::{PlainLog, WriteLog};
-use sb_run::{Nobody, NodeConfig, Observer, Pace, Paths, Ran, Runtime, run_node};
-use sb_session::Ended;
+use sb_run::{Nobody, NodeConfig, Observer, Pace, Paths, PeerState, Ran, Runtime, run_node};
 use sb_types::{Fault, Name, Settings};
 use std::alloc::Global;
 use std::net::{Net, TcpListener, TcpStream};
@@ -54,7 +53,7 @@ impl Observer for Listening {
         self.is_noted.store(true, Ordering::SeqCst);
     }
 
-    fn dialed(&self, _peer: &str, _ended: &Result<Ended, Fault>) {}
+    fn dialed(&self, _peer: &str, _state: PeerState) {}
 
     fn conflict(&self, _version: u64) {}
 }

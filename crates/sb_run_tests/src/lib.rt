@@ -5,6 +5,8 @@
 #[cfg(test)]
 mod asking;
 #[cfg(test)]
+mod closing;
+#[cfg(test)]
 mod desk;
 #[cfg(test)]
 mod examples;
@@ -23,7 +25,13 @@ mod pooling;
 #[cfg(test)]
 mod running;
 #[cfg(test)]
+mod side_by_side;
+#[cfg(test)]
+mod silence;
+#[cfg(test)]
 mod starting;
+#[cfg(test)]
+mod suffering;
 #[cfg(test)]
 mod telling;
 #[cfg(test)]

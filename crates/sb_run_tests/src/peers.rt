@@ -66,6 +66,13 @@ pub(crate) fn talk(
     )
 }
 
+/// b serves the node. Returns how the session ends, and how far b holds a and c then.
+pub(crate) fn serve_as_b(rt: &impl Abort, alloc: Global, dialed: &UnixStream) -> (Ended, u64, u64) {
+    let mut of_b = node_with(rt, alloc, b"b", b"w");
+    let by_b = talk(rt, alloc, &mut of_b, dialed, None);
+    (by_b, of_b.upto(&name(rt, b"a")), of_b.upto(&name(rt, b"c")))
+}
+
 /// A connection to the socket at this path.
 pub(crate) fn reach<R: Net + Abort>(rt: &R, path: &str) -> UnixStream {
     got(rt, UnixStream::connect(rt, path))

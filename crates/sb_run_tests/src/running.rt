@@ -1,11 +1,14 @@
 //! A node that runs with its sockets.
 
 use crate::making::{name, new_log, settings};
-use crate::peers::{hears_only, next_of, node_with, put_is_done, reach, talk};
+use crate::peers::{hears_only, next_of, node_with, put_is_done, reach, serve_as_b, talk};
 use crate::{got, holds, same};
 use sb_log::PlainLog;
-use sb_run::{Nobody, NodeConfig, Observer, OnLogFault, Pace, Paths, Ran, Runtime, run_node};
+use sb_run::{
+    DownReason, Nobody, NodeConfig, Observer, OnLogFault, Pace, Paths, PeerState, Ran, Runtime, run_node,
+};
 use sb_session::Ended;
+use sb_testing::wire::HELLO_B;
 use sb_types::{Fault, Settings};
 use std::alloc::Global;
 use std::fs::File;
@@ -16,6 +19,7 @@ use std::process::Abort;
 use std::rt::Files;
 use std::sync::atomic::{AtomicBool, Ordering};
 use std::sync::{Mutex, Wait};
+use std::time::Duration;
 use std::{fs, io, thread};
 
 /// The length of the Hello of a.
@@ -37,6 +41,7 @@ pub(crate) fn pace(rounds: u64, idle: u64) -> Pace {
         pause: 0,
         fanout: 3,
         idle,
+        session: 0,
         dial_idle: idle,
         request: 0,
         max_reads: 99,
@@ -131,7 +136,7 @@ impl Observer for Looker<'_> {
         self.saw_both.store(both, Ordering::SeqCst);
     }
 
-    fn dialed(&self, _peer: &str, _ended: &Result<Ended, Fault>) {}
+    fn dialed(&self, _peer: &str, _state: PeerState) {}
 
     fn conflict(&self, _version: u64) {}
 }
@@ -239,13 +244,6 @@ fn dial_as_c<R: Net + Abort>(rt: &R, alloc: Global, sock: &str) -> (Ended, u64) 
     (by_c, of_c.upto(&name(rt, b"a")))
 }
 
-/// b serves the node. Returns how the session ends, and how far b holds a and c then.
-fn serve_as_b(rt: &impl Abort, alloc: Global, dialed: &UnixStream) -> (Ended, u64, u64) {
-    let mut of_b = node_with(rt, alloc, b"b", b"w");
-    let by_b = talk(rt, alloc, &mut of_b, dialed, None);
-    (by_b, of_b.upto(&name(rt, b"a")), of_b.upto(&name(rt, b"c")))
-}
-
 /// Plays the owner, c which dials, and b which is dialed. When the node dials, it has bound its sockets.
 fn play<R: Net + Abort>(
     rt: &R,
@@ -289,16 +287,20 @@ fn a_node_beside_its_owner_and_its_peers(rt: HostRuntime) {
     same(&rt, &ran, &whole);
 }
 
-/// Whether no more than a Hello comes on connections on which nothing is sent, until the node hangs up.
+/// Whether nothing comes on connections on which nothing is sent, and no more than a Hello on one on which one byte is
+/// sent, until the node hangs up.
 fn hears_no_more<R: Net + Abort>(rt: &R, paths: &Paths) -> bool {
     let control = reach(rt, paths.control);
-    let sock = reach(rt, paths.sock);
-    let silence = hears_only(rt, &control, 0);
-    let hello = hears_only(rt, &sock, HELLO);
+    let silent = reach(rt, paths.sock);
+    let slow = reach(rt, paths.sock);
+    let mut writer = &slow;
+    got(rt, writer.write_all(&HELLO_OF_C2[..1]));
+    let silence = hears_only(rt, &control, 0) && hears_only(rt, &silent, 0);
+    let hello = hears_only(rt, &slow, HELLO);
     silence && hello
 }
 
-/// Whether no more than a Hello came on the silent connections, and whether the write was done. Then how b's session
+/// Whether no more than that came on the silent connections, and whether the write was done. Then how b's session
 /// ended, and how far b holds a.
 type Heard = (bool, bool, Ended, u64);
 
@@ -331,26 +333,26 @@ fn a_connection_that_says_nothing_ends(rt: HostRuntime) {
     );
     got(&rt, fs::remove_file(&rt, "idle.peer"));
     same(&rt, &heard, &(true, true, Ended::Bye(1), 1));
-    let whole = ran_of(2, 3, 2);
+    let whole = ran_of(2, 4, 2);
     same(&rt, &ran, &whole);
 }
 
-/// Keeps what the node reports of peers: the last byte of the path, and how the round ended. It also keeps reports of
+/// Keeps what the node reports of peers: the last byte of the path, and how the peer is. It also keeps reports of
 /// another node under its name.
 #[derive(Drop)]
 struct Keeper<'a, R> {
     rt: &'a R,
-    told: Mutex<Vec<(Option<u8>, Result<Ended, Fault>)>>,
+    told: Mutex<Vec<(Option<u8>, PeerState)>>,
     conflicts: Mutex<Vec<u64>>,
 }
 
 impl<R: Wait + Abort> Observer for Keeper<'_, R> {
     fn listening(&self) {}
 
-    fn dialed(&self, peer: &str, ended: &Result<Ended, Fault>) {
+    fn dialed(&self, peer: &str, state: PeerState) {
         let mut told = self.told.lock(self.rt);
         let of = peer.as_bytes().last().copied();
-        got(self.rt, told.push((of, *ended)));
+        got(self.rt, told.push((of, state)));
     }
 
     fn conflict(&self, version: u64) {
@@ -393,9 +395,9 @@ fn change_the_cluster(rt: &impl Abort, alloc: Global, listener: &UnixListener) {
     }
 }
 
-/// Whether the node reported these rounds and no others.
-fn was_told<R: Wait>(keeper: &Keeper<R>, rounds: &[(Option<u8>, Result<Ended, Fault>)]) -> bool {
-    keeper.told.lock(keeper.rt).as_slice() == rounds
+/// Whether the node reported these states and no others.
+fn was_told<R: Wait>(keeper: &Keeper<R>, states: &[(Option<u8>, PeerState)]) -> bool {
+    keeper.told.lock(keeper.rt).as_slice() == states
 }
 
 #[test]
@@ -412,13 +414,50 @@ fn an_observer_is_told_of_each_change_of_a_peer_once(rt: HostRuntime) {
     got(&rt, fs::remove_file(&rt, "told.b"));
     same(&rt, &got(&rt, ran).faults, &6);
     let wanted = [
-        (Some(b'y'), Err(Fault::ReadFailed)),
-        (Some(b'b'), Err(Fault::WrongCluster)),
-        (Some(b'b'), Ok(Ended::RoundsDone)),
+        (Some(b'y'), PeerState::Down(DownReason::Unreachable)),
+        (Some(b'b'), PeerState::Failed(Fault::WrongCluster)),
+        (Some(b'b'), PeerState::Answers),
     ];
     holds(
         &rt,
         "each change was told once",
+        was_told(&keeper, wanted.as_slice()),
+    );
+}
+
+/// Takes the next two connections and hangs up, one at once and the other after a Hello of its own. Serves the third as b.
+fn end_early_twice(rt: &impl Abort, alloc: Global, listener: &UnixListener) {
+    drop(next_of(rt, listener));
+    answer_by(rt, listener, HELLO_B);
+    let dialed = next_of(rt, listener);
+    serve_as_b(rt, alloc, &dialed);
+}
+
+#[test]
+fn an_observer_is_told_once_that_a_peer_is_down_whatever_the_reasons(rt: HostRuntime) {
+    let paths = paths_of("down.sock", "down.control", &["down.b"]);
+    let alloc = rt.alloc();
+    let keeper = new_keeper(&rt, alloc);
+    let mut pace = pace(4, 0);
+    pace.pause = 500;
+    let (ran, ()) = thread::join(
+        &rt,
+        || run_observed(&rt, alloc, &paths, pace, &keeper),
+        || {
+            thread::sleep(&rt, Duration::from_millis(250));
+            let listener = got(&rt, UnixListener::bind(&rt, "down.b"));
+            end_early_twice(&rt, alloc, &listener);
+        },
+    );
+    got(&rt, fs::remove_file(&rt, "down.b"));
+    same(&rt, &got(&rt, ran).rounds, &4);
+    let wanted = [
+        (Some(b'b'), PeerState::Down(DownReason::Unreachable)),
+        (Some(b'b'), PeerState::Answers),
+    ];
+    holds(
+        &rt,
+        "it was down once, and answers once",
         was_told(&keeper, wanted.as_slice()),
     );
 }

@@ -22,7 +22,7 @@ use std::process::Abort;
 use std::{fs, thread};
 
 /// A log of a with two writes.
-fn log_of_two(rt: &impl Abort, alloc: Global) -> PlainLog {
+pub(crate) fn log_of_two(rt: &impl Abort, alloc: Global) -> PlainLog {
     let mut log = new_log(rt, alloc, b"a");
     got(rt, log.put(&key(rt, b"x"), &weight(rt, 5)));
     got(rt, log.put(&key(rt, b"y"), &weight(rt, 5)));
@@ -77,16 +77,24 @@ fn be_greeted(rt: &impl Abort, stream: &UnixStream) {
     same(rt, &heard.as_slice(), &HELLO_A);
 }
 
-/// Sends Hello and Bye. Returns whether nothing more comes then.
+/// A connection on which the first byte of a Hello was sent.
+fn begin<R: Net + Abort>(rt: &R, sock: &str) -> UnixStream {
+    let mut stream = reach(rt, sock);
+    got(rt, stream.write_all(&HELLO_AND_BYE_B[..1]));
+    stream
+}
+
+/// Sends the rest of Hello, and Bye. Returns whether nothing more comes then.
 fn leave(rt: &impl Abort, stream: &UnixStream) -> bool {
     let mut writer = stream;
-    got(rt, writer.write_all(HELLO_AND_BYE_B));
+    got(rt, writer.write_all(&HELLO_AND_BYE_B[1..]));
     hears_only(rt, stream, 0)
 }
 
-/// Three peers connect, and each is greeted before any of them sends a byte. Returns whether each then left in peace.
+/// Three peers connect, and each is greeted before any of them sends more than a byte. Returns whether each then left
+/// in peace.
 fn crowd<R: Net + Abort>(rt: &R, sock: &str) -> [bool; 3] {
-    let (first, second, third) = (reach(rt, sock), reach(rt, sock), reach(rt, sock));
+    let (first, second, third) = (begin(rt, sock), begin(rt, sock), begin(rt, sock));
     be_greeted(rt, &first);
     be_greeted(rt, &second);
     be_greeted(rt, &third);

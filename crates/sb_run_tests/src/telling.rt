@@ -4,9 +4,8 @@ use crate::making::name;
 use crate::peers::{next_of, node_with, put_is_done, reach, talk};
 use crate::running::{WRITTEN_AS_A, answer_by, pace, paths_of, run_observed};
 use crate::{got, holds, same};
-use sb_run::{LastRound, Observer, Paths, Status};
+use sb_run::{DownReason, Observer, Paths, PeerState, Status};
 use sb_session::Ended;
-use sb_types::Fault;
 use std::alloc::Global;
 use std::net::Net;
 use std::os::unix::net::UnixListener;
@@ -39,8 +38,8 @@ const WROTE_ONE: Counted = Counted {
     conflict: None,
 };
 
-/// How the last round with each of two peers ended, and the number of that round.
-type Ends = [(LastRound, u64); 2];
+/// How each of two peers is, and the number of the last round with it.
+type Ends = [(PeerState, u64); 2];
 
 /// How many owners are shown, and how far a, b and c are.
 type StatusParts = (usize, [u64; 3]);
@@ -53,10 +52,10 @@ struct Listener<'a, R> {
     told: Mutex<Option<(Counted, Ends, StatusParts)>>,
 }
 
-fn end_of(status: &Status<'_>, index: usize) -> (LastRound, u64) {
+fn end_of(status: &Status<'_>, index: usize) -> (PeerState, u64) {
     match status.peers.get(index) {
-        Some(peer) => (peer.last(), peer.round()),
-        None => (LastRound::Never, 99),
+        Some(peer) => (peer.state(), peer.round()),
+        None => (PeerState::Never, 99),
     }
 }
 
@@ -84,7 +83,7 @@ fn parts_of(rt: &impl Abort, status: &Status<'_>) -> StatusParts {
 impl<R: Wait + Abort> Observer for Listener<'_, R> {
     fn listening(&self) {}
 
-    fn dialed(&self, _peer: &str, _ended: &Result<Ended, Fault>) {}
+    fn dialed(&self, _peer: &str, _state: PeerState) {}
 
     fn conflict(&self, _version: u64) {}
 
@@ -140,7 +139,7 @@ fn a_node_tells_how_it_is(rt: HostRuntime) {
     got(&rt, fs::remove_file(&rt, "tell.b"));
     holds(&rt, "b, c and the owner were served", played);
     same(&rt, &got(&rt, ran).rounds, &2);
-    let ends = [(LastRound::Failed(16), 1), (LastRound::Done, 2)];
+    let ends = [(PeerState::Down(DownReason::Unreachable), 1), (PeerState::Answers, 2)];
     let told = *observer.told.lock(&rt);
     same(&rt, &told, &Some((WROTE_ONE, ends, (3, [1, 1, 1]))));
 }
@@ -166,7 +165,7 @@ fn a_node_tells_of_another_under_its_name(rt: HostRuntime) {
         is_log_open: true,
         conflict: Some(1),
     };
-    let ends = [(LastRound::Early, 1), (LastRound::Never, 0)];
+    let ends = [(PeerState::Down(DownReason::EndedEarly), 1), (PeerState::Never, 0)];
     let told = *observer.told.lock(&rt);
     same(&rt, &told, &Some((wanted, ends, (0, [0, 0, 0]))));
 }

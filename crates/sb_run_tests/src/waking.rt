@@ -5,7 +5,7 @@ use crate::peers::{next_of, node_with, put_is_done, reach, talk};
 use crate::running::{is_there, pace, paths_of, run_a, run_observed};
 use crate::{got, holds, same};
 use sb_node::NodeCore;
-use sb_run::{Observer, Paths};
+use sb_run::{Observer, Paths, PeerState};
 use sb_session::Ended;
 use sb_table::Table;
 use sb_types::Fault;
@@ -134,7 +134,7 @@ struct Counter {
 impl Observer for Counter {
     fn listening(&self) {}
 
-    fn dialed(&self, _peer: &str, _ended: &Result<Ended, Fault>) {}
+    fn dialed(&self, _peer: &str, _state: PeerState) {}
 
     fn conflict(&self, _version: u64) {}
 

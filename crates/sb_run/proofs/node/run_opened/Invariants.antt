@@ -1,4 +1,4 @@
-use Rattle.sb_run.proofs.node.run_node.Given as goal
+use Rattle.sb_run.proofs.node.run_opened.Given as goal
 
 abbrev pub ghosts-run_tagged-S-Ledger : goal.ghosts-run_tagged-S-Ledger
 ghosts-run_tagged-S-Ledger g a = record { name = a.start.blank.name; parts = a.start.blank.parts }

@@ -1,0 +1,33 @@
+-- How news is on its way to peers.
+use Rattle.std.specs.Prelude.{◌≡◌, ◌≢◌, ℕ, Bool, true, false, ◌||◌, nat_lt, List, Some, slice_get, IfSome}
+use Rattle.sb_run.specs.declared.delivery.Delivery.{Delivery}
+
+-- there is news for the peer
+abbrev pub with_news : Delivery → Delivery
+with_news delivery = record { is_due = true; is_open = delivery.is_open; is_slow = delivery.is_slow }
+
+-- the news for the peer, if there is any, need not be brought
+abbrev pub without_news : Delivery → Delivery
+without_news delivery = record { is_due = false; is_open = delivery.is_open; is_slow = delivery.is_slow }
+
+-- a session has begun to bring the news to the peer
+abbrev pub begun : Delivery → Delivery
+begun delivery = record { is_due = false; is_open = true; is_slow = delivery.is_slow }
+
+-- the session is over; what became news meanwhile is still to be brought
+abbrev pub ended : Bool → Delivery → Delivery
+ended slow delivery = record { is_due = delivery.is_due; is_open = false; is_slow = slow }
+
+-- a round in turn with the peer is over
+abbrev pub paced : Bool → Delivery → Delivery
+paced slow delivery = record { is_due = delivery.is_due; is_open = delivery.is_open; is_slow = slow }
+
+-- the delivery to this peer changes so, and no other
+abbrev pub Changes : ℕ → (Delivery → Delivery) → List Delivery → List Delivery → Type 0
+Changes index change old new =
+    IfSome (slice_get old index) (λ before. slice_get new index ≡ Some (change before))
+    × ((other : ℕ) → other ≢ index → slice_get new other ≡ slice_get old other)
+
+-- another round may begin: not so many have begun as are to be made, or they have no end
+abbrev pub has_round_left : ℕ → ℕ → Bool
+has_round_left most begun = nat_lt most 1 || nat_lt begun most

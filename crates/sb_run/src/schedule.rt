@@ -1,0 +1,236 @@
+//! Whom to dial next, and the rounds that were made: what the threads that dial share, under one lock.
+ghost use Rattle.std.specs.Prelude.{◌≡◌, true, false, None, IfSome, IfErr};
+ghost use Rattle.sb_run.specs.Deliveries as spec;
+
+use crate::bell::Bell;
+use crate::delivery::Deliveries;
+use crate::moments::{has_come, moment_after};
+use crate::node::Pace;
+use crate::observer::Observer;
+use crate::peer_state::PeerState;
+use crate::peers::{Peer, Peers};
+use sb_types::Fault;
+use std::alloc::Global;
+use std::time::{Clock, Instant};
+
+/// How long after a burst begins news is gathered for the next, in milliseconds.
+const NEWS_INTERVAL: u64 = 10;
+
+/// How a round ended.
+#[derive(Clone, Copy)]
+pub(crate) struct RoundEnd {
+    /// How the peer is by it.
+    pub(crate) state: PeerState,
+    /// Whether it took as long as a connection to a peer may be idle.
+    pub(crate) has_waited: bool,
+    /// Whether it took so long that the peer is a slow one.
+    pub(crate) is_slow: bool,
+}
+
+/// Why a round is made.
+#[derive(Clone, Copy)]
+pub(crate) enum Cause {
+    /// It is the peer's turn.
+    Turn,
+    /// There is news for the peer.
+    News,
+}
+
+/// What a thread that dials for news is to do next.
+#[derive(Clone, Copy)]
+pub(crate) enum NewsStep {
+    /// Dial the peer at this index.
+    Dial(usize),
+    /// Wait until it is woken, or until this moment, where one is given.
+    Wait(Option<Instant>),
+}
+
+/// Which rounds were made.
+#[derive(Clone, Copy)]
+pub(crate) struct RoundCounts {
+    /// How many have ended.
+    pub(crate) ended: u64,
+    /// How many of these had a fault.
+    pub(crate) faults: u64,
+}
+
+/// Whom to dial next, and the rounds that were made.
+#[derive(Drop)]
+pub(crate) struct Schedule<'a> {
+    peers: Peers<'a>,
+    deliveries: Deliveries,
+    /// How many rounds are made; 0 for rounds without end.
+    most: u64,
+    /// How many rounds have begun.
+    begun: u64,
+    counts: RoundCounts,
+    /// Whether a peer was otherwise than before since this was last asked.
+    has_changed: bool,
+    /// Until when news is gathered for the next burst.
+    gathers_until: Option<Instant>,
+}
+
+impl<'a> Schedule<'a> {
+    /// The schedule of a node that dials these peers and makes so many rounds, 0 for rounds without end, with so many
+    /// sessions for news at a time. `NoMemory`.
+    pub(crate) fn new(
+        alloc: Global,
+        paths: &[&'a str],
+        most: u64,
+        sessions: usize,
+    ) -> Result<Schedule<'a>, Fault>
+        ensures { IfErr result (λ fault. fault ≡ Fault.NoMemory) }
+    {
+        Ok(Schedule {
+            peers: Peers::new(alloc, paths)?,
+            deliveries: Deliveries::new(alloc, paths.len(), sessions)?,
+            most,
+            begun: 0,
+            counts: RoundCounts {
+                ended: 0,
+                faults: 0,
+            },
+            has_changed: false,
+            gathers_until: None,
+        })
+    }
+
+    /// Whether another round may begin.
+    fn has_round_left(&self) -> bool
+        ensures { result ≡ spec.has_round_left self.now.most self.now.begun }
+    {
+        self.most == 0 || self.begun < self.most
+    }
+
+    /// Begins a round in turn, if another round may begin, and gives the index of the peer whose turn it is, if there are peers.
+    pub(crate) fn begin_turn(&mut self) -> Option<Option<usize>>
+        ensures none { result ≡ None → spec.has_round_left self.old.most self.old.begun ≡ false }
+        ensures some { IfSome result (λ _. spec.has_round_left self.old.most self.old.begun ≡ true) }
+    {
+        if !self.has_round_left() {
+            return None;
+        }
+        self.begun = self.begun.saturating_add(1);
+        Some(self.peers.next_in_turn())
+    }
+
+    /// Begins a session for news with the next peer for which there is any and with which one can begin.
+    fn begin_delivery(&mut self) -> Option<usize> {
+        for _ in 0..self.deliveries.len() {
+            let index = self.deliveries.next_index();
+            if !self.peers.takes_news(index) {
+                self.deliveries.forget(index);
+            } else if self.deliveries.begin(index) {
+                return Some(index);
+            }
+        }
+        None
+    }
+
+    /// Notes that there is news for the next so many peers that are dialed for news.
+    fn begin_burst(&mut self, fanout: u64) {
+        for _ in 0..fanout.min(self.peers.count_for_news()) {
+            if let Some(index) = self.peers.next_in_burst() {
+                self.deliveries.expect(index);
+            }
+        }
+    }
+
+    /// What a thread that dials for news is to do next. A burst begins where there is news and no earlier news can be brought,
+    /// but news that comes soon after a burst began is gathered first.
+    pub(crate) fn next_news<Q: Clock>(&mut self, clock: &Q, bell: &Bell, pace: &Pace) -> NewsStep {
+        if pace.pause == 0 || pace.fanout == 0 || !self.has_round_left() {
+            return NewsStep::Wait(None);
+        }
+        let mut next = self.begin_delivery();
+        if next.is_none() && bell.has_news() {
+            if self.gathers_until.is_some() && !has_come(clock, self.gathers_until) {
+                return NewsStep::Wait(self.gathers_until);
+            }
+            let _ = bell.take_news();
+            self.gathers_until = moment_after(clock, NEWS_INTERVAL);
+            self.begin_burst(pace.fanout);
+            next = self.begin_delivery();
+        }
+        let Some(index) = next else {
+            return NewsStep::Wait(None);
+        };
+        self.begun = self.begun.saturating_add(1);
+        NewsStep::Dial(index)
+    }
+
+    /// Takes down how a round with a peer ended, and tells the observer where the peer is otherwise than before.
+    pub(crate) fn end_round<O: Observer>(
+        &mut self,
+        index: usize,
+        cause: Cause,
+        end: RoundEnd,
+        observer: &O,
+    ) {
+        self.count_round(end.state.has_fault());
+        let round = self.counts.ended;
+        match cause {
+            Cause::Turn => self.deliveries.note_pace(index, end.is_slow),
+            Cause::News => self.deliveries.end(index, end.is_slow),
+        }
+        if self
+            .peers
+            .note(index, round, end.state, end.has_waited, observer)
+        {
+            self.has_changed = true;
+        }
+    }
+
+    /// Counts a round that has ended, with a fault or not.
+    pub(crate) fn count_round(&mut self, has_fault: bool) {
+        self.counts.ended = self.counts.ended.saturating_add(1);
+        if has_fault {
+            self.counts.faults = self.counts.faults.saturating_add(1);
+        }
+    }
+
+    /// How many rounds had a fault, once all that are to be made have ended.
+    pub(crate) fn faults_if_done(&self) -> Option<u64> {
+        if self.most != 0 && self.counts.ended >= self.most {
+            Some(self.counts.faults)
+        } else {
+            None
+        }
+    }
+
+    /// Which rounds were made.
+    pub(crate) fn counts(&self) -> RoundCounts {
+        self.counts
+    }
+
+    /// Whether a peer was otherwise than before since this was last asked.
+    pub(crate) fn take_change(&mut self) -> bool {
+        let has_changed = self.has_changed;
+        self.has_changed = false;
+        has_changed
+    }
+
+    /// The path of a peer; the empty one where there is none.
+    pub(crate) fn path(&self, index: usize) -> &'a str {
+        self.peers.path(index)
+    }
+
+    /// A copy of the peers, in the order of their paths. `NoMemory`.
+    pub(crate) fn peers(&self, alloc: Global) -> Result<Vec<Peer<'a>>, Fault>
+        ensures { IfErr result (λ fault. fault ≡ Fault.NoMemory) }
+    {
+        let mut copies = Vec::with_capacity(alloc, self.peers.all().len())?;
+        for peer in self.peers.all() {
+            copies.push(*peer)?;
+        }
+        Ok(copies)
+    }
+
+    /// Which rounds were made; copies how the peers are over an older copy.
+    pub(crate) fn report(&self, copies: &mut [Peer<'a>]) -> RoundCounts {
+        for (copy, peer) in copies.iter_mut().zip(self.peers.all()) {
+            *copy = *peer;
+        }
+        self.counts
+    }
+}

@@ -1,0 +1,168 @@
+"""The parts of tools/check-node that look at what a node does and prints where its log fails or is lost, and of what it suffers."""
+import os
+import resource
+import sqlite3
+import time
+
+from check_metrics import awaits, awaits_line, promtool_takes
+from check_waking import Place, fill
+from nodes import BYE, SECONDS, Difference, connect, hello, read_frame, run, throw, want
+from small_disk import SmallDisk, disk_in
+
+# one more than these a log has to have before its node purges it at a start
+REMOVALS = 1024
+# the Hello of a peer of the version before
+HELLO_OF_BEFORE = b"\xa7\x02" + hello("b")[2:]
+
+
+def removals_in(node):
+    """Gives the log of a node that does not run so many removals that its next start purges it, and one row."""
+    want("a new log", run(node.program, "log", "--log", str(node.log), "--name", node.name, "--cluster", "c")[1], "last 0\n")
+    with sqlite3.connect(node.log) as log:
+        log.executemany("INSERT INTO writes VALUES (?, ?, 0, NULL, NULL)", [(f"r{at:04}", at) for at in range(1, REMOVALS + 1)])
+        log.execute("INSERT INTO writes VALUES ('k', ?, 2, 5, NULL)", [REMOVALS + 1])
+    log.close()
+
+
+def refuses_a_write(node, fault):
+    want("a write", node.command("set", "n", "weight", "6")[2].splitlines()[:1], [f"fault {fault}"])
+
+
+def ends_early(node):
+    """Starts a node that ends by itself: its status, what it printed, and what it said."""
+    for path in (node.sock, node.control):
+        path.unlink(missing_ok=True)
+    return run(*map(str, node.words()))
+
+
+# ---- the parts
+
+
+def full_disks_at_a_start(check):
+    """A node that is to purge its log, and has no room for that, starts all the same, as one whose log is closed. With room it purges at its next start."""
+    folder = check.folder()
+    path = folder / "a.prom"
+    with disk_in(folder / "disk") as disk:
+        if not isinstance(disk, SmallDisk):
+            check.lacking.add("a disk can be mounted, so no log was on a full one at a start")
+            return
+        node = check.node("a", "--pause", "10", "--metrics", str(path), folder=folder)
+        disk.place(Place(node))
+        removals_in(node)
+        disk.shrink(Place(node))
+        disk.fill(None)
+        node.start()
+        awaits(path, "a", {("attrdir_log_open",): 0, ("attrdir_log_fault", "no_space"): 1, ("attrdir_removals",): REMOVALS, ("attrdir_rows", "a"): 1})
+        want("its rows", node.get(), [f"a k {REMOVALS + 1} weight 5"])
+        refuses_a_write(node, 15)
+        front = f"attrdir: error log {node.log}: fault 18: no space is left; no more writes are taken: "
+        said = [f"attrdir: warning log {node.log}: its removals could not be purged", front + "make room on its disk, and start the node again"]
+        want("what it says", [it for it in node.lines() if "listens" not in it], said)
+        promtool_takes(check, path)
+        node.kill()
+        node.options = ("--on-log-fault", "exit")
+        status, printed, said = ends_early(node)
+        want("its end", (status, printed, said.splitlines()[-3:][:1]), (3, "", ["fault 18"]))
+        disk.free(None)
+        node.options = ()
+        node.start()
+        want("what it says", node.lines()[:1], [f"attrdir: info log {node.log}: {REMOVALS} removals up to version {REMOVALS + 1} are purged"])
+        want("a write", node.put("n", 6), REMOVALS + 2)
+        node.kill()
+
+
+def lost_logs(check):
+    """A node whose log is removed or replaced says so once, and takes no more writes, or ends."""
+    for cause, lose in ("removed", lambda log: log.unlink()), ("replaced", lambda log: (log.unlink(), log.touch())):
+        folder = check.folder()
+        path = folder / "a.prom"
+        node = check.node("a", "--pause", "50", "--metrics", str(path), folder=folder).start()
+        want("a write", node.put("k", 5), 1)
+        awaits(path, "a", {("attrdir_log_open",): 1})
+        lose(node.log)
+        # (before the next round too)
+        refuses_a_write(node, 15)
+        awaits(path, "a", {("attrdir_log_open",): 0, ("attrdir_log_fault", cause): 1})
+        front = f"attrdir: error log {node.log}: fault 18: its file was {cause}; no more writes are taken: "
+        awaits_line(node, front + "put the file back, or see RUNBOOK, A removed log, and start the node again")
+        want("its rows", node.get(), ["a k 1 weight 5"])
+        promtool_takes(check, path)
+        node.kill()
+        node = check.node("a", "--pause", "50", "--on-log-fault", "exit").start()
+        want("a write", node.put("k", 5), 1)
+        lose(node.log)
+        status, printed, said = node.ended()
+        want(f"its end by a log that is {cause}", (status, printed, said[-3]), (3, "", "fault 18"))
+        want("its sockets", (node.sock.exists(), node.control.exists()), (False, False))
+
+
+def faults_of_sessions(check):
+    """A session that another node dialed and that ends with a fault is counted, and said: the first at once, and others not before a minute."""
+    folder = check.folder()
+    path = folder / "a.prom"
+    node = check.node("a", "--pause", "10", "--metrics", str(path), folder=folder).start()
+    throw(node.sock, HELLO_OF_BEFORE)
+    front = "attrdir: warning node a: "
+    first = front + "sessions of other nodes ended with a fault: 1; the last by fault 11"
+    version = front + "frames of another version refused: 1; run the same release at both ends"
+    awaits_line(node, first)
+    awaits_line(node, version)
+    throw(node.sock, HELLO_OF_BEFORE)
+    throw(node.control, HELLO_OF_BEFORE)
+    throw(node.sock, hello("b", "c2"))
+    awaits(path, "a", {("attrdir_session_faults_total",): 3, ("attrdir_other_versions_total",): 3, ("attrdir_sessions_total",): 3})
+    want("what it says", sorted(node.lines()[1:]), sorted([first, version]))
+    promtool_takes(check, path)
+    if check.is_long:
+        time.sleep(61)
+        later = [it.split("node a: ")[1] for it in node.lines()[3:]]
+        want("what it says a minute later", sorted(later), [
+            "frames of another version refused: 2; run the same release at both ends",
+            "sessions of other nodes ended with a fault: 2; the last by fault 23",
+        ])
+
+
+def busy_workers(check):
+    """Workers that all wait for silent peers for longer than a second are said, and counted once, as long as that lasts."""
+    folder = check.folder()
+    path = folder / "a.prom"
+    node = check.node("a", "--pause", "10", "--workers", "2", "--metrics", str(path), folder=folder).start()
+    peers = [connect(node.sock) for _ in range(2)]
+    for at, peer in enumerate(peers):
+        peer.sendall(hello(f"b{at}"))
+        read_frame(peer)
+    awaits(path, "a", {("attrdir_workers",): 2, ("attrdir_workers_busy",): 2, ("attrdir_all_workers_busy_total",): 0})
+    awaits(path, "a", {("attrdir_all_workers_busy_total",): 1})
+    said = "attrdir: warning node a: times that all workers were busy for longer than a second: 1; give it more --workers, or end silent peers"
+    awaits_line(node, said)
+    time.sleep(1.5)
+    awaits(path, "a", {("attrdir_all_workers_busy_total",): 1})
+    for peer in peers:
+        peer.sendall(BYE)
+        while read_frame(peer):
+            pass
+        peer.close()
+    awaits(path, "a", {("attrdir_workers_busy",): 0, ("attrdir_all_workers_busy_total",): 1})
+
+
+def callers_turned_away(check):
+    """A caller whom the node cannot accept for want of descriptors is counted, and said."""
+    folder = check.folder()
+    path = folder / "a.prom"
+    node = check.node("a", "--pause", "10", "--metrics", str(path), folder=folder).start()
+    awaits(path, "a", {("attrdir_turned_away_total",): 0})
+    pid = node.ran.pid
+    soft, hard = resource.prlimit(pid, resource.RLIMIT_NOFILE)
+    open_ones = os.listdir(f"/proc/{pid}/fd")
+    resource.prlimit(pid, resource.RLIMIT_NOFILE, (next(it for it in range(hard) if str(it) not in open_ones), hard))
+    connect(node.sock).close()
+    end = time.monotonic() + SECONDS
+    while not any("warning node a: callers turned away: " in it and "; let the process open more files" in it for it in node.lines()):
+        if time.monotonic() > end:
+            raise Difference(f"no caller was turned away, by {node.lines()}")
+        time.sleep(0.02)
+    resource.prlimit(pid, resource.RLIMIT_NOFILE, (soft, hard))
+    awaits(path, "a", {}, lambda found: found["attrdir_turned_away_total",] >= 1)
+
+
+PARTS = (full_disks_at_a_start, lost_logs, faults_of_sessions, busy_workers, callers_turned_away)
