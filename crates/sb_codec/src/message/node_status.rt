@@ -1,6 +1,6 @@
 //! How a node is.
 
-ghost use Rattle.std.specs.Prelude.{◌≡◌, ◌≤◌, ◌+◌, nat_le, true, if◌then◌else◌, Some, None, OnSome, Ok, Err, sum_by};
+ghost use Rattle.std.specs.Prelude.{◌≡◌, ◌≤◌, ◌+◌, [], nat_le, true, if◌then◌else◌, Some, None, OnSome, Ok, Err, sum_by};
 ghost use Rattle.std.specs.List.{list_all};
 ghost use Rattle.sb_codec.specs.Records.{status_of};
 ghost use Rattle.sb_codec.specs.Figures.{number_of, value_at};
@@ -110,10 +110,8 @@ fn length_within(
     ensures length { result ≡ (let total = status_length (status_of true identity.now figures.now peers.now) in if nat_le total PAYLOAD_MOST then Some total else None) }
     ensures each { OnSome result ((is_identity identity.now ≡ true) × (list_all is_figure figures.now ≡ true) × (list_all is_peer peers.now ≡ true)) }
 {
-    let counts = COUNT_LENGTH + COUNT_LENGTH;
-    let head = BYTE_LENGTH + BYTE_LENGTH + counts + length_of_identity(identity);
-    let with_figures = length_with_figures(head, figures)?;
-    length_with_peers(with_figures, peers)
+    let head = NodeStatus::head_length(identity, figures)?;
+    length_with_peers(head, peers)
 }
 
 /// Returns the value of the figure of this number, if there is one.
@@ -129,6 +127,17 @@ fn value_of(figures: &[Figure], number: u8) -> Option<u64>
 }
 
 impl NodeStatus {
+    /// Returns how many bytes come before the peers in the payload of a status of these parts, if that is within the limit of
+    /// a payload.
+    pub fn head_length(identity: &NodeIdentity, figures: &[Figure]) -> Option<u64>
+        ensures length { result ≡ (let head = status_length (status_of true identity.now figures.now []) in if nat_le head PAYLOAD_MOST then Some head else None) }
+        ensures each { OnSome result ((is_identity identity.now ≡ true) × (list_all is_figure figures.now ≡ true)) }
+    {
+        let counts = COUNT_LENGTH + COUNT_LENGTH;
+        let names = BYTE_LENGTH + BYTE_LENGTH + counts + length_of_identity(identity);
+        length_with_figures(names, figures)
+    }
+
     /// Makes the status of these parts. It takes no memory. If a limit is broken, it drops the parts and returns
     /// `Malformed(KIND_NODE_STATUS)`:
     ///
