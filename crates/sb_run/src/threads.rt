@@ -217,7 +217,7 @@ impl<O: Observer + Sync> Dialer<'_, O> {
                     requests,
                     writes,
                     control,
-                    shared.observer(),
+                    shared,
                 );
                 let rounds = rounds_receiver.receive(node.rt);
                 let dialed = DialingEnd {
