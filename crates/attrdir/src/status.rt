@@ -11,10 +11,9 @@ use sb_run::LogCause;
 use sb_types::{Fault, KIND_NODE_STATUS, Name, ShortText, Spelled};
 use serde_json::{Map, Value, json};
 use std::alloc::{AllocError, Global};
-use std::fmt;
 use std::io::Write;
-use std::thread;
 use std::time::{Clock, Duration, Instant};
+use std::{fmt, thread};
 
 /// How many milliseconds pass between two askings of a command that waits until a node is ready.
 const WAIT_STEP: u64 = 100;
@@ -153,7 +152,11 @@ impl WholeStatus {
     }
 
     /// Prints it as an object in one line.
-    fn print_json(&self, alloc: Global, output: &mut Output<'_>) -> Result<std::io::Result<()>, AllocError> {
+    fn print_json(
+        &self,
+        alloc: Global,
+        output: &mut Output<'_>,
+    ) -> Result<std::io::Result<()>, AllocError> {
         let text = object_of(alloc, self)?.to_string(alloc)?;
         Ok(writeln!(output, "{}", text.as_str()))
     }
@@ -173,7 +176,12 @@ impl WholeStatus {
 }
 
 fn print_peer(output: &mut Output<'_>, peer: &PeerStatus) -> std::io::Result<()> {
-    writeln!(output, "peer {} {}", StateWord(peer.state), Spelled(text_of(&peer.path)))
+    writeln!(
+        output,
+        "peer {} {}",
+        StateWord(peer.state),
+        Spelled(text_of(&peer.path))
+    )
 }
 
 /// The value of a figure, as JSON.
@@ -236,9 +244,15 @@ fn add_identity(
         ("release", text_of(&identity.release)),
     ];
     for (member, text) in texts.iter() {
-        members.insert(String::from_str(alloc, member)?, Value::try_from_str(alloc, text)?)?;
+        members.insert(
+            String::from_str(alloc, member)?,
+            Value::try_from_str(alloc, text)?,
+        )?;
     }
-    members.insert(String::from_str(alloc, "ready")?, Value::from(is_ready(status)))?;
+    members.insert(
+        String::from_str(alloc, "ready")?,
+        Value::from(is_ready(status)),
+    )?;
     Ok(())
 }
 

@@ -213,12 +213,7 @@ impl<O: Observer + Sync> Dialer<'_, O> {
                     news_thread.join(node.rt);
                     return Err(Fault::NoMemory);
                 };
-                let at_control = node.answer_requests(
-                    requests,
-                    writes,
-                    control,
-                    shared,
-                );
+                let at_control = node.answer_requests(requests, writes, control, shared);
                 let rounds = rounds_receiver.receive(node.rt);
                 let dialed = DialingEnd {
                     news: news_thread.join(node.rt),
