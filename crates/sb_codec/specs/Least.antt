@@ -1,5 +1,7 @@
 -- The shortest items of counted lists: each is read back from as few bytes.
 use Rattle.std.specs.Prelude.{◌≡◌, refl, false, [], ◌∷◌, length, Some}
+use Rattle.std.specs.Char.{encode_utf8}
+use Rattle.std.specs.Str.{chars, is_utf8}
 use Rattle.sb_types.specs.declared.entry.Slot.TheVariants.{Removed}
 use Rattle.sb_types.specs.Value.{Flag}
 use Rattle.sb_types.specs.Records.{Entry, Block}
@@ -36,5 +38,5 @@ abbrev pub first_peer : Peer
 first_peer = record { path = 97 ∷ []; state = 0; round = 0 }
 
 pub peer_reached : (item : Peer) × (peer_field (peer item) ≡ Some (item, [])) × (length (peer item) ≡ 11)
-unfolding peer number peer_field short_text_field number_field text_field byte_field bytes_field
+unfolding peer number peer_field short_text_field number_field text_field byte_field bytes_field is_utf8 chars encode_utf8
 peer_reached = (first_peer, refl, refl)

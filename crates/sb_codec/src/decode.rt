@@ -45,8 +45,8 @@ fn is_kept(kind: u8) -> bool
     )
 }
 
-/// Returns whether the payload begins with a kind whose messages take memory: a digest, a delta, a page of rows, a put
-/// or the status of a node.
+/// Returns whether the payload begins with a kind whose messages take memory. These are a digest, a delta, a page of
+/// rows, a put and the status of a node.
 pub fn takes_memory(payload: &[u8]) -> bool
     ensures { (result ≡ true) ↔ TakesMemory payload.now }
 {

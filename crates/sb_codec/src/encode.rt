@@ -8,9 +8,7 @@ ghost use Rattle.sb_codec.specs.Messages.{Spells, IsSole, spelling, is_message};
 ghost use Rattle.sb_codec.specs.Standing.{StandsFirst};
 
 use crate::lengths::payload_length;
-use crate::message::{
-    Ask, AskStatus, Bye, Done, Hello, Message, NodeStatus, Refused, Rows,
-};
+use crate::message::{Ask, AskStatus, Bye, Done, Hello, Message, NodeStatus, Refused, Rows};
 use crate::writing::{
     write_byte, write_bytes, write_flag, write_identity, write_list, write_optional_name,
     write_place, write_slot, write_text, write_u64,

@@ -21,9 +21,9 @@ use crate::message::{
 use crate::refusal::Refusal;
 use sb_digest::{Digest, Pair};
 use sb_types::{
-    Block, ContentRef, Delta, Entry, Form, KIND_ASK, KIND_ASK_STATUS, KIND_BYE, KIND_DELTA, KIND_DIGEST, KIND_DONE,
-    KIND_HELLO, KIND_NODE_STATUS, KIND_PUT, KIND_REFUSED, KIND_ROWS, Key, Kind, Name, Prefix, ShortText, Slot, TAG_REMOVED,
-    Value, Write,
+    Block, ContentRef, Delta, Entry, Form, KIND_ASK, KIND_ASK_STATUS, KIND_BYE, KIND_DELTA,
+    KIND_DIGEST, KIND_DONE, KIND_HELLO, KIND_NODE_STATUS, KIND_PUT, KIND_REFUSED, KIND_ROWS, Key,
+    Kind, Name, Prefix, ShortText, Slot, TAG_REMOVED, Value, Write,
 };
 use std::alloc::Global;
 use std::marker::Model;

@@ -9,8 +9,8 @@ use crate::replies::Replies;
 use sb_codec::{Hello, Message};
 use sb_digest::Digest;
 use sb_types::{
-    Fault, KIND_ASK, KIND_ASK_STATUS, KIND_DONE, KIND_NODE_STATUS, KIND_PUT, KIND_REFUSED, KIND_ROWS,
-    Name,
+    Fault, KIND_ASK, KIND_ASK_STATUS, KIND_DONE, KIND_NODE_STATUS, KIND_PUT, KIND_REFUSED,
+    KIND_ROWS, Name,
 };
 use std::marker::Model;
 

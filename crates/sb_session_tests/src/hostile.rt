@@ -310,7 +310,12 @@ fn each_byte_is_damaged(rt: HostRuntime) {
 #[test]
 fn each_byte_of_a_status_is_damaged(rt: HostRuntime) {
     let alloc = rt.alloc();
-    is_damaged(&rt, alloc, NODE_STATUS, [10_654, 446, 255, 255, 511, 245, 5_484]);
+    is_damaged(
+        &rt,
+        alloc,
+        NODE_STATUS,
+        [10_654, 446, 255, 255, 511, 245, 5_484],
+    );
 }
 
 /// A number below another.

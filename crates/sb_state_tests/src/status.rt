@@ -1,9 +1,7 @@
 //! The status of a node: what it says, its figures, and its short texts.
 
 use crate::{got, name, one, push, refusal, same, same_at};
-use sb_codec::{
-    AskStatus, Figure, FigureKind, Message, NodeIdentity, NodeStatus, PeerStatus,
-};
+use sb_codec::{AskStatus, Figure, FigureKind, Message, NodeIdentity, NodeStatus, PeerStatus};
 use sb_types::{Fault, KIND_NODE_STATUS, ShortText};
 use std::alloc::Global;
 use std::process::Abort;
@@ -81,7 +79,12 @@ fn assert_no_status(rt: &impl Abort, alloc: Global, numbers: [u8; 2]) {
     push(rt, &mut figures, figure(second));
     let identity = *one_status(rt, alloc).identity();
     let made = NodeStatus::new(false, identity, figures, Vec::new(alloc));
-    same_at(rt, &numbers, &refusal(rt, made), &Some(Fault::Malformed(KIND_NODE_STATUS)));
+    same_at(
+        rt,
+        &numbers,
+        &refusal(rt, made),
+        &Some(Fault::Malformed(KIND_NODE_STATUS)),
+    );
 }
 
 #[test]

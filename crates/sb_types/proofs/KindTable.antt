@@ -1,6 +1,6 @@
 -- The table of the kinds: what holds of every kind, and of every value by its kind.
 use Rattle.std.proofs.Common.{◌≡◌, ◌≢◌, ℕ, ◌<◌, ◌≤◌, ◌^◌, ◌⊎◌, inl, inr, Bool, true, false, ◌&&◌, cond, List, [], ◌∷◌, length, Option, Some, None, Result, Ok, Err, refl, sym, ap, subst, ◌∙◌, arith}
-use Rattle.std.specs.Prelude.{nat_le, nat_lt, ◌==◌, find, option_map}
+use Rattle.std.specs.Prelude.{nat_le, ◌==◌, find, option_map}
 use Rattle.std.specs.List.{list_all}
 use Rattle.std.specs.Str.{is_utf8}
 use Rattle.std.proofs.lemmas.Bool.{and_parts, leb-true, ltb-true, eqb-true}
@@ -11,7 +11,7 @@ use Rattle.sb_types.specs.declared.kind.Kind.TheVariants as kinds
 use Rattle.sb_types.specs.declared.format.TheConstants.{TAG_REMOVED, VALUE_LENGTH_MOST}
 use Rattle.sb_types.specs.declared.limits.TheConstants.{ADDR_MOST, TEXT_MOST}
 use Rattle.sb_types.specs.Faults.{Gives}
-use Rattle.sb_types.specs.Text.{is_between, is_addr, is_addr_byte, is_text}
+use Rattle.sb_types.specs.Text.{is_between, is_addr_byte}
 use Rattle.sb_types.specs.Lengths.{value_length}
 use Rattle.sb_types.specs.Value.{Value, Addr, Weight, Flag, Text, is_value, words_of}
 use Rattle.sb_types.specs.Kinds.{word_in, text_in, number_in, truth_in, all_kinds, word_of, tag_of, form_of, kind_of, content_of, made_value, kind_of_tag, form_in, value_of, content_word, content_length, Fits}

@@ -66,8 +66,8 @@ pub const REASON_ROUNDS_DONE: u8 = 1;
 /// The greatest reason of a Bye.
 pub const REASON_MOST: u8 = 5;
 
-/// How many bytes each of these takes: a kind, a tag, a flag, a reason, the number of a fault, the number of a figure,
-/// and the state of a peer. The length of a name, of a key, of an address or of a short text takes as many.
+/// How many bytes each of these takes: a kind, a tag, a flag and a reason. The number of a fault or of a figure takes as
+/// many, and so does the state of a peer. The length of a name, of a key, of an address or of a short text does too.
 pub const BYTE_LENGTH: u64 = 1;
 
 /// How many bytes each of these takes: a count of a list, and the length of a text.

@@ -1,4 +1,4 @@
-//! What a node tells of itself in numbers.
+//! What a node reports of itself in numbers.
 
 ghost use Rattle.std.specs.Prelude.{◌≡◌, ◌≢◌, true, IfSome, IfNone};
 ghost use Rattle.sb_codec.specs.declared.message.figure.FigureKind as kinds;

@@ -1,4 +1,4 @@
-//! Which node it is that tells how it is.
+//! Which node reports how it is.
 
 use sb_types::{Name, ShortText};
 

@@ -102,11 +102,7 @@ fn length_with_peers(head: u64, peers: &[PeerStatus]) -> Option<u64>
 }
 
 /// Returns how many bytes the payload of these parts takes, if that is within its limit.
-fn length_within(
-    identity: &NodeIdentity,
-    figures: &[Figure],
-    peers: &[PeerStatus],
-) -> Option<u64>
+fn length_within(identity: &NodeIdentity, figures: &[Figure], peers: &[PeerStatus]) -> Option<u64>
     ensures length { result ≡ (let total = status_length (status_of true identity.now figures.now peers.now) in if nat_le total PAYLOAD_MOST then Some total else None) }
     ensures each { OnSome result ((is_identity identity.now ≡ true) × (list_all is_figure figures.now ≡ true) × (list_all is_peer peers.now ≡ true)) }
 {
@@ -127,8 +123,8 @@ fn value_of(figures: &[Figure], number: u8) -> Option<u64>
 }
 
 impl NodeStatus {
-    /// Returns how many bytes come before the peers in the payload of a status of these parts, if that is within the limit of
-    /// a payload.
+    /// Returns how many bytes of a payload a status of these parts takes before its peers, if that is within the limit of a
+    /// payload.
     pub fn head_length(identity: &NodeIdentity, figures: &[Figure]) -> Option<u64>
         ensures length { result ≡ (let head = status_length (status_of true identity.now figures.now []) in if nat_le head PAYLOAD_MOST then Some head else None) }
         ensures each { OnSome result ((is_identity identity.now ≡ true) × (list_all is_figure figures.now ≡ true)) }

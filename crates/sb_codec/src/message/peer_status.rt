@@ -10,8 +10,8 @@ use std::marker::Model;
 /// The most bytes that a peer takes: the path of its socket, its state, and the number of a round.
 const PEER_LENGTH_MOST: u64 = SHORT_TEXT_LENGTH_MOST + BYTE_LENGTH + NUMBER_LENGTH;
 
-/// How a peer is that a node dials: the path of its socket, the number of its state, and the number of its last round, 0
-/// if there was none. The state may be one that this release does not know.
+/// How a peer is that a node dials: the path of its socket, and the number of its state. That may be one that this release
+/// does not know. `round` is the number of its last round, 0 if there was none.
 #[derive(Clone, Copy, Debug)]
 pub struct PeerStatus {
     pub path: ShortText,
