@@ -9,14 +9,14 @@ from check_waking import Place, fill
 from nodes import BYE, SECONDS, Difference, connect, hello, read_frame, run, throw, want
 from small_disk import SmallDisk, disk_in
 
-# one more than these a log has to have before its node purges it at a start
-REMOVALS = 1024
+# from so many removals in its log on a node here purges it at a start
+REMOVALS = 32
 # the Hello of a peer of the version before
 HELLO_OF_BEFORE = b"\xa7\x02" + hello("b")[2:]
 
 
 def removals_in(node):
-    """Gives the log of a node that does not run so many removals that its next start purges it, and one row."""
+    """Gives the log of a node that does not run so many removals that a start may purge it, and one row."""
     want("a new log", run(node.program, "log", "--log", str(node.log), "--name", node.name, "--cluster", "c")[1], "last 0\n")
     with sqlite3.connect(node.log) as log:
         log.executemany("INSERT INTO writes VALUES (?, ?, 0, NULL, NULL)", [(f"r{at:04}", at) for at in range(1, REMOVALS + 1)])
@@ -46,28 +46,39 @@ def full_disks_at_a_start(check):
         if not isinstance(disk, SmallDisk):
             check.lacking.add("a disk can be mounted, so no log was on a full one at a start")
             return
-        node = check.node("a", "--pause", "10", "--metrics", str(path), folder=folder)
+        with_metrics = ("--pause", "10", "--metrics", str(path))
+        purging = ("--purge-removals", str(REMOVALS))
+        node = check.node("a", "--purge-removals", "0", folder=folder)
         disk.place(Place(node))
         removals_in(node)
-        disk.shrink(Place(node))
-        disk.fill(None)
         node.start()
-        awaits(path, "a", {("attrdir_log_open",): 0, ("attrdir_log_fault", "no_space"): 1, ("attrdir_removals",): REMOVALS, ("attrdir_rows", "a"): 1})
-        want("its rows", node.get(), [f"a k {REMOVALS + 1} weight 5"])
+        want("a write", node.put("n", 5), REMOVALS + 2)
+        disk.fill(None)
+        # (the log has room of its own, which is used up first)
+        want("the write that had no room", fill(node), (3, "fault 18"))
+        node.kill()
+        node.options = (*with_metrics, *purging)
+        node.start()
+        rows = node.get()
+        want("its first rows", [it for it in rows if it.split()[1] in ("k", "n")], [f"a k {REMOVALS + 1} weight 5", f"a n {REMOVALS + 2} weight 5"])
+        expected = {("attrdir_removals",): REMOVALS, ("attrdir_rows", "a"): len(rows)}
+        awaits(path, "a", {("attrdir_log_open",): 0, ("attrdir_log_fault", "no_space"): 1, **expected})
         refuses_a_write(node, 15)
         front = f"attrdir: error log {node.log}: fault 18: no space is left; no more writes are taken: "
         said = [f"attrdir: warning log {node.log}: its removals could not be purged", front + "make room on its disk, and start the node again"]
         want("what it says", [it for it in node.lines() if "listens" not in it], said)
         promtool_takes(check, path)
         node.kill()
-        node.options = ("--on-log-fault", "exit")
+        node.options = (*purging, "--on-log-fault", "exit")
         status, printed, said = ends_early(node)
         want("its end", (status, printed, said.splitlines()[-3:][:1]), (3, "", ["fault 18"]))
         disk.free(None)
-        node.options = ()
+        node.options = purging
         node.start()
-        want("what it says", node.lines()[:1], [f"attrdir: info log {node.log}: {REMOVALS} removals up to version {REMOVALS + 1} are purged"])
-        want("a write", node.put("n", 6), REMOVALS + 2)
+        last = max(int(it.split()[2]) for it in rows)
+        want("what it says", node.lines()[:1], [f"attrdir: info log {node.log}: {REMOVALS} removals up to version {last} are purged"])
+        want("its rows", node.get(), rows)
+        want("a write", node.put("n", 6), last + 1)
         node.kill()
 
 

@@ -57,9 +57,18 @@ impl Asked {
 #[derive(Drop)]
 pub(crate) struct Handover {
     to_workers: Sender<Job>,
-    to_owner: Sender<Request>,
+    to_owner: OwnerSender,
     /// How many jobs were handed to the workers.
     handed: u64,
+}
+
+/// What hands requests to the calling thread. Questions have a way of their own, so that they delay no write.
+#[derive(Drop)]
+struct OwnerSender {
+    questions: Sender<Request>,
+    others: Sender<Request>,
+    /// One unit for each request that was handed over, sent after it.
+    arrivals: Sender<()>,
 }
 
 /// The end of the workers.
@@ -71,7 +80,9 @@ pub(crate) struct Jobs {
 /// The end of the calling thread.
 #[derive(Drop)]
 pub(crate) struct Requests {
-    from: Receiver<Request>,
+    questions: Receiver<Request>,
+    others: Receiver<Request>,
+    arrivals: Receiver<()>,
 }
 
 /// The ways from the thread that accepts to the workers and to the calling thread. `NoMemory`.
@@ -79,17 +90,44 @@ pub(crate) fn new_handover(alloc: Global) -> Result<(Handover, Jobs, Requests), 
     ensures { IfErr result (λ fault. fault ≡ Fault.NoMemory) }
 {
     let (to_workers, from_workers) = bounded::<Job, Global>(alloc, HANDED_MOST)?;
-    let (to_owner, from_owner) = bounded::<Request, Global>(alloc, HANDED_MOST)?;
+    let (to_owner, requests) = new_owner_way(alloc)?;
     let handover = Handover {
         to_workers,
         to_owner,
         handed: 0,
     };
-    Ok((
-        handover,
-        Jobs { from: from_workers },
-        Requests { from: from_owner },
-    ))
+    Ok((handover, Jobs { from: from_workers }, requests))
+}
+
+/// The way to the calling thread. `NoMemory`.
+fn new_owner_way(alloc: Global) -> Result<(OwnerSender, Requests), Fault>
+    ensures { IfErr result (λ fault. fault ≡ Fault.NoMemory) }
+{
+    let (to_questions, questions) = bounded::<Request, Global>(alloc, HANDED_MOST)?;
+    let (to_others, others) = bounded::<Request, Global>(alloc, HANDED_MOST)?;
+    let (to_arrivals, arrivals) = bounded::<(), Global>(alloc, 2 * HANDED_MOST)?;
+    let sender = OwnerSender {
+        questions: to_questions,
+        others: to_others,
+        arrivals: to_arrivals,
+    };
+    let requests = Requests {
+        questions,
+        others,
+        arrivals,
+    };
+    Ok((sender, requests))
+}
+
+impl OwnerSender {
+    /// Hands a request to the calling thread, and says whether there was room.
+    fn give<R: Wait>(&self, rt: &R, request: Request) -> bool {
+        let way = match request.message {
+            Message::Ask(_) => &self.questions,
+            _ => &self.others,
+        };
+        way.try_send(rt, request).is_ok() && self.arrivals.try_send(rt, ()).is_ok()
+    }
 }
 
 impl Handover {
@@ -104,9 +142,7 @@ impl Handover {
 
     /// Hands a request to the calling thread, and says whether there was room.
     fn give_owner<R: Wait>(&self, rt: &R, message: Message, stream: UnixStream) -> bool {
-        self.to_owner
-            .try_send(rt, Request { message, stream })
-            .is_ok()
+        self.to_owner.give(rt, Request { message, stream })
     }
 
     /// Hands the session of a peer to the workers, with what has come of it. `ReadFailed` if too many wait for one, or if the connection can't be used.
@@ -159,13 +195,16 @@ impl Handover {
 }
 
 impl Requests {
-    /// The next request; none once the node is to end.
+    /// The next request, questions after all others; none once the node is to end.
     pub(crate) fn next<R: Wait>(&self, rt: &R, ending: &EndFlag) -> Option<Request> {
-        let received = self.from.recv(rt);
-        if ending.is_raised() {
+        let arrived = self.arrivals.recv(rt);
+        if ending.is_raised() || arrived.is_err() {
             return None;
         }
-        received.ok()
+        match self.others.try_recv(rt) {
+            Ok(request) => Some(request),
+            Err(_) => self.questions.try_recv(rt).ok(),
+        }
     }
 }
 

@@ -38,13 +38,13 @@ impl<L: WriteLog> ClosableLog<L> {
 }
 
 impl<L: WriteLog> WriteLog for ClosableLog<L> {
-    ghost use Rattle.sb_run.specs.Closing as closing;
+    ghost use Rattle.sb_run.specs.Closing as spec;
 
-    ghost seen = { λ l. closing.seen_by (L.seen l.log) l.closed_by };
+    ghost seen = { λ l. spec.seen_by (L.seen l.log) l.closed_by };
 
     ghost leaves = { λ l. L.leaves l.log };
 
-    ghost why = { λ l. closing.why_of (L.why l.log) l.closed_by };
+    ghost why = { λ l. spec.why_of (L.why l.log) l.closed_by };
 
     fn owner(&self) -> &Name {
         self.log.owner()

@@ -62,7 +62,10 @@ impl Counts {
     /// For how long the node runs, in milliseconds; 0 if the clock cannot be read.
     pub(crate) fn uptime<Q: Clock>(&self, clock: &Q) -> u64 {
         match (self.started, Instant::now(clock)) {
-            (Some(started), Ok(now)) => now.saturating_duration_since(started).as_millis() as u64,
+            (Some(started), Ok(now)) => {
+                let passed = now.saturating_duration_since(started).as_millis();
+                u64::try_from(passed).unwrap_or(u64::MAX)
+            }
             _ => 0,
         }
     }

@@ -18,6 +18,16 @@ pub(crate) struct Delivery {
     is_slow: bool,
 }
 
+impl Delivery {
+    /// Whether a session for news can begin, if there is room for a slow peer or is not.
+    fn can_begin(&self, has_room: bool) -> bool
+        ensures due { result ≡ true → (self.now.is_due ≡ true) × (self.now.is_open ≡ false) }
+        ensures goes { self.now.is_due ≡ true → self.now.is_open ≡ false → self.now.is_slow ≡ false → result ≡ true }
+    {
+        self.is_due && !self.is_open && (has_room || !self.is_slow)
+    }
+}
+
 /// The deliveries of news to the peers of a node, in the order of the peers.
 #[derive(Drop)]
 pub(crate) struct Deliveries {
@@ -101,16 +111,25 @@ impl Deliveries {
         ensures changes { result ≡ true → spec.Changes index spec.begun self.old.all.items self.new.all.items }
         ensures same { result ≡ false → self.new.all ≡ self.old.all }
     {
-        let has_room = self.has_room();
-        let Some(delivery) = self.all.get_mut(index) else {
+        let Some(delivery) = self.all.get(index) else {
             return false;
         };
-        if !delivery.is_due || delivery.is_open || delivery.is_slow && !has_room {
+        if !delivery.can_begin(self.has_room()) {
             return false;
         }
-        delivery.is_due = false;
-        delivery.is_open = true;
+        self.open(index);
         true
+    }
+
+    /// Notes that a session for news with the peer at this index is under way.
+    fn open(&mut self, index: usize)
+        ensures most { self.new.most ≡ self.old.most }
+        ensures changes { spec.Changes index spec.begun self.old.all.items self.new.all.items }
+    {
+        if let Some(delivery) = self.all.get_mut(index) {
+            delivery.is_due = false;
+            delivery.is_open = true;
+        }
     }
 
     /// Ends a session for news with the peer at this index, which took long or not.

@@ -19,7 +19,7 @@ use sb_budget::Backlog;
 use sb_directory::ReaderSeat;
 use sb_types::Fault;
 use std::alloc::Global;
-use std::net::Net;
+use std::net::{Net, TcpListener, TcpStream};
 use std::sync::{Mutex, Wait};
 use std::thread;
 use std::thread::Threads;
@@ -84,17 +84,9 @@ impl SessionStart {
     }
 }
 
-/// What it takes to dial the peers of a node.
-#[derive(Drop)]
-pub(crate) struct Dialer<'a, O> {
-    /// What the threads share.
-    pub(crate) dialing: Dialing<'a, O>,
-    /// What the thread of the turns has alone.
-    pub(crate) turns: Turns<'a>,
-}
-
-impl<'a, O: Observer> Dialer<'a, O> {
-    /// Dials these peers at this pace, with so many threads for news. `NoMemory`.
+impl<'a, O: Observer> Dialing<'a, O> {
+    /// What it takes to dial these peers at this pace, with so many threads for news. The threads share the first part, and the
+    /// one that dials in turn has the second alone. `NoMemory`.
     pub(crate) fn new(
         alloc: Global,
         paths: &[&'a str],
@@ -102,26 +94,23 @@ impl<'a, O: Observer> Dialer<'a, O> {
         threads: usize,
         observer: &'a O,
         parkers: Parkers,
-    ) -> Result<Dialer<'a, O>, Fault>
+    ) -> Result<(Dialing<'a, O>, Turns<'a>), Fault>
         ensures { IfErr result (λ fault. fault ≡ Fault.NoMemory) }
     {
         let Parkers { turns, news } = parkers;
         let schedule = Schedule::new(alloc, paths, pace.rounds, threads)?;
         let backlogs = Backlogs::new(alloc, paths.len())?;
-        Ok(Dialer {
-            turns: Turns::new(alloc, &schedule, threads == 0, turns)?,
-            dialing: Dialing {
-                observer,
-                schedule: Mutex::new(schedule),
-                parker: Mutex::new(news),
-                digests: Mutex::new(None),
-                backlogs: Mutex::new(backlogs),
-            },
-        })
+        let turns = Turns::new(alloc, &schedule, threads == 0, turns)?;
+        let dialing = Dialing {
+            observer,
+            schedule: Mutex::new(schedule),
+            parker: Mutex::new(news),
+            digests: Mutex::new(None),
+            backlogs: Mutex::new(backlogs),
+        };
+        Ok((dialing, turns))
     }
-}
 
-impl<'a, O: Observer> Dialing<'a, O> {
     /// The observer of the node.
     pub(crate) fn observer(&self) -> &'a O {
         self.observer
@@ -361,7 +350,7 @@ impl<O: Observer + Sync> Dialing<'_, O> {
     pub(crate) fn dial_from_all<
         S: RoundsTag + Send + Sync,
         H: Wait + Drop + Send + Sync,
-        Q: Threads + Wait + Net + Clock + Sync,
+        Q: Threads + Wait + Clock + Net<Listener = TcpListener, Stream = TcpStream> + Sync,
     >(&self, node: &NodeContext<S, H, Q>, seats: Vec<ReaderSeat<S>>) -> Vec<ReaderSeat<S>>
         ensures { (vec_len result ≡ vec_len seats) × (vec_capacity result ≡ vec_capacity seats) }
     {

@@ -60,8 +60,8 @@
 //! - A silent connection is never closed, or is closed too soon. A Hello or a request that is whole is never handed
 //!   on. The tests of `sb_run` and `tools/check-node` refuse it.
 //! - A session does not read what came before a worker took it, or reads it twice. Tests refuse it.
-//! - A question goes to the owner's thread although a worker is free, or to workers that are busy.
-//!   `tools/check-node` refuses it.
+//! - A question goes to the owner's thread although a worker is free, to workers that are busy, or before a write that
+//!   waits. `tools/check-node` refuses it.
 //! - A request or session may take too long, because its time never begins, or because it goes on once its time is
 //!   over. The tests of `sb_run` and `tools/check-node` refuse it.
 //! - A log that failed while the node runs does not end a node that must exit. Tests and `tools/check-node` refuse it.

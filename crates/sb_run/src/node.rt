@@ -8,7 +8,7 @@ use crate::closable::ClosableLog;
 use crate::observer::Observer;
 use crate::own_writes::OwnWrites;
 use crate::runtime::Runtime;
-use crate::tagged::{NodeStart, run_tagged};
+use crate::tagged::{DirectoryStart, NodeStart, run_tagged};
 use sb_log::WriteLog;
 use sb_node::NodeCore;
 use sb_table::Table;
@@ -99,8 +99,8 @@ fn start_refusal<L: WriteLog>(settings: &Settings, log: &L) -> Option<Fault>
 
 /// Runs the node that owns a log. It binds both sockets, each at a path that has no file or a socket without a listener, and
 /// reports that to the observer. One thread accepts at both. Workers serve peers, as many at once as there are workers, and
-/// answer questions of clients. The calling thread makes the own writes, one after another, and answers questions while no
-/// worker is free. One more thread dials the peers in turn, one a round, with a pause after each.
+/// answer questions of clients. The calling thread makes the own writes, one after another. While no worker is free it also
+/// answers questions, one whenever no write waits. One more thread dials the peers in turn, one a round, with a pause after each.
 ///
 /// A round has as many exchanges of digests and deltas as it takes to name all owners that the node holds: one, if the budget
 /// has room for a digest of all. A peer that let a round wait for `dial_idle` milliseconds is passed over in its next seven
@@ -206,9 +206,42 @@ pub fn run_closed_node<
     ensures open { (L.seen log).is_open ≡ true → IfErr result (IsRunningFault config.entry.settings (L.seen log) config.entry.pace.on_log_fault) }
     ensures rounds { IfOk result (λ ran. ran.rounds ≡ config.entry.pace.rounds) }
 {
+    let NodeConfig {
+        settings,
+        paths,
+        pace,
+    } = config;
+    let config = NodeConfig {
+        settings,
+        paths,
+        pace,
+    };
     if log.cause().is_none() {
-        return run_node(rt, alloc, config, log, observer);
+        run_node(rt, alloc, config, log, observer)
+    } else {
+        run_with_table(rt, alloc, config, log, table, observer)
     }
+}
+
+/// Runs the node that owns a log whose store failed, with the table that was read from it before. The faults of
+/// `start_refusal`, then those of `run_opened`.
+fn run_with_table<
+    L: WriteLog + Drop,
+    R: Runtime + Net<Listener = TcpListener, Stream = TcpStream>,
+    O: Observer + Sync,
+>(
+    rt: &R,
+    alloc: Global,
+    config: NodeConfig,
+    log: L,
+    table: Table,
+    observer: &O,
+) -> Result<Ran, Fault>
+    requires closed { (L.seen log).is_open ≡ false }
+    ensures runs { RunsClosed (spec.start_refusal config.entry.settings (L.seen log)) config.entry.pace.on_log_fault result }
+    ensures refused { IfSome (spec.start_refusal config.entry.settings (L.seen log)) (λ fault. result ≡ Err fault) }
+    ensures rounds { IfOk result (λ ran. ran.rounds ≡ config.entry.pace.rounds) }
+{
     let NodeConfig {
         settings,
         paths,
@@ -258,11 +291,11 @@ fn run_opened<
         pace,
     } = config;
     let core = NodeCore::open(alloc, settings, *writes.owner(), table)?;
-    let start = NodeStart {
+    let directory = DirectoryStart {
         new_history: NewHistory::new(),
         blank: Blank::new(settings.seats()),
         core,
-        writes,
     };
+    let start = NodeStart { directory, writes };
     run_tagged::<Brand, L, R, O>(rt, alloc, start, &paths, pace, observer)
 }

@@ -9,7 +9,7 @@ use crate::bell::Bell;
 use crate::closable::ClosableLog;
 use crate::context::NodeContext;
 use crate::counts::Counts;
-use crate::dialer::Dialer;
+use crate::dialer::Dialing;
 use crate::ending::EndFlag;
 use crate::node::{OnLogFault, Pace, Paths, Ran};
 use crate::observer::Observer;
@@ -29,15 +29,21 @@ use std::net::{Net, TcpListener, TcpStream};
 use std::sync::Wait;
 use std::sync::ledger::Blank;
 
-/// What a node starts from.
+/// What the directory of a node starts from.
 #[derive(Drop)]
-pub(crate) struct NodeStart<L: WriteLog> {
+pub(crate) struct DirectoryStart {
     /// The node's history, in which nothing has happened yet.
     pub(crate) new_history: NewHistory,
     /// The ledger in which the directory's seats count their events, with a part for each seat.
     pub(crate) blank: Blank,
     /// The node as it was opened.
     pub(crate) core: NodeCore,
+}
+
+/// What a node starts from.
+#[derive(Drop)]
+pub(crate) struct NodeStart<L: WriteLog> {
+    pub(crate) directory: DirectoryStart,
     /// Its log, and the write in it that is still to be handed to the directory.
     pub(crate) writes: OwnWrites<ClosableLog<L>>,
 }
@@ -46,20 +52,23 @@ pub(crate) struct NodeStart<L: WriteLog> {
 fn seat_all<S: RoundsTag, R: Wait>(
     rt: &R,
     alloc: Global,
-    new_history: NewHistory,
-    blank: Blank,
-    core: NodeCore,
+    start: DirectoryStart,
 ) -> Result<(Directory<S, &R>, ThreadSeats<S>), Fault>
-    requires history { new_history.seen.book ≡ S.history }
-    requires tagged { IsTagOf S.opening S.settings S.seats S.parts core }
-    requires name { blank.name ≡ S.name }
-    requires parts { blank.parts ≡ S.parts }
-    requires enough { core.settings.workers + 2 ≤ core.settings.seats }
+    requires history { start.new_history.seen.book ≡ S.history }
+    requires tagged { IsTagOf S.opening S.settings S.seats S.parts start.core }
+    requires name { start.blank.name ≡ S.name }
+    requires parts { start.blank.parts ≡ S.parts }
+    requires enough { start.core.settings.workers + 2 ≤ start.core.settings.seats }
     ensures workers { IfOk result (λ seated. vec_len seated.1.workers ≡ S.settings.workers) }
     ensures all { IfOk result (λ seated. vec_len seated.1.news + (vec_len seated.1.workers + 2) ≡ S.seats) }
     ensures room { IfOk result (λ seated. S.seats ≤ vec_capacity seated.1.news) }
     ensures memory { IfErr result (λ fault. fault ≡ Fault.NoMemory) }
 {
+    let DirectoryStart {
+        new_history,
+        blank,
+        core,
+    } = start;
     let settings = core.settings();
     let all = settings.seats() as usize;
     let made = Directory::<S, &R>::make(rt, alloc, new_history, blank, core, all);
@@ -86,11 +95,11 @@ pub(crate) fn run_tagged<
     pace: Pace,
     observer: &O,
 ) -> Result<Ran, Fault>
-    requires history { start.new_history.seen.book ≡ S.history }
-    requires tagged { IsTagOf S.opening S.settings S.seats S.parts start.core }
-    requires name { start.blank.name ≡ S.name }
-    requires parts { start.blank.parts ≡ S.parts }
-    requires started { IsStarted (seen_by (L.seen start.writes.log.log) start.writes.log.closed_by) start.core }
+    requires history { start.directory.new_history.seen.book ≡ S.history }
+    requires tagged { IsTagOf S.opening S.settings S.seats S.parts start.directory.core }
+    requires name { start.directory.blank.name ≡ S.name }
+    requires parts { start.directory.blank.parts ≡ S.parts }
+    requires started { IsStarted (seen_by (L.seen start.writes.log.log) start.writes.log.closed_by) start.directory.core }
     requires rounds { pace.rounds ≡ S.rounds }
     ensures rounds { IfOk result (λ ran. ran.rounds ≡ pace.rounds) }
     ensures fault { IfErr result (IsOpenedFault pace.on_log_fault) }
@@ -100,15 +109,9 @@ pub(crate) fn run_tagged<
     let (bell, parkers) = Bell::new(alloc)?;
     let (handover, jobs, requests) = new_handover(alloc)?;
     let events = Acceptor::events(alloc)?;
-    let (directory, thread_seats) = seat_all::<S, R>(
-        rt,
-        alloc,
-        start.new_history,
-        start.blank,
-        start.core,
-    )?;
+    let (directory, thread_seats) = seat_all::<S, R>(rt, alloc, start.directory)?;
     let threads = thread_seats.news.len();
-    let dialer = Dialer::new(alloc, paths.peers, &pace, threads, observer, parkers)?;
+    let (dialing, turns) = Dialing::new(alloc, paths.peers, &pace, threads, observer, parkers)?;
     let Ok((sockets, poll)) = BoundSockets::bind(rt, paths.sock, paths.control, observer) else {
         return Err(Fault::ReadFailed);
     };
@@ -116,6 +119,7 @@ pub(crate) fn run_tagged<
     let links = Links {
         acceptor: Acceptor::new(alloc, poll, events, handover),
         jobs,
+        turns,
         requests,
         rounds_sender,
         rounds_receiver,
@@ -133,7 +137,7 @@ pub(crate) fn run_tagged<
         asked: &asked,
         pace,
     };
-    let finished = dialer.run_threads(&node, start.writes, thread_seats, links);
+    let finished = dialing.run_threads(&node, start.writes, thread_seats, links);
     sockets.remove(rt);
     close(rt, directory, finished?)
 }

@@ -9,7 +9,7 @@ use crate::arrivals::{Arrivals, Jobs, Requests};
 use crate::closable::ClosableLog;
 use crate::context::NodeContext;
 use crate::control_socket::ControlEnd;
-use crate::dialer::{Dialer, Dialing};
+use crate::dialer::Dialing;
 use crate::node::OnLogFault;
 use crate::node_gate::NodeGate;
 use crate::observer::Observer;
@@ -25,7 +25,7 @@ use sb_types::Fault;
 use std::net::{Net, TcpListener, TcpStream};
 use std::sync::Wait;
 use std::thread;
-use std::thread::{Promise, Threads};
+use std::thread::{JoinHandle, Promise, PromisedHandle, Scope, Threads};
 use std::time::Clock;
 
 /// What the threads of a node left.
@@ -37,21 +37,36 @@ pub(crate) struct ThreadsEnd<S: RoundsTag> {
     pub(crate) faults: u64,
 }
 
-/// What the threads of a node hand each other.
+/// What the threads of a node have beside their seats: one thread each has a part of it.
 #[derive(Drop)]
-pub(crate) struct Links<S: RoundsTag> {
+pub(crate) struct Links<'a, S: RoundsTag> {
     pub(crate) acceptor: Acceptor,
     pub(crate) jobs: Jobs,
+    pub(crate) turns: Turns<'a>,
     pub(crate) requests: Requests,
     pub(crate) rounds_sender: RoundsSender<S>,
     pub(crate) rounds_receiver: RoundsReceiver<S>,
 }
 
-/// The seats that the dialing threads left.
+/// The seats of the threads that dial.
 #[derive(Drop)]
-struct DialingEnd<S: RoundsTag> {
+struct DialingSeats<S: RoundsTag> {
     news: Vec<ReaderSeat<S>>,
     turns: ReaderSeat<S>,
+}
+
+/// The thread that accepts, and that of the pool.
+#[derive(Drop)]
+struct ServingThreads<S: RoundsTag> {
+    accepting: JoinHandle<u64>,
+    pool: PromisedHandle<Pooled<S>, AsMany>,
+}
+
+/// The first thread for news, and the one that dials in turn.
+#[derive(Drop)]
+struct DialingThreads<S: RoundsTag> {
+    news: PromisedHandle<Vec<ReaderSeat<S>>, AsManyIn>,
+    turns: JoinHandle<ReaderSeat<S>>,
 }
 
 /// That threads give as many seats back, in a list with as much room.
@@ -120,35 +135,124 @@ fn dial_to_the_end<'a, S: RoundsTag, H: Wait + Drop, Q: Wait + Net + Clock, O: O
     seat
 }
 
-impl<O: Observer + Sync> Dialer<'_, O> {
-    /// Runs the threads of a node to their end. One accepts, some are workers, some dial, and the calling one makes the own
-    /// writes. `NoMemory` if the thread that accepts, that of the pool, the first for news, or the one that dials in turn can't be
-    /// made. `StoreFailed` if the log failed and the node is to exit then.
-    pub(crate) fn run_threads<
+/// Starts the thread that accepts, and that of the pool, which has a worker for each seat. `NoMemory` if one of them can't be
+/// made; then the node has ended, and neither runs.
+fn start_serving<
+    's,
+    E,
+    S: RoundsTag + Send + Sync,
+    H: Wait + Drop + Send + Sync,
+    Q: Runtime + Net<Listener = TcpListener, Stream = TcpStream>,
+>(
+    scope: &Scope<'s, E>,
+    node: &'s NodeContext<'s, S, H, Q>,
+    acceptor: Acceptor,
+    jobs: Jobs,
+    workers: Vec<ReaderSeat<S>>,
+) -> Result<ServingThreads<S>, Fault>
+    ensures pool { IfOk result (λ threads. threads.pool.promise.0 ≡ vec_len workers) }
+    ensures memory { IfErr result (λ fault. fault ≡ Fault.NoMemory) }
+{
+    let count = workers.len();
+    let Ok(accepting) = scope.spawn(move || acceptor.accept_all(node)) else {
+        return Err(Fault::NoMemory);
+    };
+    let Ok(pool) = scope.spawn_with(AsMany(count), move || serve_arrivals(node, jobs, workers))
+    else {
+        node.end();
+        accepting.join(node.rt);
+        return Err(Fault::NoMemory);
+    };
+    Ok(ServingThreads { accepting, pool })
+}
+
+impl<S: RoundsTag> ServingThreads<S> {
+    /// Waits until both threads end: what the workers left, and how many connections could not be accepted.
+    fn join<Q: Threads>(self, rt: &Q) -> (Pooled<S>, u64)
+        ensures { vec_len result.0.seats ≡ self.pool.promise.0 }
+    {
+        let ServingThreads { accepting, pool } = self;
+        let pooled = pool.join(rt);
+        (pooled, accepting.join(rt))
+    }
+}
+
+impl<S: RoundsTag> DialingThreads<S> {
+    /// Waits until all of them end: their seats.
+    fn join<Q: Threads>(self, rt: &Q) -> DialingSeats<S>
+        ensures { (vec_len result.news ≡ self.news.promise.count) × (vec_capacity result.news ≡ self.news.promise.room) }
+    {
+        let DialingThreads { news, turns } = self;
+        DialingSeats {
+            news: news.join(rt),
+            turns: turns.join(rt),
+        }
+    }
+}
+
+impl<'a, O: Observer + Sync> Dialing<'a, O> {
+    /// Starts the first thread for news, and the one that dials in turn. `NoMemory` if one of them can't be made; then the node
+    /// has ended, and neither runs.
+    fn start_dialing<
+        's,
+        E,
+        S: RoundsTag + Send + Sync,
+        H: Wait + Drop + Send + Sync,
+        Q: Runtime + Net<Listener = TcpListener, Stream = TcpStream>,
+    >(
+        &'s self,
+        scope: &Scope<'s, E>,
+        node: &'s NodeContext<'s, S, H, Q>,
+        turns: Turns<'a>,
+        seats: DialingSeats<S>,
+        rounds_sender: RoundsSender<S>,
+    ) -> Result<DialingThreads<S>, Fault>
+        ensures news { IfOk result (λ threads. (threads.news.promise.count ≡ vec_len seats.news) × (threads.news.promise.room ≡ vec_capacity seats.news)) }
+        ensures memory { IfErr result (λ fault. fault ≡ Fault.NoMemory) }
+    {
+        let DialingSeats { news, turns: seat } = seats;
+        let for_news = AsManyIn {
+            count: news.len(),
+            room: news.capacity(),
+        };
+        let Ok(news) = scope.spawn_with(for_news, move || self.dial_from_all(node, news)) else {
+            node.end();
+            return Err(Fault::NoMemory);
+        };
+        let in_turn = scope.spawn(move || dial_to_the_end(node, self, turns, seat, rounds_sender));
+        let Ok(turns) = in_turn else {
+            node.end();
+            news.join(node.rt);
+            return Err(Fault::NoMemory);
+        };
+        Ok(DialingThreads { news, turns })
+    }
+
+    /// Runs the threads of a node to their end, in a scope of their own. One accepts, some are workers, some dial, and the calling
+    /// one makes the own writes. `NoMemory` if the thread that accepts, that of the pool, the first for news, or the one that dials
+    /// in turn can't be made. `StoreFailed` if the log failed and the node is to exit then.
+    fn run_within<
+        's,
+        E,
         S: RoundsTag + Send + Sync,
         L: WriteLog + Drop,
         H: Wait + Drop + Send + Sync,
         Q: Runtime + Net<Listener = TcpListener, Stream = TcpStream>,
     >(
-        self,
-        node: &NodeContext<S, H, Q>,
+        &'s self,
+        scope: &Scope<'s, E>,
+        node: &'s NodeContext<'s, S, H, Q>,
         writes: OwnWrites<ClosableLog<L>>,
         thread_seats: ThreadSeats<S>,
-        links: Links<S>,
+        links: Links<'a, S>,
     ) -> Result<ThreadsEnd<S>, Fault>
         requires opened { IsOpenedFrom (seen_by (L.seen writes.log.log) writes.log.closed_by) S.opening }
-        requires workers { vec_len thread_seats.workers ≡ S.settings.workers }
         ensures thread_seats { IfOk result (λ finished. vec_len finished.thread_seats.workers ≡ vec_len thread_seats.workers) }
         ensures news { IfOk result (λ finished. (vec_len finished.thread_seats.news ≡ vec_len thread_seats.news)
             × (vec_capacity finished.thread_seats.news ≡ vec_capacity thread_seats.news)) }
         ensures fault { IfErr result (IsEndFault node.now.pace.on_log_fault) }
         ensures failed { writes.has_failed ≡ true → node.now.pace.on_log_fault ≡ OnLogFault.Exit → IsErr result }
     {
-        let Dialer {
-            dialing: shared,
-            turns,
-        } = self;
-        let shared = &shared;
         let ThreadSeats {
             workers,
             news,
@@ -158,76 +262,62 @@ impl<O: Observer + Sync> Dialer<'_, O> {
         let Links {
             acceptor,
             jobs,
+            turns,
             requests,
             rounds_sender,
             rounds_receiver,
         } = links;
-        let count = workers.len();
-        let for_news = AsManyIn {
-            count: news.len(),
-            room: news.capacity(),
+        let Ok(serving) = start_serving(scope, node, acceptor, jobs, workers) else {
+            return Err(Fault::NoMemory);
         };
+        let seats = DialingSeats {
+            news,
+            turns: dialing,
+        };
+        let Ok(dialing) = self.start_dialing(scope, node, turns, seats, rounds_sender) else {
+            serving.join(node.rt);
+            return Err(Fault::NoMemory);
+        };
+        let at_control = node.answer_requests(requests, writes, control, self.observer());
+        let rounds = rounds_receiver.receive(node.rt);
+        let dialed = dialing.join(node.rt);
+        let (pooled, of_accepting) = serving.join(node.rt);
+        threads_end(pooled, dialed, at_control, of_accepting, rounds)
+    }
+
+    /// Does the same in a scope, which lets the threads borrow what they share.
+    pub(crate) fn run_threads<
+        S: RoundsTag + Send + Sync,
+        L: WriteLog + Drop,
+        H: Wait + Drop + Send + Sync,
+        Q: Runtime + Net<Listener = TcpListener, Stream = TcpStream>,
+    >(
+        &self,
+        node: &NodeContext<S, H, Q>,
+        writes: OwnWrites<ClosableLog<L>>,
+        thread_seats: ThreadSeats<S>,
+        links: Links<'a, S>,
+    ) -> Result<ThreadsEnd<S>, Fault>
+        requires opened { IsOpenedFrom (seen_by (L.seen writes.log.log) writes.log.closed_by) S.opening }
+        requires workers { vec_len thread_seats.workers ≡ S.settings.workers }
+        ensures thread_seats { IfOk result (λ finished. vec_len finished.thread_seats.workers ≡ vec_len thread_seats.workers) }
+        ensures news { IfOk result (λ finished. (vec_len finished.thread_seats.news ≡ vec_len thread_seats.news)
+            × (vec_capacity finished.thread_seats.news ≡ vec_capacity thread_seats.news)) }
+        ensures fault { IfErr result (IsEndFault node.now.pace.on_log_fault) }
+        ensures failed { writes.has_failed ≡ true → node.now.pace.on_log_fault ≡ OnLogFault.Exit → IsErr result }
+    {
         thread::scope(
             thread::scope_env(),
             node.rt,
             move |scope| -> Result<ThreadsEnd<S>, Fault>
-                requires { IsSend S.row × IsSync S.row × IsSend H.row × IsSync H.row × IsSend Q.row × IsSync Q.row × IsSync O.row × (vec_len workers ≡ count)
-                    × (vec_len news ≡ for_news.count) × (vec_capacity news ≡ for_news.room)
+                requires { IsSend S.row × IsSync S.row × IsSend H.row × IsSync H.row × IsSend Q.row × IsSync Q.row × IsSync O.row
                     × IsOpenedFrom (seen_by (L.seen writes.log.log) writes.log.closed_by) S.opening }
-                ensures thread_seats { IfOk result (λ finished. vec_len finished.thread_seats.workers ≡ count) }
-                ensures news { IfOk result (λ finished. (vec_len finished.thread_seats.news ≡ for_news.count)
-                    × (vec_capacity finished.thread_seats.news ≡ for_news.room)) }
+                ensures thread_seats { IfOk result (λ finished. vec_len finished.thread_seats.workers ≡ vec_len thread_seats.workers) }
+                ensures news { IfOk result (λ finished. (vec_len finished.thread_seats.news ≡ vec_len thread_seats.news)
+                    × (vec_capacity finished.thread_seats.news ≡ vec_capacity thread_seats.news)) }
                 ensures fault { IfErr result (IsEndFault node.entry.now.pace.on_log_fault) }
                 ensures failed { writes.has_failed ≡ true → node.entry.now.pace.on_log_fault ≡ OnLogFault.Exit → IsErr result }
-            {
-                let Ok(accepting_thread) = scope.spawn(move || acceptor.accept_all(node)) else {
-                    return Err(Fault::NoMemory);
-                };
-                let Ok(pool_thread) = scope.spawn_with(
-                    AsMany(count),
-                    move || serve_arrivals(node, jobs, workers),
-                ) else {
-                    node.end();
-                    accepting_thread.join(node.rt);
-                    return Err(Fault::NoMemory);
-                };
-                let Ok(news_thread) = scope.spawn_with(
-                    for_news,
-                    move || shared.dial_from_all(node, news),
-                ) else {
-                    node.end();
-                    accepting_thread.join(node.rt);
-                    pool_thread.join(node.rt);
-                    return Err(Fault::NoMemory);
-                };
-                let Ok(dialing_thread) = scope.spawn(move || dial_to_the_end(
-                    node,
-                    shared,
-                    turns,
-                    dialing,
-                    rounds_sender,
-                )) else {
-                    node.end();
-                    accepting_thread.join(node.rt);
-                    pool_thread.join(node.rt);
-                    news_thread.join(node.rt);
-                    return Err(Fault::NoMemory);
-                };
-                let at_control = node.answer_requests(
-                    requests,
-                    writes,
-                    control,
-                    shared.observer(),
-                );
-                let rounds = rounds_receiver.receive(node.rt);
-                let dialed = DialingEnd {
-                    news: news_thread.join(node.rt),
-                    turns: dialing_thread.join(node.rt),
-                };
-                let pooled = pool_thread.join(node.rt);
-                let of_accepting = accepting_thread.join(node.rt);
-                threads_end(pooled, dialed, at_control, of_accepting, rounds)
-            },
+            { self.run_within(scope, node, writes, thread_seats, links) },
         )
     }
 }
@@ -236,7 +326,7 @@ impl<O: Observer + Sync> Dialer<'_, O> {
 /// the rounds.
 fn threads_end<S: RoundsTag>(
     pooled: Pooled<S>,
-    dialed: DialingEnd<S>,
+    dialed: DialingSeats<S>,
     at_control: ControlEnd<S>,
     of_accepting: u64,
     rounds: Result<Rounds<S>, Fault>,
@@ -264,7 +354,7 @@ fn threads_end<S: RoundsTag>(
         .saturating_add(of_workers)
         .saturating_add(of_accepting)
         .saturating_add(rounds.faults);
-    let DialingEnd {
+    let DialingSeats {
         news,
         turns: dialing,
     } = dialed;

@@ -1,15 +1,16 @@
 //! A running node whose callers and peers are silent or slow: nobody waits for them.
 
 use crate::peers::{hears_only, next_of, put_is_done, put_is_done_as, reach, talk};
-use crate::running::{Host, pace, paths_of, run_a};
+use crate::running::{pace, paths_of, run_a};
 use crate::waking::silent_b;
 use crate::{got, same};
 use sb_run::{Pace, Paths, Ran};
 use sb_session::Ended;
 use sb_testing::wire::{ASK, DONE, HELLO_A, HELLO_B, PUT};
+use sb_types::Fault;
 use std::alloc::Global;
 use std::io::{Read, Write};
-use std::net::{Net, TcpListener, TcpStream};
+use std::net::Net;
 use std::os::unix::net::{UnixListener, UnixStream};
 use std::process::Abort;
 use std::time::{Clock, Duration, Instant};
@@ -156,29 +157,23 @@ fn patient() -> Pace {
     patient
 }
 
-/// Plays at a node whose only round lasts until the play is over, and then brings a delta. Tests that it went as it should within three seconds.
-fn play_beside<R: Host + Net<Listener = TcpListener, Stream = TcpStream>>(
-    rt: &R,
+/// Plays at a node whose only round lasts until the play is over, and then brings a delta. How the play went, and how long it took.
+fn play_beside(
+    rt: &(impl Net + Clock + Abort),
     alloc: Global,
+    listener: &UnixListener,
     paths: &Paths,
-    pace: Pace,
-    kind: Play,
-) -> Ran {
-    let [peer] = paths.peers else {
-        panic!(rt; "not one peer");
-    };
-    let listener = got(rt, UnixListener::bind(rt, *peer));
-    let (ran, (went, time)) = thread::join(
-        rt,
-        || run_a(rt, alloc, paths, pace),
-        || {
-            let dialed = next_of(rt, &listener);
-            let played = run_play(rt, alloc, paths, kind);
-            talk(rt, alloc, &mut silent_b(rt, alloc), &dialed, None);
-            played
-        },
-    );
-    got(rt, fs::remove_file(rt, *peer));
+    play: Play,
+) -> (bool, Duration) {
+    let dialed = next_of(rt, listener);
+    let played = run_play(rt, alloc, paths, play);
+    talk(rt, alloc, &mut silent_b(rt, alloc), &dialed, None);
+    played
+}
+
+/// What a node counted. Tests that the play beside it went as it should within three seconds.
+fn settled(rt: &impl Abort, ran: Result<Ran, Fault>, played: (bool, Duration)) -> Ran {
+    let (went, time) = played;
     same(rt, &(went, time < Duration::from_secs(3)), &(true, true));
     got(rt, ran)
 }
@@ -186,37 +181,81 @@ fn play_beside<R: Host + Net<Listener = TcpListener, Stream = TcpStream>>(
 #[test]
 fn connections_that_say_nothing_hold_up_nobody(rt: HostRuntime) {
     let paths = paths_of("mute.sock", "mute.control", &["mute.b"]);
-    let ran = play_beside(&rt, rt.alloc(), &paths, patient(), Play::Silence);
+    let alloc = rt.alloc();
+    let listener = got(&rt, UnixListener::bind(&rt, "mute.b"));
+    let pace = patient();
+    let (ran, played) = thread::join(
+        &rt,
+        || run_a(&rt, alloc, &paths, pace),
+        || play_beside(&rt, alloc, &listener, &paths, Play::Silence),
+    );
+    got(&rt, fs::remove_file(&rt, "mute.b"));
+    let ran = settled(&rt, ran, played);
     same(&rt, &ran.events, &3);
 }
 
 #[test]
 fn a_request_that_is_whole_is_served_first(rt: HostRuntime) {
     let paths = paths_of("half.sock", "half.control", &["half.b"]);
-    let ran = play_beside(&rt, rt.alloc(), &paths, patient(), Play::SlowCaller);
+    let alloc = rt.alloc();
+    let listener = got(&rt, UnixListener::bind(&rt, "half.b"));
+    let pace = patient();
+    let (ran, played) = thread::join(
+        &rt,
+        || run_a(&rt, alloc, &paths, pace),
+        || play_beside(&rt, alloc, &listener, &paths, Play::SlowCaller),
+    );
+    got(&rt, fs::remove_file(&rt, "half.b"));
+    let ran = settled(&rt, ran, played);
     same(&rt, &(ran.faults, ran.events), &(0, 3));
 }
 
 #[test]
 fn callers_are_answered_while_all_workers_wait(rt: HostRuntime) {
     let paths = paths_of("busy.sock", "busy.control", &["busy.b"]);
-    let ran = play_beside(&rt, rt.alloc(), &paths, patient(), Play::BusyWorker);
+    let alloc = rt.alloc();
+    let listener = got(&rt, UnixListener::bind(&rt, "busy.b"));
+    let pace = patient();
+    let (ran, played) = thread::join(
+        &rt,
+        || run_a(&rt, alloc, &paths, pace),
+        || play_beside(&rt, alloc, &listener, &paths, Play::BusyWorker),
+    );
+    got(&rt, fs::remove_file(&rt, "busy.b"));
+    let ran = settled(&rt, ran, played);
     same(&rt, &ran.events, &2);
 }
 
 #[test]
 fn a_hello_that_is_not_whole_holds_no_worker(rt: HostRuntime) {
     let paths = paths_of("part.sock", "part.control", &["part.b"]);
-    let ran = play_beside(&rt, rt.alloc(), &paths, patient(), Play::SlowHello);
+    let alloc = rt.alloc();
+    let listener = got(&rt, UnixListener::bind(&rt, "part.b"));
+    let pace = patient();
+    let (ran, played) = thread::join(
+        &rt,
+        || run_a(&rt, alloc, &paths, pace),
+        || play_beside(&rt, alloc, &listener, &paths, Play::SlowHello),
+    );
+    got(&rt, fs::remove_file(&rt, "part.b"));
+    let ran = settled(&rt, ran, played);
     same(&rt, &ran.events, &3);
 }
 
 #[test]
 fn a_session_ends_after_its_time(rt: HostRuntime) {
     let paths = paths_of("slow.sock", "slow.control", &["slow.b"]);
+    let alloc = rt.alloc();
+    let listener = got(&rt, UnixListener::bind(&rt, "slow.b"));
     let mut pace = patient();
     pace.session = 300;
-    let ran = play_beside(&rt, rt.alloc(), &paths, pace, Play::SlowPeer);
+    let (ran, played) = thread::join(
+        &rt,
+        || run_a(&rt, alloc, &paths, pace),
+        || play_beside(&rt, alloc, &listener, &paths, Play::SlowPeer),
+    );
+    got(&rt, fs::remove_file(&rt, "slow.b"));
+    let ran = settled(&rt, ran, played);
     same(&rt, &(ran.faults, ran.events), &(1, 2));
 }
 

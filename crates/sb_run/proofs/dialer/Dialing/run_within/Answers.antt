@@ -1,7 +1,7 @@
 use Rattle.std.specs.Prelude.{IsErr}
-use Rattle.std.proofs.Common.{rules, sym, subst}
+use Rattle.std.proofs.Common.{rules, sym, subst, refl}
 use Rattle.sb_run.proofs.Leaving.{end_fault}
-use Rattle.sb_run.proofs.dialer.fn.Dialer.run_threads.scope.Goals as goal
+use Rattle.sb_run.proofs.dialer.Dialing.run_within.Goals as goal
 
 pub returns : goal.returns
 returns g c =
@@ -10,5 +10,5 @@ returns g c =
       thread_seats = search rules;
       news = search rules;
       fault = end_fault _ at_control.result.has_left c.receive-rounds.result c.threads_end.result at_control.ensures.exits c.receive-rounds.ensures c.threads_end.ensures.left c.threads_end.ensures.fault;
-      failed = λ failed exit. subst (λ result. IsErr result) (sym (c.threads_end.ensures.left (at_control.ensures.failed failed exit))) tt;
+      failed = λ failed exit. subst (λ result. IsErr result) (sym (c.threads_end.ensures.left (at_control.ensures.failed failed exit))) refl;
     }
