@@ -40,18 +40,27 @@ known_after true known (Some since) = Some since
 known_after true known None = known
 known_after false known since = known
 
+-- a round is under way, if there is news since one
+abbrev pub is_under_way : Option Backlog → Bool
+is_under_way (Some since) = true
+is_under_way None = false
+
 -- what was lacking was told
 abbrev pub with_taken : PeerBacklog → PeerBacklog
-with_taken backlog = record { known = emptied backlog.known; since_round = backlog.since_round }
+with_taken backlog = record { known = emptied backlog.known; since_round = backlog.since_round; is_awaited = backlog.is_awaited }
+
+-- news waits until the round ends, if one is under way
+abbrev pub with_wait : PeerBacklog → PeerBacklog
+with_wait backlog = record { known = backlog.known; since_round = backlog.since_round; is_awaited = is_under_way backlog.since_round }
 
 abbrev pub with_round : PeerBacklog → PeerBacklog
-with_round backlog = record { known = backlog.known; since_round = begun backlog.since_round }
+with_round backlog = record { known = backlog.known; since_round = begun backlog.since_round; is_awaited = backlog.is_awaited }
 
 abbrev pub after_round : Bool → PeerBacklog → PeerBacklog
-after_round is_done backlog = record { known = known_after is_done backlog.known backlog.since_round; since_round = None }
+after_round is_done backlog = record { known = known_after is_done backlog.known backlog.since_round; since_round = None; is_awaited = false }
 
 abbrev pub forgotten : PeerBacklog → PeerBacklog
-forgotten backlog = record { known = None; since_round = backlog.since_round }
+forgotten backlog = record { known = None; since_round = backlog.since_round; is_awaited = backlog.is_awaited }
 
 -- what may be lacking of this peer changes so, and of no other
 abbrev pub Changes : ℕ → (PeerBacklog → PeerBacklog) → List PeerBacklog → List PeerBacklog → Type 0
@@ -63,7 +72,7 @@ Changes index change old new =
 abbrev pub GivesBack : ℕ → Backlog → List PeerBacklog → List PeerBacklog → Type 0
 GivesBack index taken old new =
     IfSome (slice_get old index) (λ before. IfSome (slice_get new index) (λ after.
-    IfSome after.known (λ all. IfSome before.known (λ since. all ≡ joined taken since)) × (after.since_round ≡ before.since_round)))
+    IfSome after.known (λ all. IfSome before.known (λ since. all ≡ joined taken since)) × (after.since_round ≡ before.since_round) × (after.is_awaited ≡ before.is_awaited)))
     × ((other : ℕ) → other ≢ index → slice_get new other ≡ slice_get old other)
 
 -- after some of what happened the node answers some digest by these blocks

@@ -36,6 +36,19 @@ pub(crate) struct PeerBacklog {
     known: Option<Backlog>,
     /// What is news since a round with it began. None if no round with it is under way.
     since_round: Option<Backlog>,
+    /// News for it waits until the round with it ends.
+    is_awaited: bool,
+}
+
+/// What a peer may lack, if that is known.
+#[derive(Drop)]
+pub(crate) enum Lack {
+    /// This, and nothing else.
+    Known(Backlog),
+    /// Nobody knows it before the round ends that is under way with the peer.
+    InRound,
+    /// Nobody knows it before another round.
+    Unknown,
 }
 
 impl PeerBacklog {
@@ -43,6 +56,7 @@ impl PeerBacklog {
     fn add(&mut self, news: &Backlog)
         ensures known { spec.IsJoined self.old.known news.now self.new.known }
         ensures since { spec.IsJoined self.old.since_round news.now self.new.since_round }
+        ensures awaited { self.new.is_awaited ≡ self.old.is_awaited }
     {
         self.known = joined_if_known(self.known.take(), news);
         self.since_round = joined_if_known(self.since_round.take(), news);
@@ -66,6 +80,7 @@ impl Backlogs {
             all.push(PeerBacklog {
                 known: None,
                 since_round: None,
+                is_awaited: false,
             })?;
         }
         Ok(Backlogs { alloc, all })
@@ -88,6 +103,19 @@ impl Backlogs {
         let known = backlog.known.take()?;
         backlog.known = Some(Backlog::new(self.alloc));
         Some(known)
+    }
+
+    /// Whether a round with the peer at this index is under way. If so, its end shows that news for the peer waited for it.
+    pub(crate) fn await_round(&mut self, index: usize) -> bool
+        ensures under_way { IfSome (slice_get self.old.all.items index) (λ before. result ≡ spec.is_under_way before.since_round) }
+        ensures changes { spec.Changes index spec.with_wait self.old.all.items self.new.all.items }
+    {
+        let Some(backlog) = self.all.get_mut(index) else {
+            return false;
+        };
+        let is_under_way = backlog.since_round.is_some();
+        backlog.is_awaited = is_under_way;
+        is_under_way
     }
 
     /// Gives back what was taken, since the peer at this index may still lack it.
@@ -114,16 +142,22 @@ impl Backlogs {
     }
 
     /// Notes that a round with the peer at this index has ended, and whether all its exchanges were made. Then the peer may lack
-    /// only what is news since it began. If two rounds with it are under way, only the first that ends does this.
-    pub(crate) fn end_round(&mut self, index: usize, is_done: bool)
-        ensures { spec.Changes index (spec.after_round is_done) self.old.all.items self.new.all.items }
+    /// only what is news since it began. If two rounds with it are under way, only the first that ends does this. Returns whether
+    /// news for the peer waited for it.
+    pub(crate) fn end_round(&mut self, index: usize, is_done: bool) -> bool
+        ensures awaited { IfSome (slice_get self.old.all.items index) (λ before. result ≡ before.is_awaited) }
+        ensures changes { spec.Changes index (spec.after_round is_done) self.old.all.items self.new.all.items }
     {
-        if let Some(backlog) = self.all.get_mut(index) {
-            let since = backlog.since_round.take();
-            if is_done && since.is_some() {
-                backlog.known = since;
-            }
+        let Some(backlog) = self.all.get_mut(index) else {
+            return false;
+        };
+        let since = backlog.since_round.take();
+        if is_done && since.is_some() {
+            backlog.known = since;
         }
+        let was_awaited = backlog.is_awaited;
+        backlog.is_awaited = false;
+        was_awaited
     }
 
     /// Notes that nobody knows what the peer at this index lacks.

@@ -1,7 +1,7 @@
 //! What the threads that dial the peers of a node share: they make its rounds, in turn and for news.
 ghost use Rattle.std.specs.Prelude.{◌≡◌, vec_len, vec_capacity, IfErr};
 
-use crate::backlogs::Backlogs;
+use crate::backlogs::{Backlogs, Lack};
 use crate::bell::Parkers;
 use crate::context::NodeContext;
 use crate::dialing::{OwnDigests, dial_peer, digests_of_all};
@@ -44,7 +44,7 @@ pub(crate) struct Dialing<'a, O> {
 /// What is done for a peer for which there is news.
 #[derive(Drop)]
 enum Plan<S: RoundsTag> {
-    /// It lacks nothing.
+    /// It lacks nothing, or what it lacks is due after the round that is under way with it.
     Nothing,
     /// It is pushed what it may lack: the backlog to give back if that fails, and the news to push.
     Push(Backlog, News<S>),
@@ -157,10 +157,42 @@ impl<'a, O: Observer> Dialing<'a, O> {
         &self,
         node: &NodeContext<S, H, Q>,
         index: usize,
-    ) -> Option<Backlog> {
+    ) -> Lack {
         let mut backlogs = self.backlogs.lock(node.rt);
         backlogs.add(&node.directory.take_news(node.rt));
-        backlogs.take(index)
+        match backlogs.take(index) {
+            Some(backlog) => Lack::Known(backlog),
+            None => {
+                if backlogs.await_round(index) {
+                    Lack::InRound
+                } else {
+                    Lack::Unknown
+                }
+            }
+        }
+    }
+
+    /// Takes down how a round with the peer at this index ended. News that waited for that is due to the peer now.
+    fn end_round<S: RoundsTag, H: Wait + Drop, Q: Wait>(
+        &self,
+        node: &NodeContext<S, H, Q>,
+        index: usize,
+        cause: Cause,
+        end: SessionEnd,
+    ) {
+        let was_awaited = self
+            .backlogs
+            .lock(node.rt)
+            .end_round(index, end.state.is_answer());
+        let takes_news = self
+            .schedule
+            .lock(node.rt)
+            .end_round(index, cause, end, self.observer);
+        if !takes_news {
+            self.backlogs.lock(node.rt).forget(index);
+        } else if was_awaited {
+            self.schedule.lock(node.rt).expect(index);
+        }
     }
 
     /// Makes one round with the peer at this index, which has begun.
@@ -177,17 +209,7 @@ impl<'a, O: Observer> Dialing<'a, O> {
         let path = self.schedule.lock(node.rt).path(index);
         let start = SessionStart::now(node.rt, node.pace.dial_idle);
         let (seat, state) = dial_peer(node, path, seat, digests.count);
-        let end = start.ended(node.rt, state);
-        self.backlogs
-            .lock(node.rt)
-            .end_round(index, state.is_answer());
-        let takes_news = self
-            .schedule
-            .lock(node.rt)
-            .end_round(index, cause, end, self.observer);
-        if !takes_news {
-            self.backlogs.lock(node.rt).forget(index);
-        }
+        self.end_round(node, index, cause, start.ended(node.rt, state));
         self.look_at_log(node);
         node.bell.wake();
         seat
@@ -200,8 +222,10 @@ impl<'a, O: Observer> Dialing<'a, O> {
         seat: &mut ReaderSeat<S>,
         index: usize,
     ) -> Plan<S> {
-        let Some(backlog) = self.take_backlog(node, index) else {
-            return Plan::Round;
+        let backlog = match self.take_backlog(node, index) {
+            Lack::Known(backlog) => backlog,
+            Lack::InRound => return Plan::Nothing,
+            Lack::Unknown => return Plan::Round,
         };
         let owners = backlog.owners().count();
         if owners == 0 {

@@ -169,6 +169,11 @@ impl<'a> Schedule<'a> {
         true
     }
 
+    /// Notes that there is news for the peer at this index.
+    pub(crate) fn expect(&mut self, index: usize) {
+        self.deliveries.expect(index);
+    }
+
     /// Ends a session for news with a peer that was not dialed.
     pub(crate) fn leave_out(&mut self, index: usize) {
         self.deliveries.leave_out(index);

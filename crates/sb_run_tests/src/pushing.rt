@@ -191,6 +191,41 @@ fn a_peer_that_accepts_late_has_the_news(rt: HostRuntime) {
     same(&rt, &(ran.rounds, ran.faults), &(1, 0));
 }
 
+/// Is dialed in turn as b, and lets that wait. Meanwhile the owner writes, and nobody else dials. Returns that, how the round
+/// ended, and the kind of the second message of the session after it.
+fn let_the_first_round_wait<R: Net + Abort + Clock>(
+    rt: &R,
+    alloc: Global,
+    listener: &UnixListener,
+    control: &str,
+) -> (bool, Ended, u8) {
+    let mut of_b = silent_b(rt, alloc);
+    let dialed = next_of(rt, listener);
+    holds(rt, "the write is done", put_is_done(rt, control));
+    let is_alone = is_left_alone(rt, listener);
+    let ended = talk(rt, alloc, &mut of_b, &dialed, None);
+    let kind = second_kind(rt, listener);
+    serve_next(rt, alloc, listener, &mut of_b, b"a");
+    (is_alone, ended, kind)
+}
+
+/// Only that round shows what the peer lacks, so there is no second beside it, and a push after it.
+#[test]
+fn news_during_the_first_round_waits_for_its_end(rt: HostRuntime) {
+    let paths = paths_of("first.sock", "first.control", &["first.b"]);
+    let alloc = rt.alloc();
+    let listener = got(&rt, UnixListener::bind(&rt, "first.b"));
+    let pusher = new_pusher(&rt);
+    let (ran, seen) = thread::join(
+        &rt,
+        || run_observed(&rt, alloc, &paths, pace_of(2, 3_000), &pusher),
+        || let_the_first_round_wait(&rt, alloc, &listener, "first.control"),
+    );
+    got(&rt, fs::remove_file(&rt, "first.b"));
+    same(&rt, &seen, &(true, Ended::Bye(1), 3));
+    same(&rt, &got(&rt, ran).rounds, &2);
+}
+
 /// Hears four pushes as b, and ends the second alone. Returns how far b holds a after the second, and after the next turn.
 /// Between them it returns whether nobody dials after the last write.
 fn leave_open<R: Net + Abort + Clock>(
