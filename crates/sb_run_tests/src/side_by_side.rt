@@ -146,6 +146,7 @@ fn let_news_wait<R: Net + Clock + Abort>(
     holds(rt, "nobody else dials", listener.accept().is_err());
     got(rt, listener.set_nonblocking(false));
     let ended = talk(rt, alloc, &mut of_b, &dialed, None);
+    drop(dialed);
     let held = of_b.upto(&name(rt, b"a"));
     [
         in_turn,
