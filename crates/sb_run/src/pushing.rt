@@ -56,7 +56,7 @@ impl<S: RoundsTag> News<S> {
 
     /// How many bytes its frame has.
     pub(crate) fn frame_length(&self) -> u64 {
-        HEADER_LENGTH + self.delta.encoded_length()
+        self.delta.encoded_length().saturating_add(HEADER_LENGTH)
     }
 }
 
