@@ -111,7 +111,7 @@ fn start_refusal<L: WriteLog>(settings: &Settings, log: &L) -> Option<Fault>
 /// sessions were not made to their end is left out. The node pushes to each what this peer may lack: its Hello, one delta
 /// and a Bye. It makes a round instead in these cases:
 ///
-/// - No round with the peer was made to its end yet.
+/// - No round with the peer was made to its end yet. If one is under way, the news waits for that.
 /// - An owner was purged above what the peer may have.
 /// - The delta is longer than 1,024 bytes, and than the node's own digests.
 /// - Its frame has no room for one more entry within the budget.
