@@ -347,9 +347,9 @@ fn news_of_a_purged_owner_makes_a_round(rt: HostRuntime) {
     let listener = got(&rt, UnixListener::bind(&rt, "purged.b"));
     let pusher = new_pusher(&rt);
     let mut purged = delta_of_c(1);
-    for at in [18, 34, 46] {
-        purged[at] = 2;
-    }
+    purged[18] = 2;
+    purged[34] = 2;
+    purged[46] = 2;
     let (ran, (kind, is_alone)) = thread::join(
         &rt,
         || run_observed(&rt, alloc, &paths, pace_of(2, 3_000), &pusher),
