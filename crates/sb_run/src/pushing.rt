@@ -36,7 +36,7 @@ pub(crate) struct News<S: RoundsTag> {
     delta: Delta,
     of: PhantomData<S>,
     /// It answers some digest.
-    ghost answered: { spec.IsAnswered S.opening S.settings delta },
+    ghost answered: { ∥ spec.IsAnswered S.opening S.settings delta ∥₁ },
 }
 
 /// Whether a delta of so many bytes is pushed: it is short, or no longer than the node's own digests. Its frame also has room
