@@ -345,8 +345,8 @@ const PAUSE: Part = Part {
     help: "How many milliseconds the node waits after each round in turn",
 };
 
-/// Each of these dials is a round. See [News](#news).
-/// Greater: News is everywhere sooner, in more rounds.
+/// To each it pushes what this peer may lack. See [News](#news).
+/// Greater: News is everywhere sooner, in more pushes.
 /// Smaller: With 0, news waits for the rounds in turn.
 const FANOUT: Part = Part {
     name: "fanout",

@@ -56,6 +56,36 @@ const FAULTS: Metric = Metric {
     help: "Rounds that had a fault.",
 };
 
+const PUSHES: Metric = Metric {
+    name: "attrdir_pushes_total",
+    kind: "counter",
+    help: "Pushes of news that it made to peers. They are not rounds.",
+};
+
+const PUSH_FAULTS: Metric = Metric {
+    name: "attrdir_push_faults_total",
+    kind: "counter",
+    help: "Pushes that had a fault.",
+};
+
+const PUSHED_BYTES: Metric = Metric {
+    name: "attrdir_pushed_bytes_total",
+    kind: "counter",
+    help: "Bytes of news that peers took from its pushes.",
+};
+
+const GAPS: Metric = Metric {
+    name: "attrdir_gaps_total",
+    kind: "counter",
+    help: "Deltas of others with writes after ones that it lacks.",
+};
+
+const HASTENED_ROUNDS: Metric = Metric {
+    name: "attrdir_hastened_rounds_total",
+    kind: "counter",
+    help: "Rounds in turn that it made before their time because of such a delta.",
+};
+
 const SESSIONS: Metric = Metric {
     name: "attrdir_sessions_total",
     kind: "counter",
@@ -325,12 +355,23 @@ impl Metrics<'_, '_> {
         writeln!(f, "{name}{{node=\"{node}\",cause=\"{cause}\"}} 1")
     }
 
+    /// What the node pushed to its peers, and what came of what others pushed.
+    fn write_pushes<W: fmt::Write>(&self, f: &mut fmt::Formatter<W>) -> fmt::Result {
+        let pushes = &self.status.pushes;
+        self.write_one(f, &PUSHES, pushes.made)?;
+        self.write_one(f, &PUSH_FAULTS, pushes.faults)?;
+        self.write_one(f, &PUSHED_BYTES, pushes.bytes)?;
+        self.write_one(f, &GAPS, pushes.gaps)?;
+        self.write_one(f, &HASTENED_ROUNDS, pushes.hastened_rounds)
+    }
+
     /// What the node has done and suffered since it started, and whether it takes writes.
     fn write_course<W: fmt::Write>(&self, f: &mut fmt::Formatter<W>) -> fmt::Result {
         let (status, troubles) = (self.status, &self.status.troubles);
         self.write_one(f, &START_TIME, self.started)?;
         self.write_one(f, &ROUNDS, status.rounds)?;
         self.write_one(f, &FAULTS, status.faults)?;
+        self.write_pushes(f)?;
         self.write_one(f, &SESSIONS, status.sessions)?;
         self.write_one(f, &SESSION_FAULTS, troubles.session_faults)?;
         self.write_one(f, &OTHER_VERSIONS, troubles.other_versions)?;

@@ -18,6 +18,10 @@ begun delivery = record { is_due = false; is_open = true; is_slow = delivery.is_
 abbrev pub ended : Bool → Delivery → Delivery
 ended slow delivery = record { is_due = delivery.is_due; is_open = false; is_slow = slow }
 
+-- the peer was not dialed
+abbrev pub left_out : Delivery → Delivery
+left_out delivery = record { is_due = delivery.is_due; is_open = false; is_slow = delivery.is_slow }
+
 -- a round in turn with the peer is over
 abbrev pub paced : Bool → Delivery → Delivery
 paced slow delivery = record { is_due = delivery.is_due; is_open = delivery.is_open; is_slow = slow }

@@ -9,6 +9,7 @@ pub mod Arriving
 pub mod Running
 pub mod Turns
 pub mod Deliveries
+pub mod News
 pub mod Together
 pub mod Closing
 pub mod LogCauses

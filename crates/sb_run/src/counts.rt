@@ -2,7 +2,8 @@
 
 use crate::busy::BusyWorkers;
 use crate::log_cause::LogCause;
-use crate::status::Troubles;
+use crate::peer_state::PeerState;
+use crate::status::{PushCounts, Troubles};
 use sb_session::Ended;
 use sb_types::Fault;
 use std::sync::atomic::{AtomicU64, Ordering};
@@ -26,6 +27,14 @@ pub(crate) struct Counts {
     turned_away: AtomicU64,
     /// How many writes were refused because there are too many keys.
     full_writes: AtomicU64,
+    /// How many pushes the node made, how many of them had a fault, and how many bytes the deltas have that peers took.
+    pushes: AtomicU64,
+    push_faults: AtomicU64,
+    pushed_bytes: AtomicU64,
+    /// How many deltas of others had writes after ones that are missing.
+    gaps: AtomicU64,
+    /// How many rounds in turn were made before their time because of such a delta.
+    hastened_rounds: AtomicU64,
     busy: BusyWorkers,
 }
 
@@ -41,6 +50,11 @@ impl Counts {
             other_versions: AtomicU64::new(0),
             turned_away: AtomicU64::new(0),
             full_writes: AtomicU64::new(0),
+            pushes: AtomicU64::new(0),
+            push_faults: AtomicU64::new(0),
+            pushed_bytes: AtomicU64::new(0),
+            gaps: AtomicU64::new(0),
+            hastened_rounds: AtomicU64::new(0),
             busy: BusyWorkers::new(workers),
         }
     }
@@ -101,6 +115,43 @@ impl Counts {
     /// A write was refused because there are too many keys.
     pub(crate) fn add_full_write(&self) {
         self.full_writes.fetch_add(1, Ordering::SeqCst);
+    }
+
+    /// A push has ended by which the peer is so; its delta has so many bytes.
+    pub(crate) fn add_push(&self, state: &PeerState, bytes: u64) {
+        self.pushes.fetch_add(1, Ordering::SeqCst);
+        if state.has_fault() {
+            self.push_faults.fetch_add(1, Ordering::SeqCst);
+        }
+        if state.is_answer() {
+            self.pushed_bytes.fetch_add(bytes, Ordering::SeqCst);
+        }
+    }
+
+    /// How many pushes had a fault.
+    pub(crate) fn push_faults(&self) -> u64 {
+        self.push_faults.load(Ordering::SeqCst)
+    }
+
+    /// A delta of another had writes after ones that are missing.
+    pub(crate) fn add_gap(&self) {
+        self.gaps.fetch_add(1, Ordering::SeqCst);
+    }
+
+    /// A round in turn is made before its time because of such a delta.
+    pub(crate) fn add_hastened_round(&self) {
+        self.hastened_rounds.fetch_add(1, Ordering::SeqCst);
+    }
+
+    /// What the node pushed, and what came of pushes to it.
+    pub(crate) fn push_counts(&self) -> PushCounts {
+        PushCounts {
+            made: self.pushes.load(Ordering::SeqCst),
+            faults: self.push_faults(),
+            bytes: self.pushed_bytes.load(Ordering::SeqCst),
+            gaps: self.gaps.load(Ordering::SeqCst),
+            hastened_rounds: self.hastened_rounds.load(Ordering::SeqCst),
+        }
     }
 
     /// How many workers are busy.

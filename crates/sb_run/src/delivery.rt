@@ -144,6 +144,16 @@ impl Deliveries {
         }
     }
 
+    /// Ends a session for news with the peer at this index, which was not dialed.
+    pub(crate) fn leave_out(&mut self, index: usize)
+        ensures most { self.new.most ≡ self.old.most }
+        ensures changes { spec.Changes index spec.left_out self.old.all.items self.new.all.items }
+    {
+        if let Some(left) = self.all.get_mut(index) {
+            left.is_open = false;
+        }
+    }
+
     /// Notes whether a round in turn with the peer at this index took long.
     pub(crate) fn note_pace(&mut self, index: usize, is_slow: bool)
         ensures most { self.new.most ≡ self.old.most }

@@ -22,25 +22,39 @@ use std::os::unix::net::UnixStream;
 use std::sync::Wait;
 use std::sync::ledger::{Blank, Ledger};
 
-/// How many digests it takes to cover all owners that the node holds, at least 1; none if memory runs out.
+/// The digests that cover all owners that the node holds.
+#[derive(Clone, Copy)]
+pub(crate) struct OwnDigests {
+    /// How many they are, at least 1.
+    pub(crate) count: u64,
+    /// How many bytes their payloads have.
+    pub(crate) length: u64,
+}
+
+/// The digests that cover all owners that the node holds; none if memory runs out.
 pub(crate) fn digests_of_all<S: RoundsTag, H: Wait + Drop, Q: Wait>(
     node: &NodeContext<S, H, Q>,
     seat: &mut ReaderSeat<S>,
-) -> Option<u64>
+) -> Option<OwnDigests>
     ensures { IsStill seat.old seat.new }
 {
     let mut from = None;
+    let mut length: u64 = 0;
     let most = OWNERS_MOST as u64;
     for count in 1..most {
         let Ok(digest) = node.directory.digest(node.rt, seat, from, false) else {
             return None;
         };
+        length = length.saturating_add(digest.encoded_length());
         from = digest.next_from();
         if from.is_none() {
-            return Some(count);
+            return Some(OwnDigests { count, length });
         }
     }
-    Some(most)
+    Some(OwnDigests {
+        count: most,
+        length,
+    })
 }
 
 impl<S: RoundsTag, H: Wait + Drop, Q: Wait> NodeContext<'_, S, H, Q> {
@@ -90,7 +104,7 @@ fn dial_stream<S: RoundsTag, H: Wait + Drop, Q: Wait, K: Ledger>(
 }
 
 /// A connection to the peer at a path, with the node's `dial_idle` as its limit.
-fn reach<S: RoundsTag, H: Wait + Drop, Q: Net>(
+pub(crate) fn reach<S: RoundsTag, H: Wait + Drop, Q: Net>(
     node: &NodeContext<S, H, Q>,
     path: &str,
 ) -> io::Result<UnixStream> {

@@ -47,6 +47,11 @@
 //!   alone. The tests of `sb_run` and `tools/check-node` refuse it.
 //! - No burst is dialed, or its peers are dialed one after another. The tests of `sb_run` and `tools/check-node`
 //!   refuse it.
+//! - A peer is pushed less than it may lack, because news is left out of its backlog, or because the delta is made before
+//!   the news is taken. The tests of `sb_run` and `tools/check-node` refuse it.
+//! - A push counts as taken although the peer did not end it. The tests of `sb_run` and `tools/check-node` refuse it.
+//! - A gap hastens no round, or each gap hastens one. The tests of `sb_run` and `tools/check-node` refuse it.
+//! - Pushes, gaps or hastened rounds are counted wrongly. The tests of `sb_run` refuse it.
 //! - A session for news begins that `Deliveries::begin` refused, or ends unnoted, so that its peer gets no more news.
 //!   The tests of `sb_run` and `tools/check-node` refuse it.
 //! - Slow peers hold all threads for news, or a session counts as slow that is not. Only `tools/check-node` refuses it.
@@ -95,6 +100,7 @@
 mod accepting;
 mod arrivals;
 mod asking;
+mod backlogs;
 mod bell;
 mod busy;
 mod closable;
@@ -122,6 +128,7 @@ mod peer_reader;
 mod peer_state;
 mod peers;
 mod pool;
+mod pushing;
 mod reporting;
 mod rounds;
 mod runtime;
@@ -148,4 +155,4 @@ pub use peers::Peer;
 pub use pool::{Pooled, Source, Taken};
 pub use runtime::Runtime;
 pub use serving::Serving;
-pub use status::{Status, Troubles};
+pub use status::{PushCounts, Status, Troubles};

@@ -76,7 +76,7 @@ pub struct NodeConfig<'a> {
 pub struct Ran {
     /// How many rounds it made.
     pub rounds: u64,
-    /// How many connections ended with a fault, rounds in which the peer could not be reached and connections that could
+    /// How many connections ended with a fault, rounds and pushes in which the peer could not be reached and connections that could
     /// not be accepted among them.
     pub faults: u64,
     /// How many events its history has: writes of its own, and deltas of its peers.
@@ -107,12 +107,23 @@ fn start_refusal<L: WriteLog>(settings: &Settings, log: &L) -> Option<Fault>
 /// turns, unless nobody else is left. The observer gets each change of a peer's state. After the last round the node waits for
 /// the connections that are open, and ends. It removes what is at the paths of both sockets, even if another put it there since.
 ///
-/// After a write of a client, or something new from a peer, the node dials the next `fanout` peers, except those that are down
-/// or had a fault in their last round. The seats beyond two and one for each worker are for this: so many peers are dialed side
-/// by side. Without such seats they are dialed one after another, between the rounds in turn. A peer has at most one session for
-/// news at a time; news during one makes another after it. Peers whose last session took half a second or more leave one of
-/// these seats to others. News that comes within ten milliseconds goes together. These are rounds too. With no pause there is
-/// no need of them.
+/// After a write of a client, or something new from a peer, the node dials the next `fanout` peers. A peer whose last two
+/// sessions were not made to their end is left out. The node pushes to each what this peer may lack: its Hello, one delta
+/// and a Bye. It makes a round instead in these cases:
+///
+/// - No round with the peer was made to its end yet. If one is under way, the news waits for that.
+/// - An owner was purged above what the peer may have.
+/// - The delta is longer than 1,024 bytes, and than the node's own digests.
+/// - Its frame has no room for one more entry within the budget.
+///
+/// The seats beyond two and one for each worker are for this: so many peers are dialed side by side. Without such seats they
+/// are dialed one after another, between the rounds in turn. A peer has at most one session for news at a time; news during
+/// one makes another after it. Peers whose last session took half a second or more leave one of these seats to others. News
+/// that comes within ten milliseconds goes together. With no pause there is no need of it.
+///
+/// A push is not a round. It counts as taken only if the peer greeted and ended the connection itself. If not, the next push to
+/// this peer has the same again. If a peer's delta has writes after ones that the node lacks, the next round in turn is made at
+/// once, at most once a pause.
 ///
 /// A connection takes a worker or the calling thread only once it has something to say: a peer's whole Hello, or a client's
 /// whole request. Until then it waits, for `idle` milliseconds at `sock` and for `request` at `control`, or `idle` if that is

@@ -1,4 +1,4 @@
-//! The gate that sessions pass which other nodes dialed: it counts them, and rings the bell.
+//! The gate that sessions pass which other nodes dialed: it counts them and gaps, and rings the bell.
 
 use crate::bell::Bell;
 use crate::counts::Counts;
@@ -6,7 +6,8 @@ use crate::gate::{Gate, GatePoint};
 use sb_session::Ended;
 use sb_types::{Delta, Fault};
 
-/// A gate that turns nobody away, counts each session and its fault, and rings the bell if a session brings something new.
+/// A gate that turns nobody away, counts each session, its fault and each gap, and rings the bell if a session brings something
+/// new.
 #[derive(Drop)]
 pub(crate) struct NodeGate<'a> {
     pub(crate) bell: &'a Bell,
@@ -25,6 +26,11 @@ impl Gate for NodeGate<'_> {
 
     fn entered(&self, delta: &Delta) {
         self.bell.entered(delta);
+    }
+
+    fn missed(&self) {
+        self.counts.add_gap();
+        self.bell.missed();
     }
 
     fn ended(&self, _session: u64, ended: &Result<Ended, Fault>) {

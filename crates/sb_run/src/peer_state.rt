@@ -110,11 +110,11 @@ impl PeerState {
         0 < self.number()
     }
 
-    /// Whether the peer is dialed for news: it is not down, and had no fault.
-    pub(crate) fn takes_news(&self) -> bool
-        ensures { result ≡ spec.takes_news self.now }
+    /// Whether a session ended so that did all that it was to do.
+    pub(crate) fn is_answer(&self) -> bool
+        ensures { result ≡ spec.is_answer self.now }
     {
-        matches!(self, PeerState::Never | PeerState::Answers)
+        matches!(self, PeerState::Answers)
     }
 
     /// Whether a peer that is so is so still after a round that ended so.

@@ -10,6 +10,9 @@ use std::alloc::Global;
 /// How many of its turns a peer is passed over that kept the node waiting.
 const TURNS_OUT: u64 = 7;
 
+/// After how many sessions in a row that did not end well a peer is dialed in its turns alone.
+const MISSES_MOST: u64 = 2;
+
 /// A peer that is dialed.
 #[derive(Clone, Copy, Drop)]
 pub struct Peer<'a> {
@@ -19,6 +22,9 @@ pub struct Peer<'a> {
     round: u64,
     /// How many more of its turns it is passed over.
     turns_out: u64,
+    /// How many sessions with it in a row did not end well, 2 for more. These are rounds that were not made to their end, and
+    /// pushes that it did not end itself.
+    misses: u64,
 }
 
 impl<'a> Peer<'a> {
@@ -46,9 +52,11 @@ impl<'a> Peer<'a> {
         ensures round { self.new.round ≡ round }
         ensures turns { self.new.turns_out ≡ spec.turns_after (has_waited && nat_lt 0 (spec.number_of_state ended)) self.old.turns_out }
         ensures state { self.new.state ≡ spec.state_after self.old.state ended }
+        ensures misses { self.new.misses ≡ spec.misses_after ended self.old.misses }
         ensures change { result ≡ not (spec.is_still self.old.state ended) }
     {
         self.round = round;
+        self.count(&ended);
         if has_waited && ended.has_fault() {
             self.turns_out = TURNS_OUT;
         }
@@ -57,6 +65,24 @@ impl<'a> Peer<'a> {
         }
         self.state = ended;
         true
+    }
+
+    /// Counts a session that ended so.
+    fn count(&mut self, ended: &PeerState)
+        ensures misses { self.new ≡ spec.with_session ended.now self.old }
+    {
+        if ended.is_answer() {
+            self.misses = 0;
+        } else if self.misses < MISSES_MOST {
+            self.misses += 1;
+        }
+    }
+
+    /// Whether it is dialed for news: fewer than two sessions with it in a row did not end well.
+    fn takes_news(&self) -> bool
+        ensures { result ≡ spec.takes_news self.now }
+    {
+        self.misses < MISSES_MOST
     }
 }
 
@@ -91,6 +117,7 @@ impl<'a> Peers<'a> {
                 state: PeerState::Never,
                 round: 0,
                 turns_out: 0,
+                misses: 0,
             })?;
         }
         Ok(Peers {
@@ -111,7 +138,7 @@ impl<'a> Peers<'a> {
         ensures burst { self.new.burst_turn ≡ self.old.burst_turn }
         // One turn of those in which it is passed over is over, and all else of the peers is as it was.
         ensures passed { IfSome result (λ taken. IfSome (slice_get self.old.all.items taken.0) (λ before. IfSome (slice_get self.new.all.items taken.0)
-            (λ after. (after.turns_out ≡ before.turns_out - 1) × (after.path ≡ before.path) × (after.state ≡ before.state) × (after.round ≡ before.round)))) }
+            (λ after. (after.turns_out ≡ before.turns_out - 1) × (after.path ≡ before.path) × (after.state ≡ before.state) × (after.round ≡ before.round) × (after.misses ≡ before.misses)))) }
         ensures others { IfSome result (λ taken. (index : ℕ) → index ≢ taken.0 → slice_get self.new.all.items index ≡ slice_get self.old.all.items index) }
     {
         let turn = turn_of(self.all.len(), self.turn);
@@ -157,21 +184,21 @@ impl<'a> Peers<'a> {
         ensures none { result ≡ None → vec_len self.old.all ≡ 0 }
         ensures turn { IfSome result (λ taken. taken.0 ≡ spec.turn_of (vec_len self.old.all) self.old.burst_turn) }
         ensures next { IfSome result (λ taken. self.new.burst_turn ≡ taken.0 + 1) }
-        ensures fit { IfSome result (λ taken. IfSome (slice_get self.old.all.items taken.0) (λ peer. taken.1 ≡ spec.takes_news peer.state)) }
+        ensures fit { IfSome result (λ taken. IfSome (slice_get self.old.all.items taken.0) (λ peer. taken.1 ≡ spec.takes_news peer)) }
         ensures within { IfSome result (λ taken. taken.0 < vec_len self.new.all) }
         ensures turns { (self.new.turn ≡ self.old.turn) × (self.new.all ≡ self.old.all) }
     {
         let turn = turn_of(self.all.len(), self.burst_turn);
         self.burst_turn = turn.saturating_add(1);
         let peer = self.all.get(turn)?;
-        Some((turn, peer.state.takes_news()))
+        Some((turn, peer.takes_news()))
     }
 
     /// The index of the next peer that is dialed for news; none if nobody is.
     pub(crate) fn next_in_burst(&mut self) -> Option<usize>
         ensures first { IfSome (slice_get self.old.all.items (spec.turn_of (vec_len self.old.all) self.old.burst_turn))
-            (λ peer. spec.takes_news peer.state ≡ true → result ≡ Some (spec.turn_of (vec_len self.old.all) self.old.burst_turn)) }
-        ensures fit { IfSome result (λ index. IfSome (slice_get self.new.all.items index) (λ peer. spec.takes_news peer.state ≡ true)) }
+            (λ peer. spec.takes_news peer ≡ true → result ≡ Some (spec.turn_of (vec_len self.old.all) self.old.burst_turn)) }
+        ensures fit { IfSome result (λ index. IfSome (slice_get self.new.all.items index) (λ peer. spec.takes_news peer ≡ true)) }
         ensures within { IfSome result (λ index. index < vec_len self.new.all) }
         ensures next { IfSome result (λ index. self.new.burst_turn ≡ index + 1) }
         ensures turns { (self.new.turn ≡ self.old.turn) × (self.new.all ≡ self.old.all) }
@@ -186,7 +213,7 @@ impl<'a> Peers<'a> {
 
     /// The index of the next peer that is dialed for news, after one that is not.
     fn pass_over_in_burst(&mut self) -> Option<usize>
-        ensures fit { IfSome result (λ index. IfSome (slice_get self.new.all.items index) (λ peer. spec.takes_news peer.state ≡ true)) }
+        ensures fit { IfSome result (λ index. IfSome (slice_get self.new.all.items index) (λ peer. spec.takes_news peer ≡ true)) }
         ensures within { IfSome result (λ index. index < vec_len self.new.all) }
         ensures next { IfSome result (λ index. self.new.burst_turn ≡ index + 1) }
         ensures turns { (self.new.turn ≡ self.old.turn) × (self.new.all ≡ self.old.all) }
@@ -204,7 +231,7 @@ impl<'a> Peers<'a> {
     pub(crate) fn count_for_news(&self) -> u64 {
         let mut count: u64 = 0;
         for peer in &self.all {
-            if peer.state.takes_news() {
+            if peer.takes_news() {
                 count = count.saturating_add(1);
             }
         }
@@ -223,10 +250,10 @@ impl<'a> Peers<'a> {
 
     /// Whether the peer at this index is dialed for news; false if there is no such peer.
     pub(crate) fn takes_news(&self, index: usize) -> bool
-        ensures { IfSome (slice_get self.now.all.items index) (λ peer. result ≡ spec.takes_news peer.state) }
+        ensures { IfSome (slice_get self.now.all.items index) (λ peer. result ≡ spec.takes_news peer) }
     {
         match self.all.get(index) {
-            Some(peer) => peer.state.takes_news(),
+            Some(peer) => peer.takes_news(),
             None => false,
         }
     }
@@ -237,7 +264,7 @@ impl<'a> Peers<'a> {
     }
 
     /// Takes down how the round of this number with a peer ended, and whether that kept the node waiting. If the peer is
-    /// otherwise than before, it reports that to the observer, and says so.
+    /// otherwise than before, it reports that to the observer, and returns true.
     pub(crate) fn note<O: Observer>(
         &mut self,
         index: usize,
@@ -250,13 +277,43 @@ impl<'a> Peers<'a> {
         ensures noted { IfSome (slice_get self.old.all.items index) (λ before. IfSome (slice_get self.new.all.items index) (λ after.
             (after.path ≡ before.path) × (after.round ≡ round)
             × (after.turns_out ≡ spec.turns_after (has_waited && nat_lt 0 (spec.number_of_state ended)) before.turns_out)
-            × (after.state ≡ spec.state_after before.state ended) × (result ≡ not (spec.is_still before.state ended)))) }
+            × (after.misses ≡ spec.misses_after ended before.misses) × (after.state ≡ spec.state_after before.state ended) × (result ≡ not (spec.is_still before.state ended)))) }
         ensures others { (other : ℕ) → other ≢ index → slice_get self.new.all.items other ≡ slice_get self.old.all.items other }
     {
         let Some(peer) = self.all.get_mut(index) else {
             return false;
         };
         let has_changed = peer.note(round, ended, has_waited);
+        if has_changed {
+            observer.dialed(peer.path, ended);
+        }
+        has_changed
+    }
+
+    /// Takes down how a push to a peer ended, and whether that kept the node waiting. A push that ended well leaves the peer as it
+    /// is by its rounds. If the peer is otherwise than before, it reports that to the observer, and returns true.
+    pub(crate) fn note_push<O: Observer>(
+        &mut self,
+        index: usize,
+        ended: PeerState,
+        has_waited: bool,
+        observer: &O,
+    ) -> bool
+        ensures turns { (self.new.turn ≡ self.old.turn) × (self.new.burst_turn ≡ self.old.burst_turn) }
+        ensures noted { IfSome (slice_get self.old.all.items index) (λ before. IfSome (slice_get self.new.all.items index) (λ after.
+            (after.path ≡ before.path) × (after.round ≡ before.round) × (after.misses ≡ spec.misses_after ended before.misses)
+            × (after.state ≡ spec.state_after_push before.state ended) × (result ≡ spec.is_changed_by_push before.state ended))) }
+        ensures others { (other : ℕ) → other ≢ index → slice_get self.new.all.items other ≡ slice_get self.old.all.items other }
+    {
+        let Some(peer) = self.all.get_mut(index) else {
+            return false;
+        };
+        if ended.is_answer() {
+            peer.count(&ended);
+            return false;
+        }
+        let number = peer.round;
+        let has_changed = peer.note(number, ended, has_waited);
         if has_changed {
             observer.dialed(peer.path, ended);
         }

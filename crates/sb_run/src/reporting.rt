@@ -61,6 +61,7 @@ impl<S: RoundsTag, H: Wait + Drop, Q: Wait + Clock> NodeContext<'_, S, H, Q> {
                 observer.status(&Status {
                     rounds: counts.ended,
                     faults: counts.faults,
+                    pushes: self.counts.push_counts(),
                     sessions: self.counts.sessions(),
                     uptime,
                     workers: self.directory.settings().workers(),

@@ -16,9 +16,9 @@ use std::time::{Clock, Instant};
 /// How long after a burst begins news is gathered for the next, in milliseconds.
 const NEWS_INTERVAL: u64 = 10;
 
-/// How a round ended.
+/// How a session with a peer ended: a round, or a push.
 #[derive(Clone, Copy)]
-pub(crate) struct RoundEnd {
+pub(crate) struct SessionEnd {
     /// How the peer is by it.
     pub(crate) state: PeerState,
     /// Whether it took as long as a connection to a peer may be idle.
@@ -96,7 +96,7 @@ impl<'a> Schedule<'a> {
     }
 
     /// Whether another round may begin.
-    fn has_round_left(&self) -> bool
+    pub(crate) fn has_round_left(&self) -> bool
         ensures { result ≡ spec.has_round_left self.now.most self.now.begun }
     {
         self.most == 0 || self.begun < self.most
@@ -139,7 +139,7 @@ impl<'a> Schedule<'a> {
     /// What a thread that dials for news is to do next. A burst begins if there is news and no earlier news can be
     /// brought. News that comes soon after a burst began is gathered first.
     pub(crate) fn next_news<Q: Clock>(&mut self, clock: &Q, bell: &Bell, pace: &Pace) -> NewsStep {
-        if pace.pause == 0 || pace.fanout == 0 || !self.has_round_left() {
+        if pace.pause == 0 || pace.fanout == 0 {
             return NewsStep::Wait(None);
         }
         let mut next = self.begin_delivery();
@@ -152,21 +152,60 @@ impl<'a> Schedule<'a> {
             self.begin_burst(pace.fanout);
             next = self.begin_delivery();
         }
-        let Some(index) = next else {
-            return NewsStep::Wait(None);
-        };
-        self.begun = self.begun.saturating_add(1);
-        NewsStep::Dial(index)
+        match next {
+            Some(index) => NewsStep::Dial(index),
+            None => NewsStep::Wait(None),
+        }
     }
 
-    /// Takes down how a round with a peer ended, and reports it to the observer if the peer is otherwise than before.
+    /// Begins a round for news, if another round may begin, and says whether it does.
+    pub(crate) fn begin_round_for_news(&mut self) -> bool
+        ensures { result ≡ spec.has_round_left self.old.most self.old.begun }
+    {
+        if !self.has_round_left() {
+            return false;
+        }
+        self.begun = self.begun.saturating_add(1);
+        true
+    }
+
+    /// Notes that there is news for the peer at this index.
+    pub(crate) fn expect(&mut self, index: usize) {
+        self.deliveries.expect(index);
+    }
+
+    /// Ends a session for news with a peer that was not dialed.
+    pub(crate) fn leave_out(&mut self, index: usize) {
+        self.deliveries.leave_out(index);
+    }
+
+    /// Takes down how a push to a peer ended, and tells the observer if the peer is otherwise than before. Returns whether the
+    /// peer is still dialed for news.
+    pub(crate) fn end_push<O: Observer>(
+        &mut self,
+        index: usize,
+        end: SessionEnd,
+        observer: &O,
+    ) -> bool {
+        self.deliveries.end(index, end.is_slow);
+        if self
+            .peers
+            .note_push(index, end.state, end.has_waited, observer)
+        {
+            self.has_changed = true;
+        }
+        self.peers.takes_news(index)
+    }
+
+    /// Takes down how a round with a peer ended, and tells the observer if the peer is otherwise than before. Returns whether
+    /// the peer is dialed for news from then on.
     pub(crate) fn end_round<O: Observer>(
         &mut self,
         index: usize,
         cause: Cause,
-        end: RoundEnd,
+        end: SessionEnd,
         observer: &O,
-    ) {
+    ) -> bool {
         self.count_round(end.state.has_fault());
         let round = self.counts.ended;
         match cause {
@@ -179,6 +218,7 @@ impl<'a> Schedule<'a> {
         {
             self.has_changed = true;
         }
+        self.peers.takes_news(index)
     }
 
     /// Counts a round that has ended, with a fault or not.

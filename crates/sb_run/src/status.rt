@@ -12,6 +12,8 @@ pub struct Status<'a> {
     pub rounds: u64,
     /// How many of them had a fault.
     pub faults: u64,
+    /// What it pushed to its peers, and what came of what others pushed. A push is not a round.
+    pub pushes: PushCounts,
     /// How many connections of peers it took.
     pub sessions: u64,
     /// For how long it runs, in milliseconds.
@@ -34,6 +36,21 @@ pub struct Status<'a> {
     pub owners_at_zero: &'a [Name],
     /// Whom it dials.
     pub peers: &'a [Peer<'a>],
+}
+
+/// What a node pushed to its peers since it started, and what came of what others pushed.
+#[derive(Clone, Copy, Debug, PartialEq, Eq)]
+pub struct PushCounts {
+    /// Pushes that it made.
+    pub made: u64,
+    /// How many of them had a fault.
+    pub faults: u64,
+    /// How many bytes the frames of the deltas have that peers took.
+    pub bytes: u64,
+    /// Deltas of others with writes after ones that it lacks.
+    pub gaps: u64,
+    /// Rounds in turn that it made before their time because of such a delta.
+    pub hastened_rounds: u64,
 }
 
 /// What a node suffered since it started, by how many times.

@@ -36,6 +36,8 @@ pub(crate) struct Turns<'a> {
     is_conflict_reported: bool,
     /// When the next round in turn is due. None if the clock can't be read.
     due: Option<Instant>,
+    /// From when on a gap may hasten the next round in turn. None if none was hastened.
+    hastens_from: Option<Instant>,
 }
 
 impl<'a> Turns<'a> {
@@ -56,6 +58,7 @@ impl<'a> Turns<'a> {
             status_due: None,
             is_conflict_reported: false,
             due: None,
+            hastens_from: None,
         })
     }
 
@@ -117,6 +120,8 @@ impl<'a> Turns<'a> {
         next: Option<usize>,
     ) -> ReaderSeat<S> {
         let mut current = seat;
+        // What is missing by now this round may bring.
+        let _ = node.bell.take_gap();
         match next {
             Some(index) => current = dialing.round(node, current, index, Cause::Turn),
             None => {
@@ -143,8 +148,26 @@ impl<'a> Turns<'a> {
         }
     }
 
-    /// Waits until the next round in turn is due or the node is to end. Meanwhile it reports to the observer what the other threads
-    /// met, and dials for news itself if it is alone.
+    /// Whether the next round in turn is made at once, since a peer sent writes after ones that are missing. That is so
+    /// once a pause at most, and only if there is a round left.
+    fn is_hastened<S: RoundsTag, H: Wait + Drop, Q: Wait + Clock, O: Observer>(
+        &mut self,
+        node: &NodeContext<S, H, Q>,
+        dialing: &Dialing<'a, O>,
+    ) -> bool {
+        if !node.bell.take_gap() || !dialing.schedule().lock(node.rt).has_round_left() {
+            return false;
+        }
+        if self.hastens_from.is_some() && !has_come(node.rt, self.hastens_from) {
+            return false;
+        }
+        self.hastens_from = moment_after(node.rt, node.pace.pause);
+        node.counts.add_hastened_round();
+        true
+    }
+
+    /// Waits until the next round in turn is due or hastened, or the node is to end. Meanwhile it reports to the observer what
+    /// the other threads met, and dials for news itself if it is alone.
     fn wait_for_turn<S: RoundsTag, H: Wait + Drop, Q: Wait + Net + Clock, O: Observer>(
         &mut self,
         node: &NodeContext<S, H, Q>,
@@ -153,7 +176,10 @@ impl<'a> Turns<'a> {
     ) -> ReaderSeat<S> {
         let mut current = seat;
         for _ in node.rt.forever() {
-            if node.ending.is_raised() || has_come(node.rt, self.due) {
+            if node.ending.is_raised()
+                || has_come(node.rt, self.due)
+                || self.is_hastened(node, dialing)
+            {
                 return current;
             }
             let step = if self.is_alone {
@@ -163,7 +189,7 @@ impl<'a> Turns<'a> {
             };
             match step {
                 NewsStep::Dial(index) => {
-                    current = dialing.round(node, current, index, Cause::News);
+                    current = dialing.bring_news(node, current, index);
                     current = self.tell_status(node, dialing, current);
                 }
                 NewsStep::Wait(until) => {
