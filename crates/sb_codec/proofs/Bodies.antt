@@ -1,5 +1,5 @@
 -- The two laws for the body of each kind but deltas.
-use Rattle.std.proofs.Common.{◌≡◌, ℕ, ◌-◌, ◌^◌, ◌<◌, ◌≤◌, Bool, true, false, ◌&&◌, List, [], ◌∷◌, ◌++◌, length, Option, Some, None, refl, ap, arith}
+use Rattle.std.proofs.Common.{◌≡◌, ℕ, ◌-◌, ◌^◌, ◌<◌, ◌≤◌, Bool, true, false, ◌&&◌, List, [], ◌∷◌, ◌++◌, length, Option, Some, None, refl, arith}
 use Rattle.std.specs.Prelude.{nat_le, nat_lt}
 use Rattle.std.specs.List.{list_all}
 use Rattle.std.specs.Int.{w64}
@@ -19,8 +19,8 @@ use Rattle.sb_codec.specs.declared.message.node_identity.NodeIdentity.{NodeIdent
 use Rattle.sb_codec.specs.declared.message.hello.Hello.{Hello}
 use Rattle.sb_codec.specs.Limits.{is_hello, is_reason, is_optional, is_place, is_ask, is_row, are_rows_above, are_page_rows, is_page, is_write, is_version, is_fault_number, is_count, is_identity, is_figure, is_peer, are_figures_above, are_status_parts, is_status}
 use Rattle.sb_codec.specs.Fields.{number_field}
-use Rattle.sb_codec.specs.Spelling.{number, text, value, optional, hello, pair, digest, place, ask, row, page, write, identity, figure, peer, status}
-use Rattle.sb_codec.specs.Reading.{hello_of_parts, hello_field, bye_field, write_of_parts, write_field, done_field, refused_field, unless_empty, is_empty_or, optional_field, pair_of_parts, pair_field, digest_of_parts, digest_field, prefix_field, are_alike, place_of, place_field, ask_of, ask_field, value_field, is_written, row_of_parts, row_field, are_page_parts, page_of, page_field, ask_status_field, short_text_field, identity_of_parts, identity_field, figure_of_parts, figure_field, peer_of_parts, peer_field, status_of_parts, status_field}
+use Rattle.sb_codec.specs.Spelling.{number, text, optional, hello, pair, digest, place, ask, row, page, write, identity, figure, peer, status}
+use Rattle.sb_codec.specs.Reading.{hello_of_parts, hello_field, bye_field, write_of_parts, write_field, done_field, refused_field, unless_empty, is_empty_or, optional_field, pair_of_parts, pair_field, digest_of_parts, digest_field, prefix_field, are_alike, place_of, place_field, ask_of, ask_field, is_written, row_of_parts, row_field, are_page_parts, page_of, page_field, ask_status_field, short_text_field, identity_of_parts, identity_field, figure_of_parts, figure_field, peer_of_parts, peer_field, status_of_parts, status_field}
 use Rattle.sb_codec.proofs.Taken.{Takes, wide64, fits_takes, made_takes, then_takes, where_takes, byte_takes, number_takes, text_takes, list_takes}
 use Rattle.sb_codec.proofs.Again.{Again, made_again, then_again, where_again, byte_again, number_again, text_again, list_again}
 use Rattle.sb_codec.proofs.Parts.{name_takes, name_again, key_takes, key_again, flag_takes, flag_again, value_takes, value_reads, slot_takes, slot_again, between_parts, all_from, all_parts, count_below}

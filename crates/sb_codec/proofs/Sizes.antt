@@ -9,7 +9,7 @@ use Rattle.sb_types.specs.declared.entry.Slot.{Slot}
 use Rattle.sb_types.specs.declared.entry.Slot.TheVariants.{Set, Removed}
 use Rattle.sb_types.specs.declared.limits.TheConstants.{NAME_MOST, KEY_MOST, PAYLOAD_MOST}
 use Rattle.sb_types.specs.Text.{is_between, is_name_byte, is_key_byte, is_name, is_key, is_prefix}
-use Rattle.sb_types.specs.Value.{Value, is_value}
+use Rattle.sb_types.specs.Value.{Value}
 use Rattle.sb_types.specs.Kinds.{Content, Word, Text, Number, Truth, content_of, content_length}
 use Rattle.sb_types.proofs.KindTable.{length_by_table, length_most}
 use Rattle.sb_types.specs.Records.{Entry, Block}
@@ -41,7 +41,7 @@ length-number64 n = refl
 
 content-length : (c : Content) → length (content c) ≡ content_length c
 unfolding content number
-content-length (Word t) = refl
+content-length (Word t) = omega arith
 content-length (Text t) = omega (arith, length-append (number w16 (length t)) t, length-number16 (length t))
 content-length (Number n) = refl
 content-length (Truth b) = refl

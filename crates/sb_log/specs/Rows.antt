@@ -14,8 +14,7 @@ use Rattle.sb_types.specs.declared.kind.Form.{Form}
 use Rattle.sb_types.specs.declared.kind.Form.TheVariants as forms
 use Rattle.sb_types.specs.declared.format.TheConstants.{TAG_TEXT}
 use Rattle.sb_types.specs.Kinds as kinds
-use Rattle.sb_types.specs.Kinds.{Content, Word, Number, Truth, tag_of, kind_of, content_of, form_of, kind_of_tag, made_value}
-use Rattle.sb_types.specs.Value.{Value}
+use Rattle.sb_types.specs.Kinds.{Content, Word, Number, Truth, tag_of, kind_of, form_of, kind_of_tag, made_value}
 use Rattle.sb_types.specs.Limits.{is_entry}
 use Rattle.sb_types.specs.Records.{Entry, Table}
 use Rattle.sb_types.specs.Runs.{last_version, live}
@@ -40,7 +39,7 @@ text_cell (Truth truth) = Null
 -- the tag, the number and the text of a slot
 abbrev pub slot_cells : Slot → Row
 slot_cells Removed = Int (pos 0) ∷ Null ∷ Null ∷ []
-slot_cells (Set value) = Int (pos (tag_of (kind_of value))) ∷ number_cell (content_of value) ∷ text_cell (content_of value) ∷ []
+slot_cells (Set value) = Int (pos (tag_of (kind_of value))) ∷ number_cell (kinds.content_of value) ∷ text_cell (kinds.content_of value) ∷ []
 
 abbrev pub sets_text : Slot → Bool
 sets_text Removed = false

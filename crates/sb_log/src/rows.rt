@@ -172,8 +172,8 @@ fn value_in(
     };
     match Value::from_content(alloc, kind, content) {
         Ok(value) => Ok(Some(Slot::Set(value))),
-        Err(Fault::NoMemory) => Err(Fault::NoMemory),
-        Err(_) => Ok(None),
+        Err(Fault::BadValue) => Ok(None),
+        Err(_) => Err(Fault::NoMemory),
     }
 }
 

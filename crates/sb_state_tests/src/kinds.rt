@@ -38,7 +38,13 @@ fn parts_make_values(rt: HostRuntime) {
     assert_made(&rt, alloc, Kind::Addr, ContentRef::Word(b"a:1"), "addr a:1");
     assert_made(&rt, alloc, Kind::Weight, ContentRef::Number(7), "weight 7");
     assert_made(&rt, alloc, Kind::Flag, ContentRef::Truth(true), "flag true");
-    assert_made(&rt, alloc, Kind::Text, ContentRef::Text(b"a b\n"), "text a b\\0a");
+    assert_made(
+        &rt,
+        alloc,
+        Kind::Text,
+        ContentRef::Text(b"a b\n"),
+        "text a b\\0a",
+    );
 }
 
 fn assert_refused(rt: &impl Abort, alloc: Global, kind: Kind, content: ContentRef<'_>) {
