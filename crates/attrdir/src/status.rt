@@ -6,8 +6,8 @@ use crate::asking::{RowFormat, answer_of, unanswered};
 use crate::counting::Output;
 use crate::failure::{Failure, FaultPlace};
 use sb_codec::{AskStatus, Figure, FigureKind, Message, NodeStatus, PeerStatus};
-use sb_log::StoreCause;
 use sb_query::status_in;
+use sb_run::LogCause;
 use sb_types::{Fault, KIND_NODE_STATUS, Name, ShortText, Spelled};
 use serde_json::{Map, Value, json};
 use std::alloc::{AllocError, Global};
@@ -81,7 +81,7 @@ struct CauseWord(u64);
 
 impl fmt::Display for CauseWord {
     fn fmt<W: fmt::Write>(&self, f: &mut fmt::Formatter<W>) -> fmt::Result {
-        match StoreCause::from_number(self.0) {
+        match LogCause::from_number(self.0) {
             Some(cause) => f.write_str(cause.name()),
             None => write!(f, "cause_{}", self.0),
         }

@@ -12,3 +12,5 @@ pub mod Deliveries
 pub mod Together
 pub mod Closing
 pub mod LogCauses
+pub mod Facts
+pub mod StatusReplies

@@ -1,5 +1,5 @@
 -- How peers are by their rounds, and whose turn is next.
-use Rattle.std.specs.Prelude.{ℕ, Bool, true, false, nat_eq, nat_lt, if◌then◌else◌, Result, Ok, Err}
+use Rattle.std.specs.Prelude.{ℕ, ◌+◌, Bool, true, false, nat_eq, nat_lt, if◌then◌else◌, Result, Ok, Err}
 use Rattle.sb_types.specs.declared.fault.Fault.{Fault}
 use Rattle.sb_types.specs.declared.fault.Fault.TheVariants as faults
 use Rattle.sb_types.specs.Faults.{number_of}
@@ -34,6 +34,21 @@ number_of_state Never = 0
 number_of_state Answers = 0
 number_of_state (Down reason) = number_of_reason reason
 number_of_state (Failed fault) = number_of fault
+
+-- the number of the state of a peer, in the status of a node
+abbrev pub code_of_reason : DownReason → ℕ
+code_of_reason Unreachable = 2
+code_of_reason Silent = 3
+code_of_reason ReadFailed = 4
+code_of_reason HungUp = 5
+code_of_reason BrokenOff = 6
+code_of_reason EndedEarly = 7
+
+abbrev pub code_of : PeerState → ℕ
+code_of Never = 0
+code_of Answers = 1
+code_of (Down reason) = code_of_reason reason
+code_of (Failed fault) = 32 + number_of fault
 
 -- a peer is dialed for news unless it is down or had a fault
 abbrev pub takes_news : PeerState → Bool

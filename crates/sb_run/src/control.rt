@@ -31,7 +31,7 @@ use std::sync::ledger::Ledger;
 
 /// The answer that names a fault.
 #[tactic(auto, using(crate::proofs::Numbers::are_numbers))]
-fn refused_by(fault: Fault) -> Message
+pub(crate) fn refused_by(fault: Fault) -> Message
     ensures { result ≡ kinds.Refused (number_of fault) }
 {
     let Ok(refused) = Refused::new(fault.number()) else {

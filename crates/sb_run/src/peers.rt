@@ -1,10 +1,12 @@
 //! The peers of a node, and whose turn it is to be dialed.
 ghost use Rattle.std.specs.Prelude.{◌≡◌, ◌≢◌, ◌+◌, ◌-◌, ◌<◌, ℕ, ◌&&◌, not, false, true, nat_lt, map, None, Some, slice_get, vec_len, IfSome, IfOk, IfErr};
+ghost use Rattle.std.specs.List.{list_all};
 ghost use Rattle.sb_run.specs.Turns as spec;
 
 use crate::observer::Observer;
 use crate::peer_state::PeerState;
-use sb_types::Fault;
+use sb_codec::PeerStatus;
+use sb_types::{Fault, ShortText};
 use std::alloc::Global;
 
 /// How many of its turns a peer is passed over that kept the node waiting.
@@ -35,8 +37,26 @@ impl<'a> Peer<'a> {
     }
 
     /// The number of its last round, from 1; 0 before the first.
-    pub fn round(&self) -> u64 {
+    pub fn round(&self) -> u64
+        ensures { result ≡ self.now.round }
+    {
         self.round
+    }
+
+    /// How it is, as the status of a node has it. A path that is no short text is told as `-`.
+    fn status(&self) -> PeerStatus
+        ensures state { result.state ≡ spec.code_of self.now.state }
+        ensures round { result.round ≡ self.now.round }
+    {
+        let path = match ShortText::read(self.path.as_bytes()) {
+            Ok(path) => path,
+            Err(_) => no_path(),
+        };
+        PeerStatus {
+            path,
+            state: self.state.code(),
+            round: self.round,
+        }
     }
 
     /// Takes down how its round of this number ended, and whether it kept the node waiting. Says whether the peer is otherwise
@@ -65,6 +85,14 @@ pub(crate) fn turn_of(count: usize, turn: usize) -> usize
     ensures { result ≡ spec.turn_of count turn }
 {
     if turn < count { turn } else { 0 }
+}
+
+/// What is told in place of a path that is no short text.
+fn no_path() -> ShortText {
+    let Ok(path) = ShortText::read(b"-") else {
+        unreachable!();
+    };
+    path
 }
 
 /// The peers that are dialed, in turn.
@@ -229,6 +257,24 @@ impl<'a> Peers<'a> {
             Some(peer) => peer.state.takes_news(),
             None => false,
         }
+    }
+
+    /// Whether each of them has had a round that ended. It stays so.
+    pub(crate) fn are_caught_up(&self) -> bool
+        ensures { result ≡ list_all (λ peer. nat_lt 0 peer.round) self.now.all.items }
+    {
+        self.all.iter().all(|peer| 0 < peer.round)
+    }
+
+    /// How each of them is, as the status of a node has it. `NoMemory`.
+    pub(crate) fn statuses(&self, alloc: Global) -> Result<Vec<PeerStatus>, Fault>
+        ensures memory { IfErr result (λ fault. fault ≡ Fault.NoMemory) }
+    {
+        let mut statuses = Vec::with_capacity(alloc, self.all.len())?;
+        for peer in &self.all {
+            statuses.push(peer.status())?;
+        }
+        Ok(statuses)
     }
 
     /// All of them, in the order of their paths.

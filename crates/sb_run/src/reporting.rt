@@ -62,6 +62,7 @@ impl<S: RoundsTag, H: Wait + Drop, Q: Wait + Clock> NodeContext<'_, S, H, Q> {
                     rounds: counts.ended,
                     faults: counts.faults,
                     sessions: self.counts.sessions(),
+                    is_caught_up: peers.iter().all(|peer| 0 < peer.round()),
                     uptime,
                     workers: self.directory.settings().workers(),
                     busy_workers: self.counts.busy_workers(),

@@ -9,6 +9,7 @@ use crate::node::Pace;
 use crate::observer::Observer;
 use crate::peer_state::PeerState;
 use crate::peers::{Peer, Peers};
+use sb_codec::PeerStatus;
 use sb_types::Fault;
 use std::alloc::Global;
 use std::time::{Clock, Instant};
@@ -52,6 +53,15 @@ pub(crate) struct RoundCounts {
     pub(crate) ended: u64,
     /// How many of these had a fault.
     pub(crate) faults: u64,
+}
+
+/// What a schedule tells of the rounds and the peers of a node.
+#[derive(Drop)]
+pub(crate) struct PeersReport {
+    pub(crate) counts: RoundCounts,
+    /// Whether each peer has had a round that ended.
+    pub(crate) is_caught_up: bool,
+    pub(crate) peers: Vec<PeerStatus>,
 }
 
 /// Whom to dial next, and the rounds that were made.
@@ -224,6 +234,22 @@ impl<'a> Schedule<'a> {
             copies.push(*peer)?;
         }
         Ok(copies)
+    }
+
+    /// Whether each peer has had a round that ended since the node started.
+    pub(crate) fn is_caught_up(&self) -> bool {
+        self.peers.are_caught_up()
+    }
+
+    /// What the schedule tells of the rounds and the peers of a node. `NoMemory`.
+    pub(crate) fn peers_report(&self, alloc: Global) -> Result<PeersReport, Fault>
+        ensures { IfErr result (λ fault. fault ≡ Fault.NoMemory) }
+    {
+        Ok(PeersReport {
+            counts: self.counts,
+            is_caught_up: self.is_caught_up(),
+            peers: self.peers.statuses(alloc)?,
+        })
     }
 
     /// Which rounds were made; copies how the peers are over an older copy.
