@@ -132,6 +132,7 @@ mod serving;
 mod sockets;
 mod status;
 mod status_reply;
+mod status_texts;
 mod tagged;
 mod threads;
 mod timed;

@@ -1,12 +1,13 @@
 //! The peers of a node, and whose turn it is to be dialed.
 ghost use Rattle.std.specs.Prelude.{◌≡◌, ◌≢◌, ◌+◌, ◌-◌, ◌<◌, ℕ, ◌&&◌, not, false, true, nat_lt, map, None, Some, slice_get, vec_len, IfSome, IfOk, IfErr};
-ghost use Rattle.std.specs.List.{list_all};
 ghost use Rattle.sb_run.specs.Turns as spec;
+ghost use Rattle.sb_run.specs.StatusReplies as statuses;
 
 use crate::observer::Observer;
 use crate::peer_state::PeerState;
+use crate::status_texts::short_text;
 use sb_codec::PeerStatus;
-use sb_types::{Fault, ShortText};
+use sb_types::Fault;
 use std::alloc::Global;
 
 /// How many of its turns a peer is passed over that kept the node waiting.
@@ -43,17 +44,12 @@ impl<'a> Peer<'a> {
         self.round
     }
 
-    /// How it is, as the status of a node has it. A path that is no short text is told as `-`.
+    /// How it is, as the status of a node has it.
     fn status(&self) -> PeerStatus
-        ensures state { result.state ≡ spec.code_of self.now.state }
-        ensures round { result.round ≡ self.now.round }
+        ensures { result ≡ statuses.peer_status self.now }
     {
-        let path = match ShortText::read(self.path.as_bytes()) {
-            Ok(path) => path,
-            Err(_) => no_path(),
-        };
         PeerStatus {
-            path,
+            path: short_text(self.path),
             state: self.state.code(),
             round: self.round,
         }
@@ -85,14 +81,6 @@ pub(crate) fn turn_of(count: usize, turn: usize) -> usize
     ensures { result ≡ spec.turn_of count turn }
 {
     if turn < count { turn } else { 0 }
-}
-
-/// What is told in place of a path that is no short text.
-fn no_path() -> ShortText {
-    let Ok(path) = ShortText::read(b"-") else {
-        unreachable!();
-    };
-    path
 }
 
 /// The peers that are dialed, in turn.
@@ -259,15 +247,9 @@ impl<'a> Peers<'a> {
         }
     }
 
-    /// Whether each of them has had a round that ended. It stays so.
-    pub(crate) fn are_caught_up(&self) -> bool
-        ensures { result ≡ list_all (λ peer. nat_lt 0 peer.round) self.now.all.items }
-    {
-        self.all.iter().all(|peer| 0 < peer.round)
-    }
-
     /// How each of them is, as the status of a node has it. `NoMemory`.
     pub(crate) fn statuses(&self, alloc: Global) -> Result<Vec<PeerStatus>, Fault>
+        ensures statuses { IfOk result (λ all. all.items ≡ map statuses.peer_status self.now.all.items) }
         ensures memory { IfErr result (λ fault. fault ≡ Fault.NoMemory) }
     {
         let mut statuses = Vec::with_capacity(alloc, self.all.len())?;

@@ -15,7 +15,7 @@ use std::time::Clock;
 
 /// The owners that the node holds at version 0, in ascending order: those with nothing but a stage, and itself before its first
 /// write. `NoMemory`.
-fn owners_at_zero<S: RoundsTag, H: Wait + Drop, Q: Wait>(
+pub(crate) fn owners_at_zero<S: RoundsTag, H: Wait + Drop, Q: Wait>(
     node: &NodeContext<S, H, Q>,
     seat: &mut ReaderSeat<S>,
 ) -> Result<Vec<Name>, Fault>

@@ -1,6 +1,7 @@
 //! Whom to dial next, and the rounds that were made: what the threads that dial share, under one lock.
-ghost use Rattle.std.specs.Prelude.{◌≡◌, true, false, None, IfSome, IfErr};
+ghost use Rattle.std.specs.Prelude.{◌≡◌, true, false, None, IfSome, IfOk, IfErr};
 ghost use Rattle.sb_run.specs.Deliveries as spec;
+ghost use Rattle.sb_run.specs.StatusReplies.{have_had_rounds};
 
 use crate::bell::Bell;
 use crate::delivery::Deliveries;
@@ -55,7 +56,7 @@ pub(crate) struct RoundCounts {
     pub(crate) faults: u64,
 }
 
-/// What a schedule tells of the rounds and the peers of a node.
+/// What the status of a node says of its rounds and its peers.
 #[derive(Drop)]
 pub(crate) struct PeersReport {
     pub(crate) counts: RoundCounts,
@@ -236,19 +237,16 @@ impl<'a> Schedule<'a> {
         Ok(copies)
     }
 
-    /// Whether each peer has had a round that ended since the node started.
-    pub(crate) fn is_caught_up(&self) -> bool {
-        self.peers.are_caught_up()
-    }
-
-    /// What the schedule tells of the rounds and the peers of a node. `NoMemory`.
+    /// What the status of a node says of its rounds and its peers. `NoMemory`.
     pub(crate) fn peers_report(&self, alloc: Global) -> Result<PeersReport, Fault>
-        ensures { IfErr result (λ fault. fault ≡ Fault.NoMemory) }
+        ensures caught_up { IfOk result (λ report. report.is_caught_up ≡ have_had_rounds report.peers.items) }
+        ensures memory { IfErr result (λ fault. fault ≡ Fault.NoMemory) }
     {
+        let peers = self.peers.statuses(alloc)?;
         Ok(PeersReport {
             counts: self.counts,
-            is_caught_up: self.is_caught_up(),
-            peers: self.peers.statuses(alloc)?,
+            is_caught_up: peers.iter().all(|peer| 0 < peer.round),
+            peers,
         })
     }
 
