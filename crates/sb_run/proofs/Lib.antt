@@ -8,3 +8,4 @@ pub mod Hellos
 pub mod Receiving
 pub mod Paging
 pub mod Arriving
+pub mod StatusPages
