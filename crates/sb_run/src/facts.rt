@@ -1,4 +1,4 @@
-//! What a node tells of itself in numbers.
+//! What a node reports of itself in numbers.
 ghost use Rattle.std.specs.Prelude.{◌≡◌, ◌++◌, OnOk, IfOk, IfErr};
 ghost use Rattle.sb_run.specs.Facts as spec;
 
@@ -9,7 +9,7 @@ use sb_codec::{Figure, FigureKind};
 use sb_types::Fault;
 use std::alloc::Global;
 
-/// What a node tells of itself in numbers.
+/// What a node reports of itself in numbers.
 #[derive(Clone, Copy)]
 pub(crate) struct Facts {
     /// For how long it runs, in milliseconds.

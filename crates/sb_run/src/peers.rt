@@ -38,9 +38,7 @@ impl<'a> Peer<'a> {
     }
 
     /// The number of its last round, from 1; 0 before the first.
-    pub fn round(&self) -> u64
-        ensures { result ≡ self.now.round }
-    {
+    pub fn round(&self) -> u64 {
         self.round
     }
 

@@ -36,8 +36,7 @@ struct HeldCounts {
     conflict: Option<u64>,
 }
 
-/// How many rows the node of this name has, and how many owners it holds: those that the snapshot shows, those at version 0, and
-/// itself.
+/// How many rows the node of this name has, and how many owners it holds. These are the shown ones, those at version 0, and itself.
 fn count_rows_and_owners(snapshot: &Snapshot<'_>, me: &Name, at_zero: &[Name]) -> (u64, u64) {
     let mut rows: u64 = 0;
     let mut owners: u64 = 1;
@@ -56,7 +55,7 @@ fn count_rows_and_owners(snapshot: &Snapshot<'_>, me: &Name, at_zero: &[Name]) -
 }
 
 impl<S: RoundsTag, H: Wait + Drop, Q: Wait + Clock> NodeContext<'_, S, H, Q> {
-    /// What the node says of what it holds. `NoMemory`; `Closed` if the seat may not enter.
+    /// What the node says of what it holds. `NoMemory`; `Closed` if the seat cannot enter.
     fn held_counts(&self, seat: ReaderSeat<S>) -> (ReaderSeat<S>, Result<HeldCounts, Fault>)
         ensures conflict { IfOk result.1 (λ held. held.conflict ≡ (node_after S.opening result.0.last_call).conflict) }
         ensures keys { IfOk result.1 (λ held. IsCounted S.opening result.0.last_call held.keys) }
