@@ -89,6 +89,8 @@
 //! - A worker asks the gate for another session than its own. `a_session_waits_for_another` refuses it.
 //! - `serve_control` answers each question with the number of `Closed`. No clause promises that a seat may enter.
 //!   Tests and `tools/check-node` refuse it.
+//! - The status of a node has a wrong uptime or a wrong count of owners, removals, rounds, workers or troubles. Clauses
+//!   cover its version, its keys, its conflict, and whether it is caught up. Tests and `tools/check-node` refuse it.
 //! - `OwnWrites::put`, `serve_control`, `ask_control`, `serve_pool` or `run_node` never returns. Tests end.
 #![tactic(auto)]
 
