@@ -186,6 +186,7 @@ impl Figure {
         ensures length { result ≡ 9 }
         ensures figure { is_figure self.now ≡ true }
     {
+        let _ = &self.number;
         BYTE_LENGTH + NUMBER_LENGTH
     }
 }
