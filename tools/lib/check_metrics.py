@@ -238,6 +238,7 @@ def metrics_of_few(check):
     owners = ("attrdir_held_version", "attrdir_rows")
     peers = ("attrdir_peer_up", "attrdir_peer_fault", "attrdir_peer_rounds_since")
     other = check.node("b", folder=folder).start()
+    want("a write", other.put("k", 5), 1)
     for options, without in (("--metrics-owners", "none"), owners), (("--metrics-peers", "none"), peers):
         node = check.node("a", "--pause", "10", "--metrics", str(path), *options, folder=folder, peers=[other.sock]).start()
         awaits(path, "a", {("attrdir_owners",): 2}, without=without)

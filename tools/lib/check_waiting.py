@@ -214,7 +214,7 @@ def reads_beside_writes(check):
     for thread in threads:
         thread.join()
     # (a machine that has much else to do is slow at both)
-    if beside > max(0.1, 12 * alone):
+    if beside > max(0.1, 5 * alone):
         raise Difference(f"half of the writes took {beside:.3f} s beside listings, and {alone:.3f} s without")
 
 

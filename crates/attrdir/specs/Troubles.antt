@@ -1,5 +1,5 @@
 -- When a node prints a line about what it suffers.
-use Rattle.std.specs.Prelude.{ℕ, ◌+◌, ◌-◌, min, nat_le, nat_lt, ◌==◌, if◌then◌else◌, Option, Some, None}
+use Rattle.std.specs.Prelude.{ℕ, ◌+◌, ◌-◌, nat_le, nat_lt, ◌==◌, if◌then◌else◌, Option, Some, None}
 
 -- the first line comes at once, and each other one at least a minute after the one before; it reports what happened since then
 abbrev pub due : ℕ → ℕ → ℕ → ℕ → Option ℕ

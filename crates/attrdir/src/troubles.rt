@@ -12,8 +12,13 @@ const LINE_INTERVAL: u64 = 60_000;
 fn due(count: u64, printed: u64, printed_at: u64, now: u64) -> Option<u64>
     ensures { result ≡ spec.due count printed printed_at now }
 {
-    let is_soon = printed != 0 && now < printed_at.saturating_add(LINE_INTERVAL);
-    if count <= printed || is_soon {
+    if count <= printed {
+        return None;
+    }
+    if printed == 0 {
+        return Some(count);
+    }
+    if now.saturating_sub(printed_at) < LINE_INTERVAL {
         return None;
     }
     Some(count - printed)

@@ -14,7 +14,7 @@ pub(crate) struct Delivery {
     is_due: bool,
     /// A session for news with it is under way.
     is_open: bool,
-    /// Its last session took long.
+    /// Its last session took long, or there was none yet.
     is_slow: bool,
 }
 
@@ -39,7 +39,8 @@ pub(crate) struct Deliveries {
 }
 
 impl Deliveries {
-    /// Nothing is due to so many peers. So many of them can be brought news at a time. `NoMemory`.
+    /// Nothing is due to so many peers. So many of them can be brought news at a time. Each counts as slow until a session with
+    /// it was short. `NoMemory`.
     pub(crate) fn new(alloc: Global, count: usize, most: usize) -> Result<Deliveries, Fault>
         ensures memory { IfErr result (λ fault. fault ≡ Fault.NoMemory) }
     {
@@ -48,7 +49,7 @@ impl Deliveries {
             all.push(Delivery {
                 is_due: false,
                 is_open: false,
-                is_slow: false,
+                is_slow: true,
             })?;
         }
         Ok(Deliveries { all, most, turn: 0 })
