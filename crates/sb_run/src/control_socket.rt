@@ -1,6 +1,9 @@
 //! The calling thread of a running node: it answers what callers asked at the control socket, and makes the own writes.
 ghost use Rattle.std.specs.Prelude.{◌≡◌, true, false};
-ghost use Rattle.sb_run.specs.Control.{AnswersTo};
+ghost use Rattle.sb_codec.specs.declared.message.Message.{Message};
+ghost use Rattle.sb_frames.specs.Frames.{frame};
+ghost use Rattle.sb_frames.specs.Sending.{Sends};
+ghost use Rattle.sb_run.specs.Control.{AnswersAll, AnswersTo};
 ghost use Rattle.sb_run.specs.Closing.{seen_by};
 ghost use Rattle.sb_run.specs.Running.{IsOpenedFrom};
 
@@ -19,6 +22,8 @@ use sb_codec::Message;
 use sb_directory::ReaderSeat;
 use sb_frames::send;
 use sb_log::{StoreCause, WriteLog};
+use sb_types::Fault;
+use std::io::Write;
 use std::sync::Wait;
 use std::time::Clock;
 
@@ -33,6 +38,30 @@ pub(crate) struct ControlEnd<S: RoundsTag> {
 }
 
 impl<S: RoundsTag, H: Wait + Drop, Q: Wait + Clock> NodeContext<'_, S, H, Q> {
+    /// Writes the answer to a request: the status of the node to an AskStatus, and the answer of `Serving` to any other request.
+    /// `WriteFailed`, with how many bytes of the answer are written; `NoMemory`, with none.
+    fn write_answer<W: Write, L: WriteLog, O: Observer>(
+        &self,
+        writer: &mut W,
+        dialing: &Dialing<'_, O>,
+        writes: &mut OwnWrites<L>,
+        seat: ReaderSeat<S>,
+        request: &Message,
+    ) -> (ReaderSeat<S>, Result<(), Fault>)
+        ensures answers { (reply : Message) × AnswersAll L.seen S.opening S.settings writes.old.log writes.old.owed seat request.now writes.new.log writes.new.owed result.0 reply
+            × Sends (W.contents writer.old) (W.contents writer.new) (frame reply) result.1 }
+        ensures closes { (L.seen writes.old.log).is_open ≡ true → (L.seen writes.new.log).is_open ≡ false → writes.new.has_failed ≡ true }
+    {
+        match request {
+            Message::AskStatus(asked) => {
+                let (seat, reply) = self.reply_to_ask_status(dialing, asked, seat);
+                let sent = send(self.alloc, writer, &reply);
+                (seat, sent)
+            }
+            other => self.serving().answer_request(writer, writes, seat, other),
+        }
+    }
+
     /// Answers a request, and says whether that ended with a fault. The answer is taken within the node's `request`. If that
     /// limit can't be set, nothing is done.
     fn answer_one<L: WriteLog, O: Observer>(
@@ -52,15 +81,7 @@ impl<S: RoundsTag, H: Wait + Drop, Q: Wait + Clock> NodeContext<'_, S, H, Q> {
             return (seat, true);
         }
         let mut output = Timed::new(self.rt, stream, pace.idle, pace.request);
-        let (seat, sent) = match &message {
-            Message::AskStatus(asked) => {
-                let (seat, reply) = self.reply_to_ask_status(dialing, asked, seat);
-                (seat, send(self.alloc, &mut output, &reply))
-            }
-            request => self
-                .serving()
-                .answer_request(&mut output, writes, seat, request),
-        };
+        let (seat, sent) = self.write_answer(&mut output, dialing, writes, seat, &message);
         (seat, sent.is_err())
     }
 }
