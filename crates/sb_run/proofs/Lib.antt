@@ -9,3 +9,4 @@ pub mod Receiving
 pub mod Paging
 pub mod Arriving
 pub mod StatusPages
+pub mod StatusSeats

@@ -2,7 +2,8 @@
 ghost use Rattle.std.specs.Prelude.{◌≡◌, vec_len, IfOk, IfErr};
 ghost use Rattle.sb_views.specs.Histories.{node_after};
 ghost use Rattle.sb_query.specs.Statuses as pages;
-ghost use Rattle.sb_directory.specs.Serving.{IsLater};
+ghost use Rattle.sb_views.specs.NodeViews.{upto_of};
+ghost use Rattle.sb_directory.specs.Serving.{IsStill, IsLater};
 ghost use Rattle.sb_run.specs.Facts.{figures_of};
 ghost use Rattle.sb_run.specs.StatusReplies as spec;
 ghost use Rattle.sb_run.specs.StatusReplies.{identity_of, IsCounted, IsShownUpTo, IsStatusFault, IsStatusReply};
@@ -23,6 +24,16 @@ use sb_types::{Fault, Name};
 use sb_views::Snapshot;
 use std::sync::Wait;
 use std::time::Clock;
+
+/// What a directory says of its node.
+#[derive(Drop)]
+struct NodeCounts {
+    /// How many keys of its own the node has.
+    keys: u64,
+    conflict: Option<u64>,
+    /// The owners that it holds at version 0.
+    at_zero: Vec<Name>,
+}
 
 /// What a node says of what it holds.
 #[derive(Clone, Copy)]
@@ -54,9 +65,41 @@ fn count_rows_and_owners(snapshot: &Snapshot<'_>, me: &Name, at_zero: &[Name]) -
     (rows, owners)
 }
 
+/// Adds what a snapshot shows of the node of this name.
+fn held_counts(counts: &NodeCounts, snapshot: &Snapshot<'_>, me: &Name) -> HeldCounts
+    ensures version { result.version ≡ upto_of snapshot.now me.now }
+    ensures counts { (result.keys ≡ counts.now.keys) × (result.conflict ≡ counts.now.conflict) }
+{
+    let (rows, owners) = count_rows_and_owners(snapshot, me, &counts.at_zero);
+    HeldCounts {
+        version: snapshot.upto(me),
+        keys: counts.keys,
+        rows,
+        owners,
+        conflict: counts.conflict,
+    }
+}
+
 impl<S: RoundsTag, H: Wait + Drop, Q: Wait + Clock> NodeContext<'_, S, H, Q> {
+    /// What the directory says of its node. `NoMemory`.
+    fn node_counts(&self, seat: &mut ReaderSeat<S>) -> Result<NodeCounts, Fault>
+        ensures conflict { IfOk result (λ counts. counts.conflict ≡ (node_after S.opening seat.new.last_call).conflict) }
+        ensures keys { IfOk result (λ counts. IsCounted S.opening seat.new.last_call counts.keys) }
+        ensures memory { IfErr result (λ fault. fault ≡ Fault.NoMemory) }
+        ensures still { IsStill seat.old seat.new }
+    {
+        let keys = self.directory.keys(self.rt, seat) as u64;
+        let at_zero = owners_at_zero(self, seat)?;
+        let conflict = self.directory.conflict(self.rt, seat);
+        Ok(NodeCounts {
+            keys,
+            conflict,
+            at_zero,
+        })
+    }
+
     /// What the node says of what it holds. `NoMemory`; `Closed` if the seat cannot enter.
-    fn held_counts(&self, seat: ReaderSeat<S>) -> (ReaderSeat<S>, Result<HeldCounts, Fault>)
+    fn count_held(&self, seat: ReaderSeat<S>) -> (ReaderSeat<S>, Result<HeldCounts, Fault>)
         ensures conflict { IfOk result.1 (λ held. held.conflict ≡ (node_after S.opening result.0.last_call).conflict) }
         ensures keys { IfOk result.1 (λ held. IsCounted S.opening result.0.last_call held.keys) }
         ensures version { IfOk result.1 (λ held. IsShownUpTo S.opening result.0.seen held.version) }
@@ -64,28 +107,17 @@ impl<S: RoundsTag, H: Wait + Drop, Q: Wait + Clock> NodeContext<'_, S, H, Q> {
         ensures later { IsLater seat result.0 }
     {
         let mut seat = seat;
-        let keys = self.directory.keys(self.rt, &mut seat) as u64;
-        let at_zero = match owners_at_zero(self, &mut seat) {
-            Ok(owners) => owners,
+        let counts = match self.node_counts(&mut seat) {
+            Ok(counts) => counts,
             Err(fault) => return (seat, Err(fault)),
         };
-        let conflict = self.directory.conflict(self.rt, &mut seat);
-        let entered = match seat.enter() {
-            Ok(entered) => entered,
-            Err(seat) => return (seat, Err(Fault::Closed)),
-        };
-        let me = self.directory.name();
-        let snapshot = entered.snapshot();
-        let version = snapshot.upto(me);
-        let (rows, owners) = count_rows_and_owners(&snapshot, me, &at_zero);
-        let held = HeldCounts {
-            version,
-            keys,
-            rows,
-            owners,
-            conflict,
-        };
-        (entered.leave(), Ok(held))
+        match seat.enter() {
+            Ok(entered) => {
+                let held = held_counts(&counts, &entered.snapshot(), self.directory.name());
+                (entered.leave(), Ok(held))
+            }
+            Err(seat) => (seat, Err(Fault::Closed)),
+        }
     }
 
     /// All that the node says of itself: of what it holds, of its peers, and what its threads counted.
@@ -154,7 +186,7 @@ impl<S: RoundsTag, H: Wait + Drop, Q: Wait + Clock> NodeContext<'_, S, H, Q> {
             Ok(report) => report,
             Err(fault) => return (seat, refused_by(fault)),
         };
-        let (seat, held) = match self.held_counts(seat) {
+        let (seat, held) = match self.count_held(seat) {
             (seat, Ok(held)) => (seat, held),
             (seat, Err(fault)) => return (seat, refused_by(fault)),
         };
