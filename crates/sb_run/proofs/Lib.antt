@@ -10,3 +10,4 @@ pub mod Paging
 pub mod Arriving
 pub mod StatusPages
 pub mod StatusSeats
+pub mod StatusTexts

@@ -5,6 +5,7 @@ ghost use Rattle.sb_run.specs.StatusReplies as spec;
 use sb_types::ShortText;
 
 /// What a status has in place of a text that is not a short one.
+#[tactic(auto, using(crate::proofs::StatusTexts::dash_fits))]
 fn dash() -> ShortText
     ensures { result ≡ spec.dash }
 {
