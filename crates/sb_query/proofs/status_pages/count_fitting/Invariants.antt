@@ -1,6 +1,6 @@
 use Rattle.std.proofs.Common.{◌≡◌, ◌++◌, take, drop}
 use Rattle.sb_query.specs.Statuses.{fitting}
-use Rattle.sb_query.proofs.status_page.count_fitting.Given as goal
+use Rattle.sb_query.proofs.status_pages.count_fitting.Given as goal
 
 abbrev pub invariant-loop-peer : goal.invariant-loop-peer
 invariant-loop-peer l =
