@@ -1,7 +1,7 @@
 //! The peers of a node, and whose turn it is to be dialed.
 ghost use Rattle.std.specs.Prelude.{◌≡◌, ◌≢◌, ◌+◌, ◌-◌, ◌<◌, ℕ, ◌&&◌, not, false, true, nat_lt, map, None, Some, slice_get, vec_len, IfSome, IfOk, IfErr};
 ghost use Rattle.sb_run.specs.Turns as spec;
-ghost use Rattle.sb_run.specs.StatusReplies as statuses;
+ghost use Rattle.sb_run.specs.StatusReplies as replies;
 
 use crate::observer::Observer;
 use crate::peer_state::PeerState;
@@ -44,7 +44,7 @@ impl<'a> Peer<'a> {
 
     /// How it is, as the status of a node has it.
     fn status(&self) -> PeerStatus
-        ensures { result ≡ statuses.peer_status self.now }
+        ensures { result ≡ replies.peer_status self.now }
     {
         PeerStatus {
             path: short_text(self.path),
@@ -247,7 +247,7 @@ impl<'a> Peers<'a> {
 
     /// How each of them is, as the status of a node has it. `NoMemory`.
     pub(crate) fn statuses(&self, alloc: Global) -> Result<Vec<PeerStatus>, Fault>
-        ensures statuses { IfOk result (λ all. all.items ≡ map statuses.peer_status self.now.all.items) }
+        ensures statuses { IfOk result (λ all. all.items ≡ map replies.peer_status self.now.all.items) }
         ensures memory { IfErr result (λ fault. fault ≡ Fault.NoMemory) }
     {
         let mut statuses = Vec::with_capacity(alloc, self.all.len())?;
