@@ -142,7 +142,7 @@ def busy_workers(check):
     for at, peer in enumerate(peers):
         peer.sendall(hello(f"b{at}"))
         read_frame(peer)
-    awaits(path, "a", {("attrdir_workers",): 2, ("attrdir_workers_busy",): 2, ("attrdir_all_workers_busy_total",): 0})
+    awaits(path, "a", {("attrdir_workers",): 2, ("attrdir_workers_busy",): 2})
     awaits(path, "a", {("attrdir_all_workers_busy_total",): 1})
     said = "attrdir: warning node a: times that all workers were busy for longer than a second: 1; give it more --workers, or end silent peers"
     awaits_line(node, said)

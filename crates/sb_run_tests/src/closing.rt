@@ -1,7 +1,4 @@
 //! A node whose log takes no more writes: it is closed when the node starts, or its file is lost.
-ghost use Rattle.std.specs.Prelude.{◌≡◌, [], false};
-ghost use Rattle.sb_table.specs.Plain.{plain_table};
-
 use crate::making::{name, new_log, settings};
 use crate::peers::{next_of, reach, serve_as_b};
 use crate::running::{Host, is_there, pace, paths_of};
@@ -17,7 +14,6 @@ use sb_testing::wire::PUT;
 use sb_types::{Fault, Key, Name, Slot};
 use std::alloc::Global;
 use std::io::{Read, Write};
-use std::marker::Model;
 use std::net::{Net, TcpListener, TcpStream};
 use std::os::unix::net::UnixListener;
 use std::process::Abort;
@@ -34,23 +30,14 @@ struct FullDisk {
     cluster: Name,
 }
 
-impl Model for FullDisk {
-    ghost use Rattle.std.specs.Prelude.{[], false};
-    ghost use Rattle.sb_table.specs.Plain.{plain_table};
-    ghost use Rattle.sb_log.specs.Records as records;
-
-    ghost Value = { records.Log };
-
-    ghost view = { λ l. record { owner = l.owner; cluster = l.cluster; most = 1; content = plain_table []; is_open = false; is_clean = false; is_sure = false } };
-}
-
 impl WriteLog for FullDisk {
-    ghost use Rattle.std.specs.Prelude.{◌≡◌, Some};
+    ghost use Rattle.std.specs.Prelude.{◌≡◌, Some, [], false};
+    ghost use Rattle.sb_table.specs.Plain.{plain_table};
     ghost use Rattle.sb_log.specs.declared.cause.StoreCause.TheVariants.{NoSpace};
 
-    ghost seen = { λ l. l };
+    ghost seen = { λ l. record { owner = l.owner; cluster = l.cluster; most = 1; content = plain_table []; is_open = false; is_clean = false; is_sure = false } };
 
-    ghost leaves = { λ l left. left ≡ l.content };
+    ghost leaves = { λ l left. left ≡ plain_table [] };
 
     ghost why = { λ l. Some NoSpace };
 

@@ -50,6 +50,16 @@ impl<R: Wait + Abort> Observer for States<'_, R> {
     fn conflict(&self, _version: u64) {}
 }
 
+/// Tests that the node reported these peers and no others, in this order.
+fn reported_these<R: Wait + Abort>(states: &States<R>, wanted: &[(Option<u8>, PeerState)]) {
+    let all = states.all.lock(states.rt);
+    holds(
+        states.rt,
+        "each peer is reported once",
+        all.as_slice() == wanted,
+    );
+}
+
 /// Serves the next connection of a listener as b. Returns how that ended, and how far b holds a then.
 fn serve_next(rt: &impl Abort, alloc: Global, listener: &UnixListener) -> (Ended, u64) {
     let mut of_b = silent_b(rt, alloc);
@@ -63,11 +73,10 @@ fn serve_next(rt: &impl Abort, alloc: Global, listener: &UnixListener) -> (Ended
 fn hear_beside_a_silent_peer<R: Net + Clock + Abort>(
     rt: &R,
     alloc: Global,
-    silent: &UnixListener,
-    first: &UnixListener,
-    second: &UnixListener,
+    listeners: &[UnixListener; 3],
     control: &str,
 ) -> ([(Ended, u64); 2], bool) {
+    let [silent, first, second] = listeners;
     let unanswered = next_of(rt, silent);
     let began = got(rt, Instant::now(rt));
     holds(rt, "the write is done", put_is_done(rt, control));
@@ -86,9 +95,11 @@ fn a_silent_peer_delays_the_news_to_itself_alone(rt: HostRuntime) {
         &["side.silent", "side.b", "side.c"],
     );
     let alloc = rt.alloc();
-    let silent = got(&rt, UnixListener::bind(&rt, "side.silent"));
-    let of_b = got(&rt, UnixListener::bind(&rt, "side.b"));
-    let of_c = got(&rt, UnixListener::bind(&rt, "side.c"));
+    let listeners = [
+        got(&rt, UnixListener::bind(&rt, "side.silent")),
+        got(&rt, UnixListener::bind(&rt, "side.b")),
+        got(&rt, UnixListener::bind(&rt, "side.c")),
+    ];
     let states = States {
         rt: &rt,
         all: Mutex::new(Vec::new(alloc)),
@@ -99,7 +110,7 @@ fn a_silent_peer_delays_the_news_to_itself_alone(rt: HostRuntime) {
     let (ran, (ends, was_soon)) = thread::join(
         &rt,
         || run_side_by_side(&rt, alloc, &paths, pace, &states),
-        || hear_beside_a_silent_peer(&rt, alloc, &silent, &of_b, &of_c, "side.control"),
+        || hear_beside_a_silent_peer(&rt, alloc, &listeners, "side.control"),
     );
     for path in ["side.silent", "side.b", "side.c"] {
         got(&rt, fs::remove_file(&rt, path));
@@ -113,8 +124,7 @@ fn a_silent_peer_delays_the_news_to_itself_alone(rt: HostRuntime) {
         (Some(b'c'), PeerState::Answers),
         (Some(b't'), PeerState::Down(DownReason::Silent)),
     ];
-    let told = states.all.lock(&rt).as_slice() == wanted.as_slice();
-    holds(&rt, "each peer was told once", told);
+    reported_these(&states, wanted.as_slice());
 }
 
 /// Is dialed as b in turn and for news. While it lets that wait, the owner writes twice more, and nobody else dials. Returns how

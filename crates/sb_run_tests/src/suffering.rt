@@ -2,16 +2,16 @@
 
 use crate::making::{key, name, new_log, settings, weight};
 use crate::peers::{hears_only, next_of, reach, talk};
-use crate::running::{answer_by, pace, paths_of};
+use crate::running::{Host, answer_by, pace, paths_of};
 use crate::waking::silent_b;
 use crate::{got, same};
 use sb_log::{PlainLog, WriteLog};
-use sb_run::{NodeConfig, Observer, Paths, PeerState, Status, Troubles, run_node};
+use sb_run::{NodeConfig, Observer, Paths, PeerState, Ran, Status, Troubles, run_node};
 use sb_testing::wire::PUT;
-use sb_types::KEYS_MOST;
+use sb_types::{Fault, KEYS_MOST};
 use std::alloc::Global;
 use std::io::{Read, Write};
-use std::net::{Net, Shutdown};
+use std::net::{Net, Shutdown, TcpListener, TcpStream};
 use std::os::unix::net::UnixListener;
 use std::process::Abort;
 use std::sync::{Mutex, Wait};
@@ -79,6 +79,22 @@ impl<R: Wait + Abort> Observer for Nurse<'_, R> {
     }
 }
 
+/// Runs the node a over a log, until it has made a round.
+fn run_once<R: Host + Net<Listener = TcpListener, Stream = TcpStream>>(
+    rt: &R,
+    alloc: Global,
+    paths: &Paths,
+    log: PlainLog,
+    nurse: &Nurse<'_, R>,
+) -> Result<Ran, Fault> {
+    let config = NodeConfig {
+        settings: settings(rt, 3),
+        paths: *paths,
+        pace: pace(1, 0),
+    };
+    run_node(rt, alloc, config, log, nurse)
+}
+
 /// Calls as a peer of another version, and hears until the node hangs up.
 fn call_as_before<R: Net + Abort>(rt: &R, sock: &str) -> bool {
     let mut stream = reach(rt, sock);
@@ -130,14 +146,9 @@ fn a_node_counts_what_it_suffers(rt: HostRuntime) {
     let alloc = rt.alloc();
     let nurse = new_nurse(&rt, 1);
     let listener = got(&rt, UnixListener::bind(&rt, "ill.b"));
-    let config = NodeConfig {
-        settings: settings(&rt, 3),
-        paths,
-        pace: pace(1, 0),
-    };
     let (ran, done) = thread::join(
         &rt,
-        || run_node(&rt, alloc, config, full_log(&rt, alloc), &nurse),
+        || run_once(&rt, alloc, &paths, full_log(&rt, alloc), &nurse),
         || disturb(&rt, alloc, &listener, &paths),
     );
     got(&rt, fs::remove_file(&rt, "ill.b"));
@@ -164,15 +175,9 @@ fn a_node_names_owners_of_whom_it_holds_nothing_yet(rt: HostRuntime) {
     let alloc = rt.alloc();
     let nurse = new_nurse(&rt, 1);
     let listener = got(&rt, UnixListener::bind(&rt, "zero.b"));
-    let config = NodeConfig {
-        settings: settings(&rt, 3),
-        paths,
-        pace: pace(1, 0),
-    };
-    let log = new_log(&rt, alloc, b"a");
     let (ran, ()) = thread::join(
         &rt,
-        || run_node(&rt, alloc, config, log, &nurse),
+        || run_once(&rt, alloc, &paths, new_log(&rt, alloc, b"a"), &nurse),
         || answer_by(&rt, &listener, STAGE_OF_C),
     );
     got(&rt, fs::remove_file(&rt, "zero.b"));
