@@ -29,6 +29,7 @@ METRICS = {
     "attrdir_log_open": ("gauge", ()),
     "attrdir_log_fault": ("gauge", ("cause",)),
     "attrdir_name_conflict": ("gauge", ()),
+    "attrdir_caught_up": ("gauge", ()),
     "attrdir_keys": ("gauge", ()),
     "attrdir_keys_limit": ("gauge", ()),
     "attrdir_removals": ("gauge", ()),

@@ -4,6 +4,7 @@ use crate::log_file::DroppedRemovals;
 use crate::log_watch::LogWatch;
 use crate::metrics::{Metrics, Series};
 use crate::metrics_file::MetricsFile;
+use crate::release::RELEASE;
 use crate::troubles::TroubleLines;
 use jiff::Timestamp;
 use sb_run::{LogCause, LogLoss, Observer, PeerState, Status};
@@ -247,6 +248,10 @@ impl Console<'_, '_> {
 }
 
 impl Observer for Console<'_, '_> {
+    fn release(&self) -> &str {
+        RELEASE
+    }
+
     fn listening(&self) {
         let (rt, head) = (self.rt, self.head(Level::Info));
         let _ = eprintln!(rt;

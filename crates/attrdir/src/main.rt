@@ -45,6 +45,7 @@ mod part;
 mod pausing;
 mod release;
 mod serving;
+mod status;
 mod troubles;
 mod watching;
 mod words;

@@ -146,6 +146,12 @@ const NAME_CONFLICT: Metric = Metric {
     help: "1 where another node writes under its name, else 0.",
 };
 
+const CAUGHT_UP: Metric = Metric {
+    name: "attrdir_caught_up",
+    kind: "gauge",
+    help: "1 if each of its peers has had a round that ended since it started, else 0.",
+};
+
 const KEYS: Metric = Metric {
     name: "attrdir_keys",
     kind: "gauge",
@@ -381,7 +387,8 @@ impl Metrics<'_, '_> {
         self.write_one(f, &BUSY_TIMES, troubles.busy_times)?;
         self.write_one(f, &LOG_OPEN, u64::from(status.log_cause.is_none()))?;
         self.write_log_fault(f)?;
-        self.write_one(f, &NAME_CONFLICT, u64::from(status.conflict.is_some()))
+        self.write_one(f, &NAME_CONFLICT, u64::from(status.conflict.is_some()))?;
+        self.write_one(f, &CAUGHT_UP, u64::from(status.is_caught_up))
     }
 
     /// How many of its own keys are removed: those without a row in the snapshot.

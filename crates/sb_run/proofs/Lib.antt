@@ -8,3 +8,6 @@ pub mod Hellos
 pub mod Receiving
 pub mod Paging
 pub mod Arriving
+pub mod StatusPages
+pub mod StatusSeats
+pub mod StatusTexts

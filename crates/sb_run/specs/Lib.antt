@@ -13,3 +13,5 @@ pub mod News
 pub mod Together
 pub mod Closing
 pub mod LogCauses
+pub mod Facts
+pub mod StatusReplies

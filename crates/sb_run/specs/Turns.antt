@@ -69,6 +69,21 @@ with_session ended peer = record {
   misses = misses_after ended peer.misses;
 }
 
+-- the number of the state of a peer, in the status of a node
+abbrev pub code_of_reason : DownReason → ℕ
+code_of_reason Unreachable = 2
+code_of_reason Silent = 3
+code_of_reason ReadFailed = 4
+code_of_reason HungUp = 5
+code_of_reason BrokenOff = 6
+code_of_reason EndedEarly = 7
+
+abbrev pub code_of : PeerState → ℕ
+code_of Never = 0
+code_of Answers = 1
+code_of (Down reason) = code_of_reason reason
+code_of (Failed fault) = 32 + number_of fault
+
 -- by such a fault a Hello, or the frame in which it comes, is refused
 abbrev pub is_refusal : Fault → Bool
 is_refusal faults.BadVersion = true

@@ -1,12 +1,16 @@
 //! The calling thread of a running node: it answers what callers asked at the control socket, and makes the own writes.
 ghost use Rattle.std.specs.Prelude.{◌≡◌, true, false};
-ghost use Rattle.sb_run.specs.Control.{AnswersTo};
+ghost use Rattle.sb_codec.specs.declared.message.Message.{Message};
+ghost use Rattle.sb_frames.specs.Frames.{frame};
+ghost use Rattle.sb_frames.specs.Sending.{Sends};
+ghost use Rattle.sb_run.specs.Control.{AnswersAll, AnswersTo};
 ghost use Rattle.sb_run.specs.Closing.{seen_by};
 ghost use Rattle.sb_run.specs.Running.{IsOpenedFrom};
 
 use crate::arrivals::{Request, Requests};
 use crate::closable::ClosableLog;
 use crate::context::NodeContext;
+use crate::dialer::Dialing;
 use crate::log_cause::LogCause;
 use crate::node::OnLogFault;
 use crate::observer::Observer;
@@ -14,8 +18,12 @@ use crate::own_writes::OwnWrites;
 use crate::rounds::RoundsTag;
 use crate::sockets::limit;
 use crate::timed::Timed;
+use sb_codec::Message;
 use sb_directory::ReaderSeat;
+use sb_frames::send;
 use sb_log::{StoreCause, WriteLog};
+use sb_types::Fault;
+use std::io::Write;
 use std::sync::Wait;
 use std::time::Clock;
 
@@ -30,17 +38,42 @@ pub(crate) struct ControlEnd<S: RoundsTag> {
 }
 
 impl<S: RoundsTag, H: Wait + Drop, Q: Wait + Clock> NodeContext<'_, S, H, Q> {
+    /// Writes the answer to a request: the status of the node to an AskStatus, and the answer of `Serving` to any other request.
+    /// `WriteFailed`, with how many bytes of the answer are written; `NoMemory`, with none.
+    fn write_answer<W: Write, L: WriteLog, O: Observer>(
+        &self,
+        writer: &mut W,
+        dialing: &Dialing<'_, O>,
+        writes: &mut OwnWrites<L>,
+        seat: ReaderSeat<S>,
+        request: &Message,
+    ) -> (ReaderSeat<S>, Result<(), Fault>)
+        ensures answers { (reply : Message) × AnswersAll L.seen S.opening S.settings writes.old.log writes.old.owed seat request.now writes.new.log writes.new.owed result.0 reply
+            × Sends (W.contents writer.old) (W.contents writer.new) (frame reply) result.1 }
+        ensures closes { (L.seen writes.old.log).is_open ≡ true → (L.seen writes.new.log).is_open ≡ false → writes.new.has_failed ≡ true }
+    {
+        match request {
+            Message::AskStatus(asked) => {
+                let (seat, reply) = self.reply_to_ask_status(dialing, asked, seat);
+                let sent = send(self.alloc, writer, &reply);
+                (seat, sent)
+            }
+            other => self.serving().answer_request(writer, writes, seat, other),
+        }
+    }
+
     /// Answers a request, and says whether that ended with a fault. The answer is taken within the node's `request`. If that
     /// limit can't be set, nothing is done.
-    fn answer_one<L: WriteLog>(
+    fn answer_one<L: WriteLog, O: Observer>(
         &self,
+        dialing: &Dialing<'_, O>,
         writes: &mut OwnWrites<L>,
         request: Request,
         seat: ReaderSeat<S>,
     ) -> (ReaderSeat<S>, bool)
         ensures closes { (L.seen writes.old.log).is_open ≡ true → (L.seen writes.new.log).is_open ≡ false → writes.new.has_failed ≡ true }
         // This request was answered, or nothing came of it, which is a fault.
-        ensures answers { AnswersTo L.seen S.opening S.settings.budget writes.old.log writes.old.owed seat request.message writes.new.log writes.new.owed result.0 result.1 }
+        ensures answers { AnswersTo L.seen S.opening S.settings writes.old.log writes.old.owed seat request.message writes.new.log writes.new.owed result.0 result.1 }
     {
         let Request { message, stream } = request;
         let pace = &self.pace;
@@ -48,8 +81,7 @@ impl<S: RoundsTag, H: Wait + Drop, Q: Wait + Clock> NodeContext<'_, S, H, Q> {
             return (seat, true);
         }
         let mut output = Timed::new(self.rt, stream, pace.idle, pace.request);
-        let serving = self.serving();
-        let (seat, sent) = serving.answer_request(&mut output, writes, seat, &message);
+        let (seat, sent) = self.write_answer(&mut output, dialing, writes, seat, &message);
         (seat, sent.is_err())
     }
 }
@@ -112,12 +144,13 @@ impl<S: RoundsTag, H: Wait + Drop, Q: Wait + Clock> NodeContext<'_, S, H, Q> {
         requests: Requests,
         writes: OwnWrites<ClosableLog<L>>,
         seat: ReaderSeat<S>,
-        observer: &O,
+        dialing: &Dialing<'_, O>,
     ) -> ControlEnd<S>
         requires opened { IsOpenedFrom (seen_by (L.seen writes.log.log) writes.log.closed_by) S.opening }
         ensures exits { result.has_left ≡ true → self.now.pace.on_log_fault ≡ OnLogFault.Exit }
         ensures failed { writes.has_failed ≡ true → self.now.pace.on_log_fault ≡ OnLogFault.Exit → result.has_left ≡ true }
     {
+        let observer = dialing.observer();
         let (mut writes, mut current) = (writes, seat);
         let mut faults: u64 = 0;
         if self.ends_with_log(&mut writes, observer) {
@@ -137,7 +170,7 @@ impl<S: RoundsTag, H: Wait + Drop, Q: Wait + Clock> NodeContext<'_, S, H, Q> {
                 };
             };
             self.close_lost_log(&mut writes, observer);
-            let (seat, failed) = self.answer_one(&mut writes, request, current);
+            let (seat, failed) = self.answer_one(dialing, &mut writes, request, current);
             current = seat;
             faults = faults.saturating_add(u64::from(failed));
             if self.ends_with_log(&mut writes, observer) {

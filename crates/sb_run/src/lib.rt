@@ -94,6 +94,8 @@
 //! - A worker asks the gate for another session than its own. `a_session_waits_for_another` refuses it.
 //! - `serve_control` answers each question with the number of `Closed`. No clause promises that a seat may enter.
 //!   Tests and `tools/check-node` refuse it.
+//! - The status of a node has a wrong uptime or a wrong count of owners, removals, rounds, workers or troubles. Clauses
+//!   cover its version, its keys, its conflict, and whether it is caught up. Tests and `tools/check-node` refuse it.
 //! - `OwnWrites::put`, `serve_control`, `ask_control`, `serve_pool` or `run_node` never returns. Tests end.
 #![tactic(auto)]
 
@@ -112,6 +114,7 @@ mod delivery;
 mod dialer;
 mod dialing;
 mod ending;
+mod facts;
 mod first_message;
 mod gate;
 mod greeting;
@@ -137,6 +140,8 @@ mod seats;
 mod serving;
 mod sockets;
 mod status;
+mod status_reply;
+mod status_texts;
 mod tagged;
 mod threads;
 mod timed;

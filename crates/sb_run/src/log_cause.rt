@@ -36,7 +36,7 @@ impl LogCause {
     }
 
     /// The cause of this number; none if there is no such cause.
-    pub(crate) fn from_number(number: u64) -> Option<LogCause>
+    pub fn from_number(number: u64) -> Option<LogCause>
         ensures { result ≡ spec.log_cause_numbered number }
     {
         match number {

@@ -64,6 +64,11 @@ pub trait Observer {
         None
     }
 
+    /// The release of the program that runs the node, for whoever asks how the node is.
+    fn release(&self) -> &str {
+        "-"
+    }
+
     /// Whether it wants to know how the node is.
     fn wants_status(&self) -> bool {
         false

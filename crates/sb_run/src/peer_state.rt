@@ -36,6 +36,22 @@ impl DownReason {
     }
 }
 
+impl DownReason {
+    /// The number of the state of a peer that is down so, in the status of a node.
+    fn code(&self) -> u8
+        ensures { result ≡ spec.code_of_reason self.now }
+    {
+        match self {
+            DownReason::Unreachable => 2,
+            DownReason::Silent => 3,
+            DownReason::ReadFailed => 4,
+            DownReason::HungUp => 5,
+            DownReason::BrokenOff => 6,
+            DownReason::EndedEarly => 7,
+        }
+    }
+}
+
 impl fmt::Display for DownReason {
     fn fmt<W: fmt::Write>(&self, f: &mut fmt::Formatter<W>) -> fmt::Result {
         f.write_str(match self {
@@ -100,6 +116,18 @@ impl PeerState {
             PeerState::Never | PeerState::Answers => 0,
             PeerState::Down(reason) => reason.number(),
             PeerState::Failed(fault) => fault.number(),
+        }
+    }
+
+    /// The number of the state in the status of a node.
+    pub(crate) fn code(&self) -> u8
+        ensures { result ≡ spec.code_of self.now }
+    {
+        match self {
+            PeerState::Never => 0,
+            PeerState::Answers => 1,
+            PeerState::Down(reason) => reason.code(),
+            PeerState::Failed(fault) => 32 + fault.number(),
         }
     }
 

@@ -1,9 +1,12 @@
 //! The peers of a node, and whose turn it is to be dialed.
 ghost use Rattle.std.specs.Prelude.{◌≡◌, ◌≢◌, ◌+◌, ◌-◌, ◌<◌, ℕ, ◌&&◌, not, false, true, nat_lt, map, None, Some, slice_get, vec_len, IfSome, IfOk, IfErr};
 ghost use Rattle.sb_run.specs.Turns as spec;
+ghost use Rattle.sb_run.specs.StatusReplies as replies;
 
 use crate::observer::Observer;
 use crate::peer_state::PeerState;
+use crate::status_texts::short_text;
+use sb_codec::PeerStatus;
 use sb_types::Fault;
 use std::alloc::Global;
 
@@ -43,6 +46,17 @@ impl<'a> Peer<'a> {
     /// The number of its last round, from 1; 0 before the first.
     pub fn round(&self) -> u64 {
         self.round
+    }
+
+    /// How it is, as the status of a node has it.
+    fn status(&self) -> PeerStatus
+        ensures { result ≡ replies.peer_status self.now }
+    {
+        PeerStatus {
+            path: short_text(self.path),
+            state: self.state.code(),
+            round: self.round,
+        }
     }
 
     /// Takes down how its round of this number ended, and whether it kept the node waiting. Says whether the peer is otherwise
@@ -256,6 +270,18 @@ impl<'a> Peers<'a> {
             Some(peer) => peer.takes_news(),
             None => false,
         }
+    }
+
+    /// How each of them is, as the status of a node has it. `NoMemory`.
+    pub(crate) fn statuses(&self, alloc: Global) -> Result<Vec<PeerStatus>, Fault>
+        ensures statuses { IfOk result (λ all. all.items ≡ map replies.peer_status self.now.all.items) }
+        ensures memory { IfErr result (λ fault. fault ≡ Fault.NoMemory) }
+    {
+        let mut statuses = Vec::with_capacity(alloc, self.all.len())?;
+        for peer in &self.all {
+            statuses.push(peer.status())?;
+        }
+        Ok(statuses)
     }
 
     /// All of them, in the order of their paths.

@@ -15,7 +15,7 @@ use std::time::Clock;
 
 /// The owners that the node holds at version 0, in ascending order: those with nothing but a stage, and itself before its first
 /// write. `NoMemory`.
-fn owners_at_zero<S: RoundsTag, H: Wait + Drop, Q: Wait>(
+pub(crate) fn owners_at_zero<S: RoundsTag, H: Wait + Drop, Q: Wait>(
     node: &NodeContext<S, H, Q>,
     seat: &mut ReaderSeat<S>,
 ) -> Result<Vec<Name>, Fault>
@@ -63,6 +63,7 @@ impl<S: RoundsTag, H: Wait + Drop, Q: Wait + Clock> NodeContext<'_, S, H, Q> {
                     faults: counts.faults,
                     pushes: self.counts.push_counts(),
                     sessions: self.counts.sessions(),
+                    is_caught_up: peers.iter().all(|peer| 0 < peer.round()),
                     uptime,
                     workers: self.directory.settings().workers(),
                     busy_workers: self.counts.busy_workers(),

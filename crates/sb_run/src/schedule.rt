@@ -1,6 +1,7 @@
 //! Whom to dial next, and the rounds that were made: what the threads that dial share, under one lock.
-ghost use Rattle.std.specs.Prelude.{◌≡◌, true, false, None, IfSome, IfErr};
+ghost use Rattle.std.specs.Prelude.{◌≡◌, true, false, None, IfSome, IfOk, IfErr};
 ghost use Rattle.sb_run.specs.Deliveries as spec;
+ghost use Rattle.sb_run.specs.StatusReplies.{have_had_rounds};
 
 use crate::bell::Bell;
 use crate::delivery::Deliveries;
@@ -9,6 +10,7 @@ use crate::node::Pace;
 use crate::observer::Observer;
 use crate::peer_state::PeerState;
 use crate::peers::{Peer, Peers};
+use sb_codec::PeerStatus;
 use sb_types::Fault;
 use std::alloc::Global;
 use std::time::{Clock, Instant};
@@ -52,6 +54,15 @@ pub(crate) struct RoundCounts {
     pub(crate) ended: u64,
     /// How many of these had a fault.
     pub(crate) faults: u64,
+}
+
+/// What the status of a node says of its rounds and its peers.
+#[derive(Drop)]
+pub(crate) struct PeersReport {
+    pub(crate) counts: RoundCounts,
+    /// Whether each peer has had a round that ended.
+    pub(crate) is_caught_up: bool,
+    pub(crate) peers: Vec<PeerStatus>,
 }
 
 /// Whom to dial next, and the rounds that were made.
@@ -264,6 +275,19 @@ impl<'a> Schedule<'a> {
             copies.push(*peer)?;
         }
         Ok(copies)
+    }
+
+    /// What the status of a node says of its rounds and its peers. `NoMemory`.
+    pub(crate) fn peers_report(&self, alloc: Global) -> Result<PeersReport, Fault>
+        ensures caught_up { IfOk result (λ report. report.is_caught_up ≡ have_had_rounds report.peers.items) }
+        ensures memory { IfErr result (λ fault. fault ≡ Fault.NoMemory) }
+    {
+        let peers = self.peers.statuses(alloc)?;
+        Ok(PeersReport {
+            counts: self.counts,
+            is_caught_up: peers.iter().all(|peer| 0 < peer.round),
+            peers,
+        })
     }
 
     /// Which rounds were made; copies how the peers are over an older copy.

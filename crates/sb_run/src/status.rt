@@ -16,6 +16,8 @@ pub struct Status<'a> {
     pub pushes: PushCounts,
     /// How many connections of peers it took.
     pub sessions: u64,
+    /// Whether each of its peers has had a round that ended since it started.
+    pub is_caught_up: bool,
     /// For how long it runs, in milliseconds.
     pub uptime: u64,
     /// How many workers serve its peers and answer questions, and how many of them are busy.

@@ -278,7 +278,7 @@ impl<'a, O: Observer + Sync> Dialing<'a, O> {
             serving.join(node.rt);
             return Err(Fault::NoMemory);
         };
-        let at_control = node.answer_requests(requests, writes, control, self.observer());
+        let at_control = node.answer_requests(requests, writes, control, self);
         let rounds = rounds_receiver.receive(node.rt);
         let dialed = dialing.join(node.rt);
         let (pooled, of_accepting) = serving.join(node.rt);

@@ -33,6 +33,8 @@ mod silence;
 #[cfg(test)]
 mod starting;
 #[cfg(test)]
+mod statuses;
+#[cfg(test)]
 mod suffering;
 #[cfg(test)]
 mod telling;
