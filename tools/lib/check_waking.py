@@ -113,28 +113,6 @@ def silent_peers(check):
     silent.door.close()
 
 
-def silent_callers(check):
-    """Callers at the control socket that say nothing, or a byte now and then, hold it for --request alone."""
-    node = check.node("a", "--request", "500").start()
-    silent = [connect(node.control) for _ in range(4)]
-    began = time.monotonic()
-    want("a write", node.put("k", 5), 1)
-    if not 1.5 <= time.monotonic() - began <= 6:
-        raise Difference(f"four silent callers delayed a write by {time.monotonic() - began:.2f} s")
-    request, began = put("k", weight(6)), time.monotonic()
-    with connect(node.control) as slow:
-        try:
-            for at in range(len(request)):
-                slow.sendall(request[at : at + 1])
-                time.sleep(0.1)
-            raise Difference("a request that took 1.8 s was taken whole")
-        except OSError:
-            pass
-    want("a write behind a slow caller", node.put("k", 7), 2)
-    for stream in silent:
-        stream.close()
-
-
 def without_room():
     """No file of this process gets longer than 400,000 bytes, and a write that would fails."""
     signal.signal(signal.SIGXFSZ, signal.SIG_IGN)
@@ -256,4 +234,4 @@ def times(check):
     want("how its lines begin", [bool(re.match(moment, it)) for it in said], [True, True])
 
 
-PARTS = (news, faulty_peers, silent_peers, silent_callers, full_disks, small_disks, no_descriptors, left_sockets, times)
+PARTS = (news, faulty_peers, silent_peers, full_disks, small_disks, no_descriptors, left_sockets, times)

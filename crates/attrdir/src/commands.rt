@@ -353,13 +353,24 @@ const FANOUT: Part = Part {
     help: "How many peers the node dials right away, one after another, if it has news, 0 for none",
 };
 
-/// Greater: A silent peer that has dialed holds a worker for longer.
+/// A connection that has said nothing yet holds no worker.
+/// Greater: A peer that falls silent in its session holds a worker for longer.
 /// Smaller: A peer over a slow link is cut off.
 const IDLE: Part = Part {
     name: "idle",
-    kind: Kind::NumberOr(Range::Any, "30000"),
+    kind: Kind::NumberOr(Range::Any, "5000"),
     value: "MS",
     help: "After how many milliseconds without a byte the node ends a connection, 0 for never",
+};
+
+/// A peer that sends a byte now and then is ended by this alone.
+/// Greater: A slow peer holds a worker for longer.
+/// Smaller: A long session over a slow link is cut off.
+const SESSION: Part = Part {
+    name: "session",
+    kind: Kind::NumberOr(Range::Any, "60000"),
+    value: "MS",
+    help: "After how many milliseconds the node ends the session of a peer that has dialed, 0 for no limit",
 };
 
 /// A peer that made the node wait so long is passed over in its next seven turns. See
@@ -373,7 +384,8 @@ const DIAL_IDLE: Part = Part {
     help: "After how many milliseconds without a byte it gives up a peer that it dials, 0 for never",
 };
 
-/// Greater: A silent caller holds the control socket for longer.
+/// A caller that is slow holds up nobody else. At most 1,024 wait at a socket; then the oldest that sent nothing is closed.
+/// Greater: A silent caller is closed later.
 /// Smaller: A slow caller is cut off.
 const REQUEST: Part = Part {
     name: "request",
@@ -477,6 +489,7 @@ fn pace_of(given: &ArgMatches<'_>) -> Pace {
         pause: PAUSE.number(given),
         fanout: FANOUT.number(given),
         idle: IDLE.number(given),
+        session: SESSION.number(given),
         dial_idle: DIAL_IDLE.number(given),
         request: REQUEST.number(given),
         max_reads: MAX_READS.number_if_any(given).unwrap_or(u64::MAX),
@@ -504,6 +517,7 @@ const SERVE_TASK: Task = Task {
         PAUSE,
         FANOUT,
         IDLE,
+        SESSION,
         DIAL_IDLE,
         REQUEST,
         MAX_READS,

@@ -29,7 +29,7 @@ impl fmt::Display for Level {
     }
 }
 
-/// What a line begins with: the time, where it is wanted and the clock can be read; the program; and how much it matters.
+/// What a line begins with: the time, if it is wanted and the clock can be read; the program; and how much it matters.
 #[derive(Clone, Copy)]
 struct Head {
     time: Option<Timestamp>,
@@ -55,13 +55,13 @@ pub(crate) struct Console<'r, 'a> {
     pub(crate) control: &'a str,
     /// Whether each line begins with the time.
     pub(crate) has_time: bool,
-    /// The file that tells how the node is.
+    /// The file of metrics.
     pub(crate) metrics: Option<MetricsFile<'a>>,
-    /// What was said to run out.
+    /// What it has reported to run out.
     pub(crate) shortage: Shortage,
 }
 
-/// Of what it was said that it runs out.
+/// What was reported to run out.
 #[derive(Drop)]
 pub(crate) struct Shortage {
     keys: AtomicBool,
@@ -69,7 +69,7 @@ pub(crate) struct Shortage {
 }
 
 impl Shortage {
-    /// Nothing was said yet.
+    /// Nothing was reported yet.
     pub(crate) fn new() -> Shortage {
         Shortage {
             keys: AtomicBool::new(false),
@@ -100,7 +100,7 @@ impl Console<'_, '_> {
         }
     }
 
-    /// Says once that something runs out, where it does.
+    /// Says once that something runs out, if it does.
     fn warn(&self, was_said: &AtomicBool, what: &str, count: usize, most: usize) {
         if is_nearly(count, most) && !was_said.swap(true, Ordering::SeqCst) {
             let (rt, head) = (self.rt, self.head(Level::Warning));
@@ -111,7 +111,7 @@ impl Console<'_, '_> {
         }
     }
 
-    /// Writes the file of metrics, and says where it can't be written, and where it can again.
+    /// Writes the file of metrics, and says when it can't be written, and when it can again.
     fn write_metrics(&self, file: &MetricsFile<'_>, metrics: &Metrics<'_, '_>) {
         let rt = self.rt;
         let written = file.write(rt, metrics);
@@ -126,7 +126,7 @@ impl Console<'_, '_> {
         };
     }
 
-    /// Removes the file of metrics, which tells of a node that runs.
+    /// Removes the file of metrics, which is of a node that runs.
     pub(crate) fn remove_metrics(&self) {
         if let Some(file) = &self.metrics {
             file.remove(self.rt);

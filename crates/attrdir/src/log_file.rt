@@ -78,8 +78,8 @@ fn failure_of<'a>(rt: &HostRuntime, path: &'a str, error: &Error) -> Failure<'a>
     }
 }
 
-/// A connection to a file, which is made where it is not there. `StoreFailed` where it can't be opened or another has it open;
-/// `LogDamaged` where it is no database; `NoMemory`.
+/// A connection to a file, which is made if it is not there. `StoreFailed` if it can't be opened or another has it open;
+/// `LogDamaged` if it is not a database; `NoMemory`.
 fn connect<'a>(
     rt: &HostRuntime,
     path: &'a str,
@@ -90,7 +90,7 @@ fn connect<'a>(
     }
 }
 
-/// The log of an owner of a cluster, in a file that is made where it is not there; an empty one becomes a new log. It gives versions up to
+/// The log of an owner of a cluster, in a file that is made if it is not there. An empty one becomes a new log. It gives versions up to
 /// `max_version`. The faults of `connect` and of `SqlLog::open`.
 fn log_in<'a>(
     rt: &HostRuntime,
@@ -106,7 +106,7 @@ fn log_in<'a>(
     }
 }
 
-/// The log of an owner of a cluster, in a file that is there. `StoreFailed` where it is not, or may not be read; the faults of
+/// The log of an owner of a cluster, in a file that is there. `StoreFailed` if it is not, or must not be read; the faults of
 /// `log_in`.
 pub(crate) fn open_log<'a>(
     rt: &HostRuntime,
@@ -126,7 +126,7 @@ pub(crate) fn open_log<'a>(
     log_in(rt, path, owner, cluster, max_version)
 }
 
-/// The log of an owner of a cluster, in a file that is made where it is not there. It gives all versions. The faults of `log_in`.
+/// The log of an owner of a cluster, in a file that is made if it is not there. It gives all versions. The faults of `log_in`.
 pub(crate) fn make_log<'a>(
     rt: &HostRuntime,
     path: &'a str,
@@ -164,7 +164,7 @@ pub(crate) fn print_log<'a>(
     }
 }
 
-/// Drops the removals of a log up to a version, and prints that version. The faults of `load`, where the version is the last; then
+/// Drops the removals of a log up to a version, and prints that version. The faults of `load`, if the version is the last; then
 /// those of `purge_run`.
 fn purge_to<L: WriteLog, W: Write>(
     alloc: Global,
@@ -226,7 +226,7 @@ fn count_removals(table: &Table) -> usize
     count
 }
 
-/// Drops the removals of a log up to its last version, where it has `least` of them or more, and tells what went. Nothing goes where
+/// Drops the removals of a log up to its last version, if it has `least` of them or more, and returns what went. Nothing goes if
 /// `least` is 0. The faults of `load`, then those of `purge`.
 pub(crate) fn purge_removals<L: WriteLog>(
     rt: &HostRuntime,

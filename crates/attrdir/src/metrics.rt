@@ -1,4 +1,4 @@
-//! What a node tells of itself, in the text format of Prometheus.
+//! The metrics of a node, in the text format of Prometheus.
 use crate::release::{FRAMES, LOGS, RELEASE};
 use sb_run::{LastRound, Peer, Status};
 use sb_types::{KEYS_MOST, Name, OWNERS_MOST};
@@ -138,7 +138,7 @@ fn text_of(name: &Name) -> &str {
     str::from_utf8(name.bytes()).unwrap_or("")
 }
 
-/// What stands above the values of a metric.
+/// The lines above the values of a metric.
 fn write_head<W: fmt::Write>(f: &mut fmt::Formatter<W>, metric: &Metric) -> fmt::Result {
     writeln!(f, "# HELP {} {}", metric.name, metric.help)?;
     writeln!(f, "# TYPE {} {}", metric.name, metric.kind)
@@ -154,7 +154,7 @@ fn is_among(peers: &[Peer<'_>], path: &str) -> bool {
     false
 }
 
-/// What is told of a peer.
+/// What is written of a peer.
 #[derive(Clone, Copy)]
 enum OfPeer {
     Up,
@@ -171,7 +171,7 @@ impl OfPeer {
         }
     }
 
-    /// Its value, where so many rounds were made.
+    /// Its value after so many rounds.
     fn value(self, peer: &Peer<'_>, rounds: u64) -> u64 {
         match (self, peer.last()) {
             (OfPeer::Up, LastRound::Done) => 1,
@@ -183,7 +183,7 @@ impl OfPeer {
 }
 
 impl Metrics<'_, '_> {
-    /// How many owners the node holds, itself counted, which it holds also where it wrote nothing.
+    /// How many owners the node holds, itself counted, which it holds also if it wrote nothing.
     pub(crate) fn owners(&self) -> usize {
         let mut count: usize = 1;
         for (owner, _) in self.status.snapshot.owners() {

@@ -7,7 +7,7 @@ use crate::asking::{RowFormat, first_page_of, print_page};
 use crate::counting::Output;
 use crate::failure::Failure;
 use sb_codec::{Ask, Row, Rows};
-use sb_types::{Fault, Key, Name, Prefix, Spelled, Value, ValueRef};
+use sb_types::{ContentRef, Fault, Key, Name, Prefix, Spelled, Value};
 use std::alloc::Global;
 use std::io::Write;
 
@@ -57,13 +57,13 @@ fn page_with(alloc: Global, row: &Row) -> Result<Rows, Fault> {
 /// `WriteFailed`, with the number of bytes that the output took.
 fn print_value(rt: &HostRuntime, value: &Value, is_raw: bool) -> Result<(), Fault> {
     let mut output = Output::new(rt);
-    let printed = match value.view() {
-        ValueRef::Weight(weight) => writeln!(output, "{weight}"),
-        ValueRef::Flag(flag) => writeln!(output, "{flag}"),
-        ValueRef::Text(text) if !is_raw => {
+    let printed = match value.content() {
+        ContentRef::Number(number) => writeln!(output, "{number}"),
+        ContentRef::Truth(truth) => writeln!(output, "{truth}"),
+        ContentRef::Text(text) if !is_raw => {
             writeln!(output, "{}", Spelled(str::from_utf8(text).unwrap_or("")))
         }
-        ValueRef::Addr(text) | ValueRef::Text(text) => {
+        ContentRef::Word(text) | ContentRef::Text(text) => {
             writeln!(output, "{}", str::from_utf8(text).unwrap_or(""))
         }
     };

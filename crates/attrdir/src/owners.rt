@@ -20,23 +20,23 @@ use std::sync::ledger::{Blank, Ledger};
 /// The least name of all.
 const LEAST_NAME: &[u8] = b"-";
 
-/// What a node told in the digests of a session. It has nothing to tell itself, asks for no writes, and takes none.
+/// What the digests of a node brought in a session. It has nothing to give itself, asks for no writes, and takes none.
 #[derive(Drop)]
 struct HeardDigests {
     alloc: Global,
     /// The end of the range of its digests, before which no name is.
     least: Name,
     pairs: Vec<Pair>,
-    /// Where the next digest is to begin; with the least name where there is none.
+    /// The name with which the next digest is to begin; the least one at first.
     next: Option<Name>,
-    /// Whether all owners were told.
+    /// Whether all owners have come.
     is_whole: bool,
     /// Whether a digest began elsewhere than it was to.
     is_broken: bool,
 }
 
 impl HeardDigests {
-    /// Nothing was told yet.
+    /// Nothing has come yet.
     fn new(alloc: Global, least: Name) -> HeardDigests {
         HeardDigests {
             alloc,
@@ -141,7 +141,7 @@ fn hear_digest<R: Read, W: Write, L: Ledger>(
     Err(Fault::TurnsSpent)
 }
 
-/// A whole session: Hello, as many exchanges as it takes until the node told of all owners, and Bye. It asks nothing before the node's
+/// A whole session: Hello, as many exchanges as it takes until all owners of the node came, and Bye. It asks nothing before the node's
 /// Hello came, since a node ends a session that it refuses. Its faults are those of `hear_digest` and of `Connection::send`; `TurnsSpent`
 /// if the node has more digests than there may be owners, or if the session needs more reads than the connection has.
 fn hear_all<R: Read, W: Write, L: Ledger>(
@@ -165,7 +165,7 @@ fn hear_all<R: Read, W: Write, L: Ledger>(
     Err(Fault::TurnsSpent)
 }
 
-/// A session over a stream of which nothing was read before.
+/// A session over a stream from which nothing was read before.
 fn hear_from<L: Ledger>(
     stream: &UnixStream,
     session: Session,
@@ -192,9 +192,9 @@ fn print_pairs(rt: &HostRuntime, pairs: &[Pair]) -> Result<(), Fault> {
     Ok(())
 }
 
-/// Asks the node behind a socket for peers how far it holds each owner, as a peer of this name: a pair of each, in ascending owner. It
-/// writes nothing at the node. `ReadFailed` where it can't be reached, or is silent for a minute; the faults of a session. It waits without
-/// limit where so many others wait at the socket that it takes no more.
+/// Asks the node at a socket for peers how far it holds each owner, as a peer of this name. Returns a pair of each, in ascending owner. It
+/// writes nothing at the node. `ReadFailed` if it can't be reached, or is silent for a minute; the faults of a session. It waits without
+/// limit if so many others wait at the socket that it takes no more.
 fn ask_pairs<'a>(
     rt: &HostRuntime,
     sock: &'a str,
@@ -233,8 +233,8 @@ pub(crate) fn print_owners<'a>(
     Ok(print_pairs(rt, &pairs)?)
 }
 
-/// The greatest version that a pair speaks of, where it is this owner's: one that is held, a floor, or one of a table that has not come
-/// whole. 0 where it is another's.
+/// The greatest version in a pair, if it is this owner's: one that is held, a floor, or one of a table that has not come
+/// whole. 0 if it is another's.
 fn version_in(pair: &Pair, owner: &Name) -> u64
     ensures { result ≡ spec.version_in owner.now pair.now }
 {
@@ -244,7 +244,7 @@ fn version_in(pair: &Pair, owner: &Name) -> u64
     pair.upto.max(pair.staged_floor).max(pair.progress)
 }
 
-/// The greatest version that these speak of an owner; 0 where there is none.
+/// The greatest version that these have of an owner; 0 if there is none.
 fn greatest_version(pairs: &[Pair], owner: &Name) -> u64
     ensures { result ≡ spec.greatest_version owner.now pairs.now }
 {
@@ -255,7 +255,7 @@ fn greatest_version(pairs: &[Pair], owner: &Name) -> u64
     greatest
 }
 
-/// The greatest version that these speak of an owner, of a node behind this socket. `NothingThere` where there is none.
+/// The greatest version that these have of an owner, of a node at this socket. `NothingThere` if there is none.
 fn heard_of<'a>(pairs: &[Pair], owner: &Name, sock: &'a str) -> Result<u64, Failure<'a>>
     ensures { IfOk result (λ version. (version ≡ spec.greatest_version owner.now pairs.now) × (0 < version)) }
 {
@@ -266,7 +266,7 @@ fn heard_of<'a>(pairs: &[Pair], owner: &Name, sock: &'a str) -> Result<u64, Fail
 }
 
 /// Asks the same under the name of an owner, and answers the greatest version that the node heard of it, be it of a table that has not come
-/// whole. The faults of `ask_pairs`; `NothingThere` where it heard of none.
+/// whole. The faults of `ask_pairs`; `NothingThere` if it heard of none.
 pub(crate) fn ask_greatest<'a>(
     rt: &HostRuntime,
     sock: &'a str,

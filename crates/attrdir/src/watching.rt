@@ -218,8 +218,8 @@ impl PrintedRows {
 
 /// Does what `watch` does, and goes on if the node does not answer. What was printed stays.
 ///
-/// It prints that a row is gone only if the node knows it. The node knows it if it has shown that owner since its last
-/// start, at an earlier asking, by a row of the same version or a later one. It does not print a row of an earlier
+/// It prints that a row is gone only if the node knows it. The node knows it if at an earlier asking,
+/// since its last start, it has shown that owner by a row of the same version or a later one. It does not print a row of an earlier
 /// version than it printed before. It ends after `count` askings that were answered.
 pub(crate) fn watch_on<'a>(
     rt: &HostRuntime,

@@ -1,5 +1,5 @@
 -- The two laws for the body of each kind but deltas.
-use Rattle.std.proofs.Common.{◌≡◌, ℕ, ◌-◌, ◌^◌, ◌<◌, ◌≤◌, Bool, true, false, ◌&&◌, List, [], ◌∷◌, ◌++◌, length, Option, Some, None, refl, ap, arith}
+use Rattle.std.proofs.Common.{◌≡◌, ℕ, ◌-◌, ◌^◌, ◌<◌, ◌≤◌, Bool, true, false, ◌&&◌, List, [], ◌∷◌, ◌++◌, length, Option, Some, None, refl, arith}
 use Rattle.std.specs.Prelude.{nat_le, nat_lt}
 use Rattle.std.specs.List.{list_all}
 use Rattle.std.specs.Int.{w64}
@@ -7,23 +7,22 @@ use Rattle.std.proofs.lemmas.Bool.{and_parts, and_from, lt-ltb, ltb-true, leb-tr
 use Rattle.sb_types.specs.declared.entry.Write.{Write}
 use Rattle.sb_types.specs.declared.limits.TheConstants.{PAYLOAD_MOST}
 use Rattle.sb_types.specs.Text.{is_name, is_key, is_prefix}
-use Rattle.sb_types.specs.Value.{Value, Addr, Weight, Flag, Text, is_value}
+use Rattle.sb_types.specs.Value.{is_value}
 use Rattle.sb_types.specs.Limits.{is_slot}
 use Rattle.sb_digest.specs.Digests.{Pair, Digest, covers}
 use Rattle.sb_digest.specs.Lengths.{pair_length, digest_length}
 use Rattle.sb_digest.specs.Limits.{is_bound, is_pair, is_range, are_pairs_above, are_digest_parts, is_digest}
-use Rattle.sb_types.specs.declared.format.TheConstants.{TAG_ADDR, TAG_WEIGHT, TAG_FLAG, TAG_TEXT}
 use Rattle.sb_codec.specs.declared.message.ask.Ask.{Ask}
 use Rattle.sb_codec.specs.Records.{Row, Rows}
 use Rattle.sb_codec.specs.Lengths.{row_length, rows_length}
 use Rattle.sb_codec.specs.declared.message.hello.Hello.{Hello}
 use Rattle.sb_codec.specs.Limits.{is_hello, is_reason, is_optional, is_place, is_ask, is_row, are_rows_above, are_page_rows, is_page, is_write, is_version, is_fault_number}
 use Rattle.sb_codec.specs.Fields.{number_field}
-use Rattle.sb_codec.specs.Spelling.{number, text, content, value, optional, hello, pair, digest, place, ask, row, page, write}
-use Rattle.sb_codec.specs.Reading.{hello_of_parts, hello_field, bye_field, write_of_parts, write_field, done_field, refused_field, unless_empty, is_empty_or, optional_field, pair_of_parts, pair_field, digest_of_parts, digest_field, prefix_field, are_alike, place_of, place_field, ask_of, ask_field, value_cases, value_field, addr_field, weight_field, text_value_field, is_written, row_of_parts, row_field, are_page_parts, page_of, page_field}
-use Rattle.sb_codec.proofs.Taken.{Takes, wide64, fits_takes, made_takes, then_takes, where_takes, byte_takes, number_takes, text_takes, list_takes, tagged_takes, made_case}
-use Rattle.sb_codec.proofs.Again.{long_text_again, Again, made_again, then_again, where_again, byte_again, number_again, text_again, list_again, tagged_again}
-use Rattle.sb_codec.proofs.Parts.{name_takes, name_again, key_takes, key_again, addr_takes, weight_takes, text_value_takes, flag_takes, flag_again, weight_below, text_below, slot_takes, slot_again, between_parts, all_from, all_parts, count_below}
+use Rattle.sb_codec.specs.Spelling.{number, text, optional, hello, pair, digest, place, ask, row, page, write}
+use Rattle.sb_codec.specs.Reading.{hello_of_parts, hello_field, bye_field, write_of_parts, write_field, done_field, refused_field, unless_empty, is_empty_or, optional_field, pair_of_parts, pair_field, digest_of_parts, digest_field, prefix_field, are_alike, place_of, place_field, ask_of, ask_field, is_written, row_of_parts, row_field, are_page_parts, page_of, page_field}
+use Rattle.sb_codec.proofs.Taken.{Takes, wide64, fits_takes, made_takes, then_takes, where_takes, byte_takes, number_takes, text_takes, list_takes}
+use Rattle.sb_codec.proofs.Again.{Again, made_again, then_again, where_again, byte_again, number_again, text_again, list_again}
+use Rattle.sb_codec.proofs.Parts.{name_takes, name_again, key_takes, key_again, flag_takes, flag_again, value_takes, value_reads, slot_takes, slot_again, between_parts, all_from, all_parts, count_below}
 
 pub hello_takes : Takes (λ h. is_hello h ≡ true) hello hello_field
 unfolding hello_field hello
@@ -186,27 +185,6 @@ ask_again a fits =
 
 -- ---- rows
 
-value_takes : Takes (λ v. is_value v ≡ true) value value_field
-unfolding value_field content
-value_takes =
-    tagged_takes value_cases (
-      fits_takes addr_takes (λ v fits. (fits.0, ap (λ (tag : ℕ). tag ∷ content v) fits.1)),
-      (
-        fits_takes weight_takes (λ v fits. (fits.0, ap (λ (tag : ℕ). tag ∷ content v) fits.1)),
-        (
-          made_case TAG_FLAG Flag flag_takes (λ set fits. (refl, refl)),
-          (fits_takes text_value_takes (λ v fits. (fits.0, ap (λ (tag : ℕ). tag ∷ content v) fits.1)), tt),
-        ),
-      ),
-    )
-
-value_again : (v : Value) → is_value v ≡ true → Again value_field (value v) v
-unfolding value_field addr_field weight_field text_value_field content
-value_again (Addr t) fits = tagged_again value_cases TAG_ADDR (where_again is_value fits (made_again Addr (text_again t)))
-value_again (Weight n) fits = tagged_again value_cases TAG_WEIGHT (where_again is_value fits (made_again Weight (number_again wide64 n (weight_below n fits))))
-value_again (Flag set) fits = tagged_again value_cases TAG_FLAG (made_again Flag (flag_again set))
-value_again (Text t) fits = tagged_again value_cases TAG_TEXT (where_again is_value fits (made_again Text (long_text_again t (text_below t fits))))
-
 row_takes : Takes (λ r. is_row r ≡ true) row row_field
 unfolding row_field row
 row_takes =
@@ -220,7 +198,7 @@ row_again r fits =
     let version = and_parts (is_name r.owner && is_key r.key) (is_version r.version) value.0 in
     let place = and_parts (is_name r.owner) (is_key r.key) version.0 in
     let number = number_again wide64 r.version (version_below r.version version.1) in
-    made_again row_of_parts (where_again is_written version.1 (then_again (name_again r.owner place.0) (then_again (key_again r.key place.1) (then_again number (value_again r.value value.1)))))
+    made_again row_of_parts (where_again is_written version.1 (then_again (name_again r.owner place.0) (then_again (key_again r.key place.1) (then_again number (value_reads r.value value.1)))))
 
 pub page_takes : Takes (λ p. is_page p ≡ true) page page_field
 unfolding page_field page

@@ -3,7 +3,6 @@ pub mod Taken
 pub mod Again
 pub mod Parts
 pub mod Bodies
-pub mod Values
 pub mod Sizes
 pub mod Laws
 pub mod Standings

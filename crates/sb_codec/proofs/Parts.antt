@@ -1,24 +1,31 @@
 -- The two laws for each part of a message.
-use Rattle.std.proofs.Common.{◌≡◌, ℕ, ◌-◌, ◌^◌, ◌<◌, ◌≤◌, Bool, true, false, ◌&&◌, List, [], ◌∷◌, length, refl, ap, arith}
+use Rattle.std.proofs.Common.{◌≡◌, ℕ, ◌-◌, ◌^◌, ◌<◌, ◌≤◌, Bool, true, false, cond, ◌&&◌, List, [], ◌∷◌, length, drop, ◌==◌, Option, Some, None, Result, Ok, Err, refl, sym, ap, subst, ◌∙◌, append-nil, arith}
 use Rattle.std.specs.Prelude.{nat_le, nat_lt, sum_by}
+use Rattle.std.specs.Option.{option_and_then}
 use Rattle.std.specs.List.{list_all, AllByRecursion}
-use Rattle.std.specs.Str.{is_utf8}
-use Rattle.std.proofs.lemmas.Bool.{and_parts, and_from, le-leb, lt-ltb, leb-true, ltb-true}
+use Rattle.std.proofs.lemmas.Bool.{and_parts, and_from, le-leb, lt-ltb, leb-true, ltb-true, eqb-true}
 use Rattle.std.proofs.lemmas.List.Sums.{sum_by-cons}
 use Rattle.sb_types.specs.declared.entry.Slot.{Slot}
 use Rattle.sb_types.specs.declared.entry.Slot.TheVariants.{Set, Removed}
-use Rattle.sb_types.specs.declared.limits.TheConstants.{ENTRIES_MOST, PAYLOAD_MOST, TEXT_MOST}
+use Rattle.sb_types.specs.declared.limits.TheConstants.{ENTRIES_MOST, PAYLOAD_MOST}
 use Rattle.sb_types.specs.Text.{is_between, is_name, is_key}
-use Rattle.sb_types.specs.Value.{Value, Addr, Weight, Flag, Text, is_value}
+use Rattle.sb_types.specs.Value.{Value, is_value}
+use Rattle.sb_types.specs.Kinds.{Content, Word, Text, Number, Truth, Fits, tag_of, form_of, kind_of, content_of, kind_of_tag, form_in, value_of}
+use Rattle.sb_types.specs.declared.kind.Kind.{Kind}
+use Rattle.sb_types.specs.declared.kind.Form.{Form}
+use Rattle.sb_types.specs.declared.kind.Form.TheVariants as forms
+use Rattle.sb_types.specs.declared.fault.Fault.{Fault}
+use Rattle.sb_types.proofs.KindTable.{tag_again, tag_found, tag_not_removed, form_again, content_fits, value_again, value_parts}
 use Rattle.sb_types.specs.Records.{Entry, Block}
 use Rattle.sb_types.specs.Runs.{are_ascending, are_distinct, last_version}
 use Rattle.sb_types.specs.Lengths.{block_length, delta_length}
 use Rattle.sb_types.specs.Limits.{is_slot, is_entry, are_block_parts, is_delta_block, are_owners_above, are_delta_blocks, is_delta}
-use Rattle.sb_types.specs.declared.format.TheConstants.{TAG_REMOVED, TAG_ADDR, TAG_WEIGHT, TAG_FLAG, TAG_TEXT}
-use Rattle.sb_codec.specs.Spelling.{text, list, flag, tag_of, content, slot, entry, block}
-use Rattle.sb_codec.specs.Reading.{name_field, key_field, addr_field, weight_field, text_value_field, flag_cases, flag_field, flag_slot, slot_cases, slot_field, entry_of_parts, entry_field, are_block_fields, block_of_fields, block_field, delta_field}
-use Rattle.sb_codec.proofs.Taken.{Takes, wide64, fits_takes, made_takes, then_takes, where_takes, number_takes, text_takes, long_text_takes, list_takes, tagged_takes, made_case, given_case}
-use Rattle.sb_codec.proofs.Again.{Again, given_again, made_again, then_again, where_again, number_again, text_again, long_text_again, list_again, tagged_again}
+use Rattle.sb_types.specs.declared.format.TheConstants.{TAG_REMOVED}
+use Rattle.sb_codec.specs.Spelling.{text, list, flag, content, value, slot, entry, block}
+use Rattle.sb_codec.specs.Reading.{name_field, key_field, flag_cases, flag_field, content_field, result_field, kind_field, optional_kind_field, tag_field, value_field, tagged_slot, slot_field, entry_of_parts, entry_field, are_block_fields, block_of_fields, block_field, delta_field}
+use Rattle.sb_codec.specs.Fields.{given_field, made_field}
+use Rattle.sb_codec.proofs.Taken.{Takes, wide64, given_takes, none_takes, lead_takes, fits_takes, made_takes, then_takes, chosen_takes, where_takes, byte_takes, number_takes, text_takes, long_text_takes, list_takes, tagged_takes, given_case}
+use Rattle.sb_codec.proofs.Again.{Again, given_again, lead_again, made_again, then_again, where_again, byte_again, number_again, text_again, long_text_again, list_again, tagged_again}
 
 -- ---- texts
 
@@ -40,53 +47,89 @@ key_again t fits = where_again is_key fits (text_again t)
 
 -- ---- values
 
--- a value with this tag
-abbrev pub IsTagged : ℕ → Value → Type 0
-IsTagged tag v = (is_value v ≡ true) × (tag_of v ≡ tag)
-
-pub addr_takes : Takes (IsTagged TAG_ADDR) content addr_field
-unfolding addr_field content
-addr_takes = fits_takes (where_takes (made_takes {Q = λ v. tag_of v ≡ TAG_ADDR} Addr text_takes (λ t lt. (refl, refl)))) (λ v fits. (fits.1, fits.0))
-
-pub weight_takes : Takes (IsTagged TAG_WEIGHT) content weight_field
-unfolding weight_field content
-weight_takes = fits_takes (where_takes (made_takes {Q = λ v. tag_of v ≡ TAG_WEIGHT} Weight (number_takes wide64) (λ n lt. (refl, refl)))) (λ v fits. (fits.1, fits.0))
-
-pub text_value_takes : Takes (IsTagged TAG_TEXT) content text_value_field
-unfolding text_value_field content
-text_value_takes = fits_takes (where_takes (made_takes {Q = λ v. tag_of v ≡ TAG_TEXT} Text long_text_takes (λ t lt. (refl, refl)))) (λ v fits. (fits.1, fits.0))
-
 pub flag_takes : Takes (λ set. Unit {0}) flag flag_field
 unfolding flag_field
 flag_takes = tagged_takes flag_cases (given_case 0 false tt refl, (given_case 1 true tt refl, tt))
-
-pub slot_takes : Takes (λ s. is_slot s ≡ true) slot slot_field
-unfolding slot_field slot content
-slot_takes =
-    let spelled : (tag : ℕ) (v : Value) → IsTagged tag v → (is_value v ≡ true) × (tag_of v ∷ content v ≡ tag ∷ content v) = λ tag v fits. (fits.0, ap (λ (k : ℕ). k ∷ content v) fits.1) in
-    tagged_takes slot_cases (given_case TAG_REMOVED Removed refl refl, (made_case TAG_ADDR Set addr_takes (spelled TAG_ADDR), (made_case TAG_WEIGHT Set weight_takes (spelled TAG_WEIGHT), (made_case TAG_FLAG flag_slot flag_takes (λ set fits. (refl, refl)), (made_case TAG_TEXT Set text_value_takes (spelled TAG_TEXT), tt)))))
-
-pub weight_below : (n : ℕ) → is_value (Weight n) ≡ true → n < 2 ^ 64
-weight_below n fits = omega (arith, ltb-true n (2 ^ 63) fits)
-
-pub text_most : (t : List ℕ) → is_value (Text t) ≡ true → length t ≤ TEXT_MOST
-text_most t fits = leb-true (length t) TEXT_MOST (and_parts (nat_le 1 (length t)) (nat_le (length t) TEXT_MOST) (and_parts (is_between 1 TEXT_MOST (length t)) (is_utf8 t) fits).0).1
-
-pub text_below : (t : List ℕ) → is_value (Text t) ≡ true → length t < 2 ^ 16
-text_below t fits = omega (arith, text_most t fits)
 
 pub flag_again : (set : Bool) → Again flag_field (flag set) set
 unfolding flag_field
 flag_again false = tagged_again flag_cases 0 (given_again false)
 flag_again true = tagged_again flag_cases 1 (given_again true)
 
+content_takes : (form : Form) → Takes (λ c. Unit {0}) content (content_field form)
+unfolding content_field content
+content_takes forms.Word = made_takes Word text_takes (λ t lt. (tt, refl))
+content_takes forms.Text = made_takes Text long_text_takes (λ t lt. (tt, refl))
+content_takes forms.Number = made_takes Number (number_takes wide64) (λ n lt. (tt, refl))
+content_takes forms.Truth = made_takes Truth flag_takes (λ set any. (tt, refl))
+
+pub content_again : (c : Content) → Fits c → Again (content_field (form_in c)) (content c) c
+unfolding content_field content
+content_again (Word t) fits = made_again Word (text_again t)
+content_again (Text t) fits = made_again Text (long_text_again t fits.0)
+content_again (Number n) fits = made_again Number (number_again wide64 n (omega (arith, fits)))
+content_again (Truth set) fits = made_again Truth (flag_again set)
+
+result_takes : {A : Type 0} {P : A → Type 0} {s : A → List ℕ} (result : Result A Fault) → ((x : A) → result ≡ Ok x → P x × (s x ≡ [])) → Takes P s (result_field result)
+result_takes (Ok x) is = given_takes x (is x refl).0 (is x refl).1
+result_takes (Err fault) is = none_takes
+
+kind_takes : (kind : Kind) → Takes (λ v. (is_value v ≡ true) × (kind_of v ≡ kind)) (λ v. content (content_of v)) (kind_field kind)
+kind_takes kind =
+    lead_takes {t = λ v. []} (λ v. content (content_of v)) (content_takes (form_of kind))
+    (λ c any. result_takes (value_of kind c)
+    (λ v is. let parts = value_parts kind c v is in (((parts.1, parts.0.0), ap content parts.0.1 ∙ sym (append-nil (content c))), refl)))
+
+-- a value with this tag
+abbrev pub IsTagged : ℕ → Value → Type 0
+IsTagged tag v = (is_value v ≡ true) × (value v ≡ tag ∷ content (content_of v))
+
+optional_kind_takes : (tag : ℕ) (kind : Option Kind) → kind_of_tag tag ≡ kind → Takes (IsTagged tag) (λ v. content (content_of v)) (optional_kind_field kind)
+optional_kind_takes tag None is = none_takes
+optional_kind_takes tag (Some kind) is =
+    fits_takes (kind_takes kind) (λ v fits. (fits.0, ap (λ (n : ℕ). n ∷ content (content_of v)) (ap tag_of fits.1 ∙ tag_found tag kind is)))
+
+tag_takes : (tag : ℕ) → Takes (IsTagged tag) (λ v. content (content_of v)) (tag_field tag)
+unfolding tag_field
+tag_takes tag = optional_kind_takes tag (kind_of_tag tag) refl
+
+kind_reads : (v : Value) → is_value v ≡ true → Again (kind_field (kind_of v)) (content (content_of v)) v
+kind_reads v fits =
+    let one = subst (λ (form : Form). Again (content_field form) (content (content_of v)) (content_of v)) (form_again v) (content_again (content_of v) (content_fits v fits)) in
+    record {
+      read = λ rest.
+          ap (λ (read : Option (Content × List ℕ)). option_and_then (λ x. result_field (value_of (kind_of v) x.0) x.1) read) (one.read rest)
+          ∙ ap (λ (result : Result Value Fault). result_field result rest) (value_again v fits);
+    }
+
+tag_reads : (v : Value) → is_value v ≡ true → Again (tag_field (tag_of (kind_of v))) (content (content_of v)) v
+unfolding tag_field
+tag_reads v fits = subst (λ (kind : Option Kind). Again (optional_kind_field kind) (content (content_of v)) v) (sym (tag_again (kind_of v))) (kind_reads v fits)
+
+pub value_takes : Takes (λ v. is_value v ≡ true) value value_field
+unfolding value_field
+value_takes = lead_takes {t = λ v. content (content_of v)} value byte_takes (λ tag lt. tag_takes tag)
+
+pub value_reads : (v : Value) → is_value v ≡ true → Again value_field (value v) v
+unfolding value_field
+value_reads v fits = lead_again tag_field (byte_again (tag_of (kind_of v))) (tag_reads v fits)
+
+pub slot_takes : Takes (λ s. is_slot s ≡ true) slot slot_field
+unfolding slot_field slot
+slot_takes =
+    lead_takes {t = λ s. drop 1 (slot s)} slot byte_takes
+    (λ tag lt. chosen_takes (tag == TAG_REMOVED)
+    (λ removed. given_takes Removed (refl, ap (λ (n : ℕ). n ∷ []) (sym (eqb-true tag TAG_REMOVED removed))) refl)
+    (λ other. made_takes Set (tag_takes tag) (λ v fits. (fits, refl))))
+
 pub slot_again : (s : Slot) → is_slot s ≡ true → Again slot_field (slot s) s
-unfolding slot_field slot addr_field weight_field text_value_field content
-slot_again Removed fits = tagged_again slot_cases TAG_REMOVED (given_again Removed)
-slot_again (Set (Addr t)) fits = tagged_again slot_cases TAG_ADDR (made_again Set (where_again is_value fits (made_again Addr (text_again t))))
-slot_again (Set (Weight n)) fits = tagged_again slot_cases TAG_WEIGHT (made_again Set (where_again is_value fits (made_again Weight (number_again wide64 n (weight_below n fits)))))
-slot_again (Set (Flag set)) fits = tagged_again slot_cases TAG_FLAG (made_again flag_slot (flag_again set))
-slot_again (Set (Text t)) fits = tagged_again slot_cases TAG_TEXT (made_again Set (where_again is_value fits (made_again Text (long_text_again t (text_below t fits)))))
+unfolding slot_field slot
+slot_again Removed fits = lead_again tagged_slot (byte_again TAG_REMOVED) (given_again Removed)
+slot_again (Set v) fits =
+    let tag = tag_of (kind_of v) in
+    let set = made_again Set (tag_reads v fits) in
+    lead_again tagged_slot (byte_again tag)
+    (subst (λ (b : Bool). Again (cond b (given_field Removed) (made_field Set (tag_field tag))) (content (content_of v)) (Set v)) (sym (tag_not_removed (kind_of v))) set)
 
 -- ---- entries
 

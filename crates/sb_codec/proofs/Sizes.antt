@@ -7,9 +7,11 @@ use Rattle.std.proofs.lemmas.Bool.{and_parts, leb-true}
 use Rattle.std.proofs.lemmas.List.Sums.{sum_by-cons}
 use Rattle.sb_types.specs.declared.entry.Slot.{Slot}
 use Rattle.sb_types.specs.declared.entry.Slot.TheVariants.{Set, Removed}
-use Rattle.sb_types.specs.declared.limits.TheConstants.{NAME_MOST, KEY_MOST, ADDR_MOST, PAYLOAD_MOST}
-use Rattle.sb_types.specs.Text.{is_between, is_name_byte, is_key_byte, is_addr_byte, is_name, is_key, is_prefix, is_addr}
-use Rattle.sb_types.specs.Value.{Value, Addr, Weight, Flag, Text}
+use Rattle.sb_types.specs.declared.limits.TheConstants.{NAME_MOST, KEY_MOST, PAYLOAD_MOST}
+use Rattle.sb_types.specs.Text.{is_between, is_name_byte, is_key_byte, is_name, is_key, is_prefix}
+use Rattle.sb_types.specs.Value.{Value}
+use Rattle.sb_types.specs.Kinds.{Content, Word, Text, Number, Truth, content_of, content_length}
+use Rattle.sb_types.proofs.KindTable.{length_by_table, length_most}
 use Rattle.sb_types.specs.Records.{Entry, Block}
 use Rattle.sb_types.specs.declared.entry.Write.{Write}
 use Rattle.sb_types.specs.Lengths.{value_length, slot_length, entry_length, block_length, delta_length}
@@ -25,7 +27,7 @@ use Rattle.sb_codec.specs.declared.message.Message.{Message}
 use Rattle.sb_codec.specs.declared.message.Message.TheVariants.{Hello, Digest, Delta, Bye, Ask, Rows, Put, Done, Refused}
 use Rattle.sb_codec.specs.Spelling.{number, text, list, content, value, slot, entry, block, optional, hello, pair, digest, place, ask, row, page, write}
 use Rattle.sb_codec.specs.Messages.{spelling, is_message}
-use Rattle.sb_codec.proofs.Parts.{between_parts, delta_parts, text_most}
+use Rattle.sb_codec.proofs.Parts.{between_parts, delta_parts}
 use Rattle.sb_codec.proofs.Bodies.{digest_within, page_within}
 
 length-number16 : (n : ℕ) → length (number w16 n) ≡ 2
@@ -36,13 +38,20 @@ length-number64 : (n : ℕ) → length (number w64 n) ≡ 8
 unfolding number
 length-number64 n = refl
 
+content-length : (c : Content) → length (content c) ≡ content_length c
+unfolding content number
+content-length (Word t) = omega arith
+content-length (Text t) = omega (arith, length-append (number w16 (length t)) t, length-number16 (length t))
+content-length (Number n) = refl
+content-length (Truth b) = refl
+
+value-length : (v : Value) → length (value v) ≡ 1 + value_length v
+value-length v = omega (arith, content-length (content_of v), length_by_table v)
+
 slot-length : (s : Slot) → length (slot s) ≡ 1 + slot_length s
-unfolding slot content number
+unfolding slot
 slot-length Removed = refl
-slot-length (Set (Addr t)) = omega arith
-slot-length (Set (Weight n)) = refl
-slot-length (Set (Flag b)) = refl
-slot-length (Set (Text t)) = omega (arith, length-append (number w16 (length t)) t, length-number16 (length t))
+slot-length (Set v) = value-length v
 
 entry-length : (e : Entry) → length (entry e) ≡ entry_length e
 unfolding entry
@@ -93,13 +102,6 @@ digest-length d =
     omega
     (arith, length-append (optional d.from) (optional d.until ++ list pair d.pairs), length-append (optional d.until) (list pair d.pairs), optional-length d.from, optional-length d.until, length-list pair pair_length pair-length d.pairs)
 
-value-length : (v : Value) → length (value v) ≡ 1 + value_length v
-unfolding content number
-value-length (Addr t) = omega arith
-value-length (Weight n) = refl
-value-length (Flag b) = refl
-value-length (Text t) = omega (arith, length-append (number w16 (length t)) t, length-number16 (length t))
-
 row-length : (r : records.Row) → length (row r) ≡ row_length r
 unfolding row
 row-length r =
@@ -144,15 +146,9 @@ name-most t fits = (between_parts 1 NAME_MOST (length t) (and_parts (is_between 
 key-most : (t : List ℕ) → is_key t ≡ true → length t ≤ 64
 key-most t fits = (between_parts 1 KEY_MOST (length t) (and_parts (is_between 1 KEY_MOST (length t)) (list_all is_key_byte t) fits).0).1
 
-addr-most : (t : List ℕ) → is_addr t ≡ true → length t ≤ 128
-addr-most t fits = (between_parts 1 ADDR_MOST (length t) (and_parts (is_between 1 ADDR_MOST (length t)) (list_all is_addr_byte t) fits).0).1
-
 slot-most : (s : Slot) → is_slot s ≡ true → slot_length s ≤ 514
 slot-most Removed fits = omega arith
-slot-most (Set (Addr t)) fits = omega (arith, addr-most t fits)
-slot-most (Set (Weight n)) fits = omega arith
-slot-most (Set (Flag b)) fits = omega arith
-slot-most (Set (Text t)) fits = omega (arith, text_most t fits)
+slot-most (Set v) fits = omega (arith, length_most v fits)
 
 prefix-most : (t : List ℕ) → is_prefix t ≡ true → length t ≤ 64
 prefix-most t fits = leb-true (length t) KEY_MOST (and_parts (nat_le (length t) KEY_MOST) (list_all is_key_byte t) fits).0

@@ -59,7 +59,7 @@ pub then_takes : {A B : Type 0} {P : A → Type 0} {Q : B → Type 0} {s : A →
     → Takes P s first → Takes Q t second → Takes (λ x. P x.0 × Q x.1) (λ x. s x.0 ++ t x.1) (then_field first second)
 then_takes {s = s} {t = t} one two = lead_takes {t = λ x. t x.1} (λ x. s x.0 ++ t x.1) one (λ x p. made_takes (λ y. (x, y)) two (λ y q. (((p, q), refl), refl)))
 
-chosen_takes : {A : Type 0} {P : A → Type 0} {s : A → List ℕ} {one two : Field A} (b : Bool) → (b ≡ true → Takes P s one) → (b ≡ false → Takes P s two) → Takes P s (if b then one else two)
+pub chosen_takes : {A : Type 0} {P : A → Type 0} {s : A → List ℕ} {one two : Field A} (b : Bool) → (b ≡ true → Takes P s one) → (b ≡ false → Takes P s two) → Takes P s (if b then one else two)
 chosen_takes true h k = h refl
 chosen_takes false h k = k refl
 

@@ -7,7 +7,7 @@ use Rattle.sb_digest.specs.Digests.{Pair, plain_pair}
 use Rattle.sb_codec.specs.Records.{Row, row_of}
 use Rattle.sb_codec.specs.Fields.{byte_field, bytes_field, number_field, text_field, list_field, times_field}
 use Rattle.sb_codec.specs.Spelling.{number, slot, content, entry, block, pair, row}
-use Rattle.sb_codec.specs.Reading.{name_field, key_field, flag_field, slot_field, value_field, entry_field, block_field, pair_field, row_field}
+use Rattle.sb_codec.specs.Reading.{name_field, key_field, flag_field, slot_field, value_field, tag_field, content_field, entry_field, block_field, pair_field, row_field}
 
 abbrev pub first_removal : Entry
 first_removal = record { key = 97 ∷ []; version = 1; slot = Removed }
@@ -25,5 +25,5 @@ unfolding pair number pair_field name_field number_field text_field byte_field b
 pair_reached = (plain_pair (97 ∷ []) 0, refl, refl)
 
 pub row_reached : (item : Row) × (row_field (row item) ≡ Some (item, [])) × (length (row item) ≡ 14)
-unfolding row content number row_field name_field key_field value_field flag_field number_field text_field byte_field bytes_field
+unfolding row content number row_field name_field key_field value_field tag_field content_field flag_field number_field text_field byte_field bytes_field
 row_reached = (row_of (97 ∷ []) (97 ∷ []) 1 (Flag false), refl, refl)

@@ -1,5 +1,5 @@
 -- The parts of a message, read.
-use Rattle.std.specs.Prelude.{ℕ, Bool, true, false, nat_le, List, [], ◌∷◌, Option, Some, None, is_some}
+use Rattle.std.specs.Prelude.{ℕ, ◌==◌, if◌then◌else◌, Bool, true, false, nat_le, List, [], ◌∷◌, Option, Some, None, is_some, Result, Ok, Err}
 use Rattle.std.specs.Bool.{beq}
 use Rattle.std.specs.Option.{option_zip}
 use Rattle.std.specs.Int.{w64}
@@ -7,17 +7,22 @@ use Rattle.sb_types.specs.declared.entry.Write.{Write}
 use Rattle.sb_types.specs.declared.entry.Slot.{Slot}
 use Rattle.sb_types.specs.declared.entry.Slot.TheVariants.{Set, Removed}
 use Rattle.sb_types.specs.Text.{is_name, is_key, is_prefix}
-use Rattle.sb_types.specs.Value.{Value, Addr, Weight, Flag, Text, is_value}
+use Rattle.sb_types.specs.Value.{Value}
+use Rattle.sb_types.specs.Kinds.{Content, Word, Text, Number, Truth, form_of, kind_of_tag, value_of}
+use Rattle.sb_types.specs.declared.kind.Kind.{Kind}
+use Rattle.sb_types.specs.declared.kind.Form.{Form}
+use Rattle.sb_types.specs.declared.kind.Form.TheVariants as forms
+use Rattle.sb_types.specs.declared.fault.Fault.{Fault}
 use Rattle.sb_types.specs.Records.{Entry, Block}
 use Rattle.sb_types.specs.Limits.{are_block_parts, block_of_parts, are_delta_blocks}
-use Rattle.sb_types.specs.declared.format.TheConstants.{TAG_REMOVED, TAG_ADDR, TAG_WEIGHT, TAG_FLAG, TAG_TEXT}
+use Rattle.sb_types.specs.declared.format.TheConstants.{TAG_REMOVED}
 use Rattle.sb_digest.specs.Digests.{Pair, Digest, digest_of}
 use Rattle.sb_digest.specs.Limits.{are_digest_parts}
 use Rattle.sb_codec.specs.declared.message.hello.Hello.{Hello}
 use Rattle.sb_codec.specs.declared.message.ask.Ask.{Ask}
 use Rattle.sb_codec.specs.Records.{Row, Rows, row_of, rows_of}
 use Rattle.sb_codec.specs.Limits.{is_reason, is_version, is_fault_number, are_page_rows}
-use Rattle.sb_codec.specs.Fields.{Field, given_field, made_field, then_field, where_field, byte_field, number_field, text_field, long_text_field, list_field, tagged_field}
+use Rattle.sb_codec.specs.Fields.{Field, none_field, given_field, lead_field, made_field, then_field, where_field, byte_field, number_field, text_field, long_text_field, list_field, tagged_field}
 
 unfoldable pub name_field : Field (List ℕ)
 name_field = where_field is_name text_field
@@ -25,29 +30,44 @@ name_field = where_field is_name text_field
 unfoldable pub key_field : Field (List ℕ)
 key_field = where_field is_key text_field
 
-unfoldable pub addr_field : Field Value
-addr_field = where_field is_value (made_field Addr text_field)
-
-unfoldable pub weight_field : Field Value
-weight_field = where_field is_value (made_field Weight (number_field w64))
-
-unfoldable pub text_value_field : Field Value
-text_value_field = where_field is_value (made_field Text long_text_field)
-
 abbrev pub flag_cases : List (ℕ × Field Bool)
 flag_cases = (0, given_field false) ∷ (1, given_field true) ∷ []
 
 unfoldable pub flag_field : Field Bool
 flag_field = tagged_field flag_cases
 
-abbrev pub flag_slot : Bool → Slot
-flag_slot set = Set (Flag set)
+unfoldable pub content_field : Form → Field Content
+content_field forms.Word = made_field Word text_field
+content_field forms.Text = made_field Text long_text_field
+content_field forms.Number = made_field Number (number_field w64)
+content_field forms.Truth = made_field Truth flag_field
 
-abbrev pub slot_cases : List (ℕ × Field Slot)
-slot_cases = (TAG_REMOVED, given_field Removed) ∷ (TAG_ADDR, made_field Set addr_field) ∷ (TAG_WEIGHT, made_field Set weight_field) ∷ (TAG_FLAG, made_field flag_slot flag_field) ∷ (TAG_TEXT, made_field Set text_value_field) ∷ []
+-- the value, if there is one
+abbrev pub result_field : {A : Type 0} → Result A Fault → Field A
+result_field (Ok x) = given_field x
+result_field (Err fault) = none_field
+
+-- the content of a value of the kind
+abbrev pub kind_field : Kind → Field Value
+kind_field kind = lead_field (content_field (form_of kind)) (λ content. result_field (value_of kind content))
+
+abbrev pub optional_kind_field : Option Kind → Field Value
+optional_kind_field None = none_field
+optional_kind_field (Some kind) = kind_field kind
+
+-- what comes after the tag of a value
+unfoldable pub tag_field : ℕ → Field Value
+tag_field tag = optional_kind_field (kind_of_tag tag)
+
+unfoldable pub value_field : Field Value
+value_field = lead_field byte_field tag_field
+
+-- what comes after the tag of a slot
+abbrev pub tagged_slot : ℕ → Field Slot
+tagged_slot tag = if tag == TAG_REMOVED then given_field Removed else made_field Set (tag_field tag)
 
 unfoldable pub slot_field : Field Slot
-slot_field = tagged_field slot_cases
+slot_field = lead_field byte_field tagged_slot
 
 abbrev pub entry_of_parts : List ℕ × (ℕ × Slot) → Entry
 entry_of_parts e = record { key = e.0; version = e.1.0; slot = e.1.1 }
@@ -135,12 +155,6 @@ ask_of a = record { owner = a.0; prefix = a.1.0; after = a.1.1 }
 
 unfoldable pub ask_field : Field Ask
 ask_field = made_field ask_of (then_field (optional_field is_name) (then_field prefix_field place_field))
-
-abbrev pub value_cases : List (ℕ × Field Value)
-value_cases = (TAG_ADDR, addr_field) ∷ (TAG_WEIGHT, weight_field) ∷ (TAG_FLAG, made_field Flag flag_field) ∷ (TAG_TEXT, text_value_field) ∷ []
-
-unfoldable pub value_field : Field Value
-value_field = tagged_field value_cases
 
 -- the version of the row is that of a write
 abbrev pub is_written : List ℕ × (List ℕ × (ℕ × Value)) → Bool

@@ -5,9 +5,10 @@ use Rattle.std.specs.Int.{Width, w16, w64, to_be_bytes, from_bool}
 use Rattle.sb_types.specs.declared.entry.Write.{Write}
 use Rattle.sb_types.specs.declared.entry.Slot.{Slot}
 use Rattle.sb_types.specs.declared.entry.Slot.TheVariants.{Set, Removed}
-use Rattle.sb_types.specs.Value.{Value, Addr, Weight, Flag, Text}
+use Rattle.sb_types.specs.Value.{Value}
+use Rattle.sb_types.specs.Kinds.{Content, Word, Text, Number, Truth, tag_of, kind_of, content_of}
 use Rattle.sb_types.specs.Records.{Entry, Block}
-use Rattle.sb_types.specs.declared.format.TheConstants.{TAG_REMOVED, TAG_ADDR, TAG_WEIGHT, TAG_FLAG, TAG_TEXT}
+use Rattle.sb_types.specs.declared.format.TheConstants.{TAG_REMOVED}
 use Rattle.sb_digest.specs.Digests.{Pair, Digest}
 use Rattle.sb_codec.specs.declared.message.hello.Hello.{Hello}
 use Rattle.sb_codec.specs.declared.message.ask.Ask.{Ask}
@@ -33,21 +34,16 @@ list each items = number w16 (length items) ++ flat_map each items
 abbrev pub flag : Bool → List ℕ
 flag set = from_bool set ∷ []
 
-abbrev pub tag_of : Value → ℕ
-tag_of (Addr bytes) = TAG_ADDR
-tag_of (Weight weight) = TAG_WEIGHT
-tag_of (Flag set) = TAG_FLAG
-tag_of (Text bytes) = TAG_TEXT
-
-unfoldable pub content : Value → List ℕ
-content (Addr bytes) = text bytes
-content (Weight weight) = number w64 weight
-content (Flag set) = flag set
+-- a content, by its form
+unfoldable pub content : Content → List ℕ
+content (Word bytes) = text bytes
 content (Text bytes) = long_text bytes
+content (Number n) = number w64 n
+content (Truth truth) = flag truth
 
--- a tag, and the content of the value
+-- the tag of the kind, and the content of the value
 abbrev pub value : Value → List ℕ
-value v = tag_of v ∷ content v
+value v = tag_of (kind_of v) ∷ content (content_of v)
 
 unfoldable pub slot : Slot → List ℕ
 slot Removed = TAG_REMOVED ∷ []

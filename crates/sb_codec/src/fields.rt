@@ -6,7 +6,8 @@ ghost use Rattle.std.specs.Int.{w16, w64};
 ghost use Rattle.sb_codec.specs.Refusal.{Reads, ReadsWithoutMemory};
 ghost use Rattle.sb_codec.specs.Fields.{byte_field, bytes_field, number_field, text_field, long_text_field, list_field, times_field};
 ghost use Rattle.sb_types.specs.Text.{is_name, is_key};
-ghost use Rattle.sb_codec.specs.Reading.{name_field, key_field, addr_field, weight_field, flag_field, text_value_field, slot_field, entry_field, block_field, delta_field};
+ghost use Rattle.sb_types.specs.Kinds.{shown};
+ghost use Rattle.sb_codec.specs.Reading.{name_field, key_field, flag_field, content_field, tag_field, slot_field, entry_field, block_field, delta_field};
 ghost use Rattle.sb_codec.specs.Reading.{hello_field, bye_field, write_field, done_field, refused_field, optional_field, pair_field};
 ghost use Rattle.sb_codec.specs.Reading.{digest_field, prefix_field, place_field, ask_field, value_field, row_field, page_field};
 ghost use Rattle.sb_codec.specs.Messages.{message_field, TakesMemory};
@@ -16,9 +17,9 @@ use crate::message::{Ask, Bye, Done, Hello, Message, Refused, Row, Rows};
 use crate::refusal::Refusal;
 use sb_digest::{Digest, Pair};
 use sb_types::{
-    Block, Delta, Entry, KIND_ASK, KIND_BYE, KIND_DELTA, KIND_DIGEST, KIND_DONE, KIND_HELLO,
-    KIND_PUT, KIND_REFUSED, KIND_ROWS, Key, Name, Prefix, Slot, TAG_ADDR, TAG_FLAG, TAG_REMOVED,
-    TAG_TEXT, TAG_WEIGHT, Value, Write,
+    Block, ContentRef, Delta, Entry, Form, KIND_ASK, KIND_BYE, KIND_DELTA, KIND_DIGEST, KIND_DONE,
+    KIND_HELLO, KIND_PUT, KIND_REFUSED, KIND_ROWS, Key, Kind, Name, Prefix, Slot, TAG_REMOVED,
+    Value, Write,
 };
 use std::alloc::Global;
 use std::marker::Model;
@@ -176,20 +177,6 @@ impl<'a> Fields<'a> {
         }
     }
 
-    #[tactic(auto, unfolding(crate::specs::Reading::addr_field))]
-    fn addr(&mut self, alloc: Global) -> Result<Value, Refusal>
-        ensures { Reads (λ x. x) (addr_field self.old) result self.new }
-    {
-        Ok(Value::addr(alloc, self.text()?)?)
-    }
-
-    #[tactic(auto, unfolding(crate::specs::Reading::weight_field))]
-    fn weight(&mut self) -> Result<Value, Refusal>
-        ensures { ReadsWithoutMemory (λ x. x) (weight_field self.old) result self.new }
-    {
-        Ok(Value::weight(self.u64()?)?)
-    }
-
     #[tactic(auto, unfolding(crate::specs::Reading::flag_field))]
     fn flag(&mut self) -> Result<bool, Refusal>
         ensures { ReadsWithoutMemory (λ x. x) (flag_field self.old) result self.new }
@@ -201,24 +188,36 @@ impl<'a> Fields<'a> {
         }
     }
 
-    #[tactic(auto, unfolding(crate::specs::Reading::text_value_field))]
-    fn text_value(&mut self, alloc: Global) -> Result<Value, Refusal>
-        ensures { Reads (λ x. x) (text_value_field self.old) result self.new }
+    #[tactic(auto, unfolding(crate::specs::Reading::content_field))]
+    fn content(&mut self, form: Form) -> Result<ContentRef<'a>, Refusal>
+        ensures { ReadsWithoutMemory shown (content_field form self.old) result self.new }
     {
-        Ok(Value::text(alloc, self.long_text()?)?)
+        match form {
+            Form::Word => Ok(ContentRef::Word(self.text()?)),
+            Form::Text => Ok(ContentRef::Text(self.long_text()?)),
+            Form::Number => Ok(ContentRef::Number(self.u64()?)),
+            Form::Truth => Ok(ContentRef::Truth(self.flag()?)),
+        }
+    }
+
+    /// Reads what comes after the tag of a value.
+    #[tactic(auto, unfolding(crate::specs::Reading::tag_field))]
+    fn tagged_value(&mut self, alloc: Global, tag: u8) -> Result<Value, Refusal>
+        ensures { Reads (λ x. x) (tag_field tag self.old) result self.new }
+    {
+        let Some(kind) = Kind::of_tag(tag) else {
+            return Err(Refusal::Malformed);
+        };
+        let content = self.content(kind.form())?;
+        Ok(Value::from_content(alloc, kind, content)?)
     }
 
     #[tactic(auto, unfolding(crate::specs::Reading::value_field))]
     fn value(&mut self, alloc: Global) -> Result<Value, Refusal>
         ensures { Reads (λ x. x) (value_field self.old) result self.new }
     {
-        match self.byte()? {
-            TAG_ADDR => self.addr(alloc),
-            TAG_WEIGHT => self.weight(),
-            TAG_FLAG => Ok(Value::flag(self.flag()?)),
-            TAG_TEXT => self.text_value(alloc),
-            _ => Err(Refusal::Malformed),
-        }
+        let tag = self.byte()?;
+        self.tagged_value(alloc, tag)
     }
 
     #[tactic(auto, unfolding(crate::specs::Reading::slot_field))]
@@ -227,11 +226,7 @@ impl<'a> Fields<'a> {
     {
         match self.byte()? {
             TAG_REMOVED => Ok(Slot::Removed),
-            TAG_ADDR => Ok(Slot::Set(self.addr(alloc)?)),
-            TAG_WEIGHT => Ok(Slot::Set(self.weight()?)),
-            TAG_FLAG => Ok(Slot::Set(Value::flag(self.flag()?))),
-            TAG_TEXT => Ok(Slot::Set(self.text_value(alloc)?)),
-            _ => Err(Refusal::Malformed),
+            tag => Ok(Slot::Set(self.tagged_value(alloc, tag)?)),
         }
     }
 

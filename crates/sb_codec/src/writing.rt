@@ -4,18 +4,16 @@ ghost use Rattle.std.specs.Prelude.{◌≡◌, ◌<◌, ◌^◌, ◌++◌, [], �
 ghost use Rattle.std.specs.Int.{w16, w64};
 ghost use Rattle.sb_types.specs.Text.{is_name};
 ghost use Rattle.sb_types.specs.Value.{is_value};
+ghost use Rattle.sb_types.specs.Kinds.{Fits, shown};
 ghost use Rattle.sb_types.specs.Limits.{is_slot};
 ghost use Rattle.sb_codec.specs.Limits.{is_optional, is_place};
 ghost use Rattle.sb_codec.specs.Standing.{StandsFirst};
-ghost use Rattle.sb_codec.specs.Spelling.{number, text, long_text, list, flag, value, slot, entry, block, optional, pair, place, row};
+ghost use Rattle.sb_codec.specs.Spelling.{number, text, long_text, list, flag, content, value, slot, entry, block, optional, pair, place, row};
 
 use crate::list_item::ListItem;
 use crate::message::Row;
 use sb_digest::Pair;
-use sb_types::{
-    Block, Entry, Key, Name, Slot, TAG_ADDR, TAG_FLAG, TAG_REMOVED, TAG_TEXT, TAG_WEIGHT, Value,
-    ValueRef,
-};
+use sb_types::{Block, ContentRef, Entry, Key, Name, Slot, TAG_REMOVED, Value};
 use std::alloc::AllocError;
 
 /// Writes a byte after what is in `out`. Like all functions that write here, it keeps what was there before, even if it
@@ -79,30 +77,30 @@ pub(crate) fn write_flag(out: &mut Vec<u8>, set: bool) -> Result<(), AllocError>
     write_byte(out, u8::from(set))
 }
 
+/// Writes what a value holds, by its form.
+#[tactic(auto, unfolding(crate::specs::Spelling::content))]
+fn write_content(out: &mut Vec<u8>, written: ContentRef<'_>) -> Result<(), AllocError>
+    requires { Fits (shown written) }
+    ensures written { OnOk result (out.new.items ≡ out.old.items ++ content (shown written.entry)) }
+    ensures stands { StandsFirst out.old.items out.new.items }
+{
+    match written {
+        ContentRef::Word(bytes) => write_text(out, bytes),
+        ContentRef::Text(bytes) => write_long_text(out, bytes),
+        ContentRef::Number(number) => write_u64(out, number),
+        ContentRef::Truth(truth) => write_flag(out, truth),
+    }
+}
+
 #[tactic(auto, using(crate::proofs::Standings::stands_on))]
 fn write_value(out: &mut Vec<u8>, written: &Value) -> Result<(), AllocError>
     ensures written { OnOk result (out.new.items ≡ out.old.items ++ value written.now) }
     ensures stands { StandsFirst out.old.items out.new.items }
     ensures value { is_value written.now ≡ true }
 {
-    match written.view() {
-        ValueRef::Addr(bytes) => {
-            write_byte(out, TAG_ADDR)?;
-            write_text(out, bytes)
-        }
-        ValueRef::Weight(weight) => {
-            write_byte(out, TAG_WEIGHT)?;
-            write_u64(out, weight)
-        }
-        ValueRef::Flag(set) => {
-            write_byte(out, TAG_FLAG)?;
-            write_flag(out, set)
-        }
-        ValueRef::Text(bytes) => {
-            write_byte(out, TAG_TEXT)?;
-            write_long_text(out, bytes)
-        }
-    }
+    let content = written.content();
+    write_byte(out, written.kind().tag())?;
+    write_content(out, content)
 }
 
 #[tactic(auto, unfolding(crate::specs::Spelling::slot))]

@@ -254,9 +254,9 @@ impl<S: DirectoryTag, R: Wait + Drop> Directory<S, R> {
         self.node.lock(rt).take_news()
     }
 
-    /// What a peer with this backlog lacks, as of the node, whatever is in the backlog: the answer to the digest of a peer that has
-    /// all that the node holds, but of each owner in the backlog only what is up to its version there. An owner whose floor is above
-    /// that version is left out. `NoMemory`. Either way it is the seat's last call.
+    /// What a peer with this backlog lacks, as of the node. Such a peer has all that the node holds, but of each owner in the backlog
+    /// only what is up to its version there. So this is the answer to the peer's digest. An owner whose floor is above its version in
+    /// the backlog is left out. The backlog may have anything in it. `NoMemory`. Either way it is the seat's last call.
     pub fn news<Q: Wait>(
         &self,
         rt: &Q,

@@ -1,4 +1,4 @@
-//! Of which owners views may lack something.
+//! Owners whose latest state views may lack.
 ghost use Rattle.std.specs.Prelude.{◌≡◌, true, IfErr, OnOk, OnErr};
 ghost use Rattle.std.specs.FinMap.{empty, entries, contains_key};
 ghost use Rattle.sb_holdings.specs.Held.{Held};
@@ -11,7 +11,7 @@ use std::collections::BTreeMap;
 use std::collections::btree_map::Iter;
 use std::marker::Model;
 
-/// Owners of whom views may lack something, each with the version up to which they have it and the floor that its table had.
+/// Owners whose latest state views may lack. Each has the version up to which views have it, and the floor that its table had.
 #[derive(Drop)]
 pub(crate) struct LackingOwners {
     owners: BTreeMap<Name, (u64, u64)>,
@@ -44,8 +44,8 @@ impl LackingOwners {
         }
     }
 
-    /// Adds an owner, with the version up to which views have it and the floor that its table had; one that stands here
-    /// keeps its own. `NoMemory`, which changes nothing.
+    /// Adds an owner, with the version up to which views have it and the floor that its table had. An owner that is here
+    /// already keeps its own. `NoMemory`, which changes nothing.
     pub(crate) fn add(&mut self, owner: Name, since: (u64, u64)) -> Result<(), Fault>
         ensures ok { OnOk result (self.new ≡ spec.with_owner self.old owner since) }
         ensures err { OnErr result (self.new ≡ self.old) }
@@ -66,8 +66,8 @@ impl LackingOwners {
         }
     }
 
-    /// Adds the owners of these blocks, of whom views have all that is held, where they do not stand here. `NoMemory`,
-    /// which leaves some of them added.
+    /// Adds the owners of these blocks that are not here yet. Views have all that is held of those. `NoMemory`, which
+    /// leaves some of them added.
     pub(crate) fn add_owners(&mut self, holdings: &Holdings, blocks: &[Block]) -> Result<(), Fault>
         ensures since { (old : Held) → spec.AreSince old holdings.now self.old → spec.AreSince old holdings.now self.new }
         ensures owners { OnOk result (spec.HasOwners self.new blocks.now) }

@@ -2,9 +2,9 @@
 use sb_holdings::Report;
 use sb_node::NodeCore;
 
-/// A write was entered, under this version, and stands. `shown` is true where the seat has seen it. It is false where there was no
-/// memory to publish it, or the seat could not enter: then it is seen once a `take_own`, `apply`, `refresh` or `poll` from any seat
-/// has published it, and the seat enters.
+/// A write was entered under this version. `shown` is true if the seat has seen it. It is false if there was no memory to publish
+/// the write, or the seat could not enter. The write is entered all the same. The seat sees it when it enters after a `take_own`,
+/// `apply`, `refresh` or `poll` from any seat has published it.
 #[derive(Clone, Copy, PartialEq, Eq, Debug)]
 pub struct Receipt {
     pub version: u64,
@@ -19,8 +19,8 @@ pub struct Purge {
     pub shown: bool,
 }
 
-/// How the blocks of a delta ended, in their order. `shown` is true where the seat has seen what was taken of them; where it is
-/// false that stands all the same, as of a [`Receipt`].
+/// How the blocks of a delta ended, in their order. `shown` is true if the seat has seen what was taken of them. If it is false,
+/// that was taken all the same, as with a [`Receipt`].
 #[derive(Drop)]
 pub struct Applied {
     pub ends: Report,

@@ -149,8 +149,8 @@ fn writes_of_others_are_shown(rt: HostRuntime) {
     answers(&rt, rt.alloc(), &cases);
 }
 
-/// A stage whose floor is above all that is held takes the place of what is shown: keys that it lacks are shown no longer,
-/// and those that it tells of older writes of stay as they were. Then a block without entries tells how far b is held.
+/// A stage whose floor is above all that is held takes the place of what is shown. Keys that it lacks are no longer shown. Keys
+/// that it has an older write of stay as they were. Then a block without entries says how far b is held.
 #[test]
 fn a_floor_takes_rows(rt: HostRuntime) {
     let cases = [
@@ -214,7 +214,7 @@ fn a_full_table_takes_no_new_key(rt: HostRuntime) {
     run_seated(&rt, node_of(&rt, alloc, b"a", full_table(&rt, alloc)), run);
 }
 
-/// A node that is opened with one write, as from a copy of its log, where b has a second one; the log's next write is not taken.
+/// A node is opened with one write, as from a copy of its log, while b has a second one. The log's next write is not taken.
 #[test]
 fn a_peer_has_later_writes(rt: HostRuntime) {
     let alloc = rt.alloc();
@@ -261,7 +261,7 @@ fn news_is_taken_once(rt: HostRuntime) {
     answers(&rt, rt.alloc(), &cases);
 }
 
-/// What enters nothing is no news: a stale block, a gap, the own name, and a write that is refused.
+/// A block or write that enters nothing makes no news: a stale block, a gap, the own name, and a write that is refused.
 #[test]
 fn what_enters_nothing_is_no_news(rt: HostRuntime) {
     let cases = [

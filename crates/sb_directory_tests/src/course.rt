@@ -28,13 +28,13 @@ pub(crate) const TAKEN: Answer = Answer::Ended(BlockEnd::Taken(1));
 pub(crate) enum Course<'a> {
     /// These calls, which are answered so.
     Calls(&'a [Case]),
-    /// A write of which some allocation may be refused, and then these calls.
+    /// A write, during which an allocation may fail, and then these calls.
     LateWrite(&'a [Case]),
-    /// A delta of which some allocation may be refused, which is shown at last.
+    /// A delta, during which an allocation may fail, and which is shown at last.
     LateDelta,
 }
 
-/// A write of which some allocation may be refused, and what makes up for it.
+/// A write, during which an allocation may fail, and what makes up for it.
 fn write_late<S: DirectoryTag, H: Wait + Drop, R: Wait + Abort>(rt: &R, desk: &mut Desk<S, H>) {
     match desk.perform(rt, Call::Take) {
         // Everything is as it was, and the same write is taken then.
@@ -49,7 +49,7 @@ fn write_late<S: DirectoryTag, H: Wait + Drop, R: Wait + Abort>(rt: &R, desk: &m
     }
 }
 
-/// A delta of which some allocation may be refused, and what makes up for it: how many events that makes.
+/// A delta, during which an allocation may fail, and what makes up for it. Returns how many events that makes.
 fn take_late<S: DirectoryTag, H: Wait + Drop, R: Wait + Abort>(
     rt: &R,
     desk: &mut Desk<S, H>,

@@ -1,19 +1,18 @@
--- Names, keys and addresses are ASCII, texts are UTF-8, and no value is a float.
+-- Names and keys are ASCII, and no value is a float.
 use Rattle.std.proofs.Common.{◌≡◌, ℕ, ◌<◌, ◌≤◌, Bool, true, false, ◌||◌, ◌&&◌, List, refl, arith, eqb, ⊎_elim}
 use Rattle.std.specs.Prelude.{nat_le, ◌==◌}
 use Rattle.std.specs.Str.{IsUtf8}
 use Rattle.std.specs.List.{list_all}
 use Rattle.std.proofs.lemmas.Bool.{and_parts, or_cases, leb-true, eqb-true}
 use Rattle.std.proofs.lemmas.List.Sums.{AllPass-from_list_all}
-use Rattle.std.proofs.lemmas.Str.{IsUtf8-from_ascii, IsUtf8-from_is_utf8}
+use Rattle.std.proofs.lemmas.Str.{IsUtf8-from_ascii}
 use Rattle.std.proofs.lemmas.Str.Ascii.{IsAscii-from_all}
-use Rattle.sb_types.specs.Text.{is_between, is_plain_byte, is_name_byte, is_key_byte, is_addr_byte, is_name, is_key, is_addr, is_text}
-use Rattle.sb_types.specs.Value.{Value, Addr, Weight, Flag, Text}
+use Rattle.sb_types.specs.Text.{is_between, is_plain_byte, is_name_byte, is_key_byte, is_name, is_key}
+use Rattle.sb_types.specs.Kinds.{Content, Word, Text, Number, Truth, word_of, kind_of, content_of}
 use Rattle.serde_json.specs.Written.{has_float}
 use Rattle.sb_codec.specs.Records.{Row}
 use Rattle.serde_json.specs.Data.{Data}
-use Rattle.sb_types.specs.Value.{words_of}
-use Rattle.sb_listing.specs.Json.{value_data, object_data, row_data}
+use Rattle.sb_listing.specs.Json.{content_data, object_data, row_data}
 
 between : (least most b : ℕ) → is_between least most b ≡ true → most < 128 → b < 128
 between least most b is low = let upto : b ≤ most = leb-true b most (and_parts (nat_le least b) (nat_le b most) is).1 in omega arith
@@ -40,9 +39,6 @@ key-byte b is =
     (λ e. one 47 b e (omega arith)))
     (λ e. one 45 b e (omega arith))
 
-addr-byte : (b : ℕ) → is_addr_byte b ≡ true → b < 128
-addr-byte b is = between 33 126 b is (omega arith)
-
 ascii : (test : ℕ → Bool) (text : List ℕ) → ((b : ℕ) → test b ≡ true → b < 128) → list_all test text ≡ true → IsUtf8 text
 ascii test text low all = let each = AllPass-from_list_all test text all in IsUtf8-from_ascii text (IsAscii-from_all text (λ k d l. low _ (each k d l)))
 
@@ -52,23 +48,17 @@ name-utf8 text is = ascii is_name_byte text name-byte (and_parts _ _ is).1
 pub key-utf8 : (text : List ℕ) → is_key text ≡ true → IsUtf8 text
 key-utf8 text is = ascii is_key_byte text key-byte (and_parts _ _ is).1
 
-pub addr-utf8 : (text : List ℕ) → is_addr text ≡ true → IsUtf8 text
-addr-utf8 text is = ascii is_addr_byte text addr-byte (and_parts _ _ is).1
-
-pub text-utf8 : (text : List ℕ) → is_text text ≡ true → IsUtf8 text
-text-utf8 text is = IsUtf8-from_is_utf8 text (and_parts _ _ is).1
-
-pub value-plain : (value : Value) → has_float (value_data value) ≡ false
-value-plain (Addr text) = refl
-value-plain (Weight weight) = refl
-value-plain (Flag flag) = refl
-value-plain (Text text) = refl
+pub content-plain : (content : Content) → has_float (content_data content) ≡ false
+content-plain (Word text) = refl
+content-plain (Text text) = refl
+content-plain (Number n) = refl
+content-plain (Truth truth) = refl
 
 pub row-plain : (row : Row) → has_float (row_data row) ≡ false
 unfolding row_data
-row-plain row = let plain = value-plain row.value in rw plain refl
+row-plain row = let plain = content-plain (content_of row.value) in rw plain refl
 
-pub object-row : (row : Row) (key kind owner : List ℕ) (value : Data) (version : ℕ) → key ≡ row.key → kind ≡ (words_of row.value).0 → owner ≡ row.owner → value ≡ value_data row.value → version ≡ row.version
+pub object-row : (row : Row) (key kind owner : List ℕ) (value : Data) (version : ℕ) → key ≡ row.key → kind ≡ word_of (kind_of row.value) → owner ≡ row.owner → value ≡ content_data (content_of row.value) → version ≡ row.version
     → object_data key kind owner value version ≡ row_data row
 unfolding row_data
 object-row row key kind owner value version k d o v n = cc

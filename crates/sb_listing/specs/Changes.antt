@@ -1,12 +1,11 @@
 -- What changed from one listing of rows to the next.
-use Rattle.std.specs.Prelude.{◌≡◌, ℕ, Bool, true, false, ◌&&◌, ◌==◌, not, nat_eq, if◌then◌else◌, List, [], ◌∷◌, ◌++◌, map, unwrap_or, option_map}
-use Rattle.std.specs.Bool.{beq}
+use Rattle.std.specs.Prelude.{◌≡◌, Bool, true, false, ◌&&◌, ◌==◌, not, if◌then◌else◌, List, [], ◌∷◌, ◌++◌, map}
 use Rattle.std.specs.List.{list_any, AllByRecursion}
 use Rattle.std.specs.Ordering.{nat_cmp, is_eq, ordering_then, match_ordering}
 use Rattle.std.specs.declared.cmp.Ordering.{Ordering}
 use Rattle.std.specs.declared.cmp.Ordering.TheVariants.{Less}
-use Rattle.std.specs.Cmp.Lexicographic.{pointwise, slice_cmp}
-use Rattle.sb_types.specs.Value.{Value, Addr, Weight, Flag, Text, addr_of, weight_of, flag_of, text_of}
+use Rattle.std.specs.Cmp.Lexicographic.{slice_cmp}
+use Rattle.sb_types.specs.Kinds.{is_same_value}
 use Rattle.sb_codec.specs.Records.{Row}
 
 pub data RowChange : Type 0 where
@@ -16,12 +15,6 @@ pub data RowChange : Type 0 where
 -- the order by owner and then by key
 abbrev pub place_order : Row → Row → Ordering
 place_order x y = ordering_then (slice_cmp nat_cmp x.owner y.owner) (slice_cmp nat_cmp x.key y.key)
-
-abbrev pub is_same_value : Value → Value → Bool
-is_same_value (Addr text) other = unwrap_or (option_map (λ it. pointwise nat_eq it text) (addr_of other)) false
-is_same_value (Weight weight) other = unwrap_or (option_map (λ it. it == weight) (weight_of other)) false
-is_same_value (Flag flag) other = unwrap_or (option_map (λ it. beq it flag) (flag_of other)) false
-is_same_value (Text text) other = unwrap_or (option_map (λ it. pointwise nat_eq it text) (text_of other)) false
 
 -- one version and one value
 abbrev pub is_same : Row → Row → Bool

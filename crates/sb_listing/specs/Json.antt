@@ -1,16 +1,16 @@
 -- A row as JSON.
 use Rattle.std.specs.Prelude.{ℕ, List, [], ◌∷◌, ◌++◌, codes}
 use Rattle.std.specs.List.{flat_map}
-use Rattle.sb_types.specs.Value.{Value, Addr, Weight, Flag, Text, words_of}
+use Rattle.sb_types.specs.Kinds.{Content, Word, Text, Number, Truth, word_of, kind_of, content_of}
 use Rattle.sb_codec.specs.Records.{Row}
 use Rattle.serde_json.specs.Data.{Data, boolean, number, unsigned, string, object, member, no_members}
 use Rattle.serde_json.specs.Written.{compact_text}
 
-abbrev pub value_data : Value → Data
-value_data (Addr text) = string text
-value_data (Weight weight) = number (unsigned weight)
-value_data (Flag flag) = boolean flag
-value_data (Text text) = string text
+abbrev pub content_data : Content → Data
+content_data (Word text) = string text
+content_data (Text text) = string text
+content_data (Number n) = number (unsigned n)
+content_data (Truth truth) = boolean truth
 
 -- the members are in the order of their names
 abbrev pub object_data : List ℕ → List ℕ → List ℕ → Data → ℕ → Data
@@ -20,7 +20,7 @@ object_data key kind owner value version =
 
 -- a row as an object: its key, the word of its kind, its owner, what its value holds, and its version
 unfoldable pub row_data : Row → Data
-row_data row = object_data row.key (words_of row.value).0 row.owner (value_data row.value) row.version
+row_data row = object_data row.key (word_of (kind_of row.value)) row.owner (content_data (content_of row.value)) row.version
 
 -- the text of the object, without spaces, and the end of the line
 abbrev pub json_line : Row → List ℕ

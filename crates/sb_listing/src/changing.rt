@@ -5,7 +5,7 @@ ghost use Rattle.sb_listing.specs.Changes as spec;
 ghost use Rattle.sb_listing.specs.Printed.{change_of};
 
 use sb_codec::Row;
-use sb_types::{Fault, Value, ValueRef};
+use sb_types::Fault;
 use std::alloc::Global;
 use std::cmp::Ordering;
 
@@ -26,35 +26,12 @@ fn place_order(one: &Row, other: &Row) -> Ordering
     owners.then(one.key().bytes().cmp(other.key().bytes()))
 }
 
-fn is_same_value(one: &Value, other: &Value) -> bool
-    ensures { result ≡ spec.is_same_value one.now other.now }
-{
-    match one.view() {
-        ValueRef::Addr(text) => match other.as_addr() {
-            Some(it) => it == text,
-            None => false,
-        },
-        ValueRef::Weight(weight) => match other.as_weight() {
-            Some(it) => it == weight,
-            None => false,
-        },
-        ValueRef::Flag(flag) => match other.as_flag() {
-            Some(it) => it == flag,
-            None => false,
-        },
-        ValueRef::Text(text) => match other.as_text() {
-            Some(it) => it == text,
-            None => false,
-        },
-    }
-}
-
 /// Whether two rows of one owner and key have one version and value. The version alone would do if names were unique
 /// and no older log were put back.
 fn is_same(one: &Row, other: &Row) -> bool
     ensures { result ≡ spec.is_same one.now other.now }
 {
-    one.version() == other.version() && is_same_value(one.value(), other.value())
+    one.version() == other.version() && one.value().is_same(other.value())
 }
 
 /// Adds the changes up to and including the place of `row`, a row of the later listing. Returns the rows of the earlier

@@ -1,14 +1,14 @@
 //! Rows as JSON.
 ghost use Rattle.std.specs.Prelude.{◌≡◌, ◌∷◌, ◌++◌, [], false, IsUtf8, OnOk, IfOk, IfErr};
-ghost use Rattle.sb_types.specs.Value.{words_of};
+ghost use Rattle.sb_types.specs.Kinds.{word_of, kind_of, content_of};
 ghost use Rattle.sb_frames.specs.Sending.{Sends, OnlyWhereFailed};
 ghost use Rattle.serde_json.specs.View.{view};
 ghost use Rattle.serde_json.specs.Written.{has_float};
-ghost use Rattle.sb_listing.specs.Json.{value_data, object_data, row_data, json_line, json_lines};
+ghost use Rattle.sb_listing.specs.Json.{content_data, object_data, row_data, json_line, json_lines};
 
 use sb_codec::{Row, Rows};
 use sb_frames::{LastWrite, write_counted};
-use sb_types::{Fault, ValueRef};
+use sb_types::{ContentRef, Fault};
 use serde_json::{Value, json};
 use std::alloc::{AllocError, Global};
 use std::io::Write;
@@ -23,25 +23,20 @@ fn text_of(bytes: &[u8]) -> &str
 
 /// The word for the kind of a value.
 fn kind_of(value: &sb_types::Value) -> &'static str
-    ensures { result.now ≡ (words_of value.now).0 }
+    ensures { result.now ≡ word_of (kind_of value.now) }
 {
-    match value.view() {
-        ValueRef::Addr(_) => "addr",
-        ValueRef::Weight(_) => "weight",
-        ValueRef::Flag(_) => "flag",
-        ValueRef::Text(_) => "text",
-    }
+    value.kind().word()
 }
 
 /// What a value holds: a text, a number, or true or false. A text is as it is, and not as lines spell it.
 fn json_of(alloc: Global, value: &sb_types::Value) -> Result<Value, AllocError>
-    ensures { IfOk result (λ json. view json ≡ value_data value.now) }
+    ensures { IfOk result (λ json. view json ≡ content_data (content_of value.now)) }
 {
-    match value.view() {
-        ValueRef::Addr(text) => Value::try_from_str(alloc, text_of(text)),
-        ValueRef::Weight(weight) => Ok(Value::from(weight)),
-        ValueRef::Flag(flag) => Ok(Value::from(flag)),
-        ValueRef::Text(text) => Value::try_from_str(alloc, text_of(text)),
+    match value.content() {
+        ContentRef::Word(text) => Value::try_from_str(alloc, text_of(text)),
+        ContentRef::Text(text) => Value::try_from_str(alloc, text_of(text)),
+        ContentRef::Number(number) => Ok(Value::from(number)),
+        ContentRef::Truth(truth) => Ok(Value::from(truth)),
     }
 }
 

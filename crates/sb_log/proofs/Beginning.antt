@@ -18,7 +18,7 @@ use Rattle.sb_types.specs.Runs.{are_ascending, last_version}
 use Rattle.sb_table.specs.Plain.{plain_table}
 use Rattle.sb_table.specs.Floors.{IsKeptTable, raised}
 use Rattle.sb_table.specs.Contents.{IsContent}
-use Rattle.sb_log.specs.Form.{log_schema}
+use Rattle.sb_log.specs.Form.{newest_form, log_schema}
 use Rattle.sb_log.specs.Records.{Log}
 use Rattle.sb_log.specs.Rows.{AreRowsOf}
 use Rattle.sb_log.specs.Opening.{IsNamedIn}
@@ -63,7 +63,7 @@ pub nothing_content : (after : ℕ) → IsContent (nothing_up_to after)
 nothing_content after = record { table = nothing_kept after; held = omega arith }
 
 -- the tables that held nothing, with this last version, which is the floor
-pub begins_in : (owner cluster : List ℕ) (after : ℕ) (db now : Trees) → after ≤ VERSION_MOST → HoldsContent owner cluster (plain_table []) [] db → now 1 ≡ db 1 → IsNamedIn 2 owner cluster after after (now 0)
+pub begins_in : (owner cluster : List ℕ) (after : ℕ) (db now : Trees) → after ≤ VERSION_MOST → HoldsContent owner cluster (plain_table []) [] db → now 1 ≡ db 1 → IsNamedIn newest_form owner cluster after after (now 0)
     → HoldsContent owner cluster (nothing_up_to after) [] now
 begins_in owner cluster after db now most holds same named =
     let held : after ≡ max after 0 = omega arith in
@@ -77,7 +77,7 @@ begins_in owner cluster after db now most holds same named =
     }
 
 pub begins_by : {E : Type 0} (owner cluster : List ℕ) (after : ℕ) (db now : Trees) → after ≤ VERSION_MOST → HoldsContent owner cluster (plain_table []) [] db → (result : Result (Unit {0}) E)
-    → OnOk result ((now 1 ≡ db 1) × IsNamedIn 2 owner cluster after after (now 0)) → OnOk result (HoldsContent owner cluster (nothing_up_to after) [] now)
+    → OnOk result ((now 1 ≡ db 1) × IsNamedIn newest_form owner cluster after after (now 0)) → OnOk result (HoldsContent owner cluster (nothing_up_to after) [] now)
 begins_by owner cluster after db now most holds (Ok done) did = begins_in owner cluster after db now most holds did.0 did.1
 begins_by owner cluster after db now most holds (Err cause) did = tt
 

@@ -20,7 +20,7 @@ use Rattle.sb_table.proofs.Keeping.{kept-with_entry, kept-raised}
 use Rattle.sb_table.proofs.Merging.{length-filter_le}
 use Rattle.sb_table.proofs.Plain.{IsPlainTable-with_entry, plain_table-entered}
 use Rattle.sb_log.specs.Rows.{AreRowsOf, Enters, Drops, CanSay, is_kept, number_of, last_in, floor_in, content_by, content_of}
-use Rattle.sb_log.specs.Form.{log_schema}
+use Rattle.sb_log.specs.Form.{newest_form, log_schema}
 use Rattle.sb_log.specs.Opening.{IsNamedIn}
 use Rattle.sb_log.specs.Puts.{purged}
 use Rattle.sb_log.specs.Standing.{HoldsContent}
@@ -139,17 +139,17 @@ kept_plain t plain = record {
 pub plain_is_content : (t : Table) → IsPlainTable t → IsContent t
 plain_is_content t plain = record { table = kept_plain t plain; held = omega (arith, plain.last) }
 
-pub holds_plain : (owner cluster : List ℕ) (t : Table) (db : Trees) → IsNamedIn 2 owner cluster 0 0 (db 0) → AreRowsOf t (db 1) → HoldsContent owner cluster t t.entries db
+pub holds_plain : (owner cluster : List ℕ) (t : Table) (db : Trees) → IsNamedIn newest_form owner cluster 0 0 (db 0) → AreRowsOf t (db 1) → HoldsContent owner cluster t t.entries db
 holds_plain owner cluster t db named are = record {
   last = 0;
-  named = subst (λ (n : ℕ). IsNamedIn 2 owner cluster 0 n (db 0)) (sym are.plain.floor) named;
+  named = subst (λ (n : ℕ). IsNamedIn newest_form owner cluster 0 n (db 0)) (sym are.plain.floor) named;
   can = record { order = omega (arith, are.plain.floor); reach = omega arith; most = omega arith };
   rows = subst (λ (u : Table). AreRowsOf u (db 1)) (plain_is t are.plain) are;
   table = kept_plain t are.plain;
   is = plain_is t are.plain ∙ sym (no_floor t.entries are.plain.run.ascending) ∙ ap (λ (n : ℕ). content_by 0 n t.entries) (sym are.plain.floor);
 }
 
-pub plain_content : (owner cluster : List ℕ) (t : Table) (db : Trees) → IsNamedIn 2 owner cluster 0 0 (db 0) → AreRowsOf t (db 1) → content_of (db 0) (db 1) ≡ t
+pub plain_content : (owner cluster : List ℕ) (t : Table) (db : Trees) → IsNamedIn newest_form owner cluster 0 0 (db 0) → AreRowsOf t (db 1) → content_of (db 0) (db 1) ≡ t
 plain_content owner cluster t db named are = holds_is owner cluster t t.entries db (holds_plain owner cluster t db named are)
 
 -- ---- as it is opened
@@ -169,7 +169,7 @@ all_live last floor found t is few =
     none_dead floor found.entries (omega (arith, same, ltb-false (length t.entries) (length found.entries) few))
 
 module _ (owner cluster : List ℕ) (last floor : ℕ) (found : Table) (plain : IsPlainTable found) (can : CanSay last floor found.entries) (db : Trees)
-    (named : IsNamedIn 2 owner cluster last floor (db 0)) (rows : AreRowsOf (plain_table (live floor found.entries)) (db 1)) where
+    (named : IsNamedIn newest_form owner cluster last floor (db 0)) (rows : AreRowsOf (plain_table (live floor found.entries)) (db 1)) where
   cleared_is : content_by last floor found.entries ≡ content_by last floor (live floor found.entries)
   cleared_is =
       let less = last_version-filter (λ e. is_set e.slot || nat_lt floor e.version) 0 0 found.entries (omega arith) plain.run.ascending in
@@ -212,7 +212,7 @@ module _ (owner cluster : List ℕ) (content : Table) (db : Trees) (holds : Hold
     pub entered_holds : (after : Trees) → Enters e (db 1) (after 1) → after 0 ≡ db 0 → HoldsContent owner cluster (with_entry content e) (with_entry content e).entries after
     entered_holds after enters same = record {
       last = holds.last;
-      named = subst (IsNamedIn 2 owner cluster holds.last content.floor) (sym same) holds.named;
+      named = subst (IsNamedIn newest_form owner cluster holds.last content.floor) (sym same) holds.named;
       can =
           let last : last_version 0 (entered content.entries (e ∷ [])) ≡ e.version = last_version-push 0 (without (e ∷ []) content.entries) e in
           record { order = holds.can.order; reach = omega (arith, last, held_is, later); most = holds.can.most };
@@ -243,7 +243,7 @@ module _ (owner cluster : List ℕ) (content : Table) (db : Trees) (holds : Hold
     least : last_version 0 (live floor content.entries) ≤ content.held
     least = omega (arith, last_version-filter lives 0 0 content.entries (omega arith) holds.table.is.run.ascending, holds.table.is.run.most)
 
-    module _ (after : Trees) (named : IsNamedIn 2 owner cluster content.held floor (after 0)) where
+    module _ (after : Trees) (named : IsNamedIn newest_form owner cluster content.held floor (after 0)) where
       -- the removals up to it may still have rows
       pub raised_holds : (es : List Entry) → live floor es ≡ live floor content.entries → last_version 0 es ≤ content.held → content.held ≤ max floor (last_version 0 es) → AreRowsOf (plain_table es) (after 1)
           → HoldsContent owner cluster (purged floor content) es after
@@ -271,19 +271,19 @@ module _ (owner cluster : List ℕ) (content : Table) (db : Trees) (holds : Hold
     -- ---- by two statements, of which the first says the floor and the second takes the rows out
 
     module _ (held : ℕ) (held_same : content.held ≡ held) where
-      says : (db' : Trees) → IsNamedIn 2 owner cluster held floor (db' 0) → IsNamedIn 2 owner cluster content.held floor (db' 0)
-      says db' named = subst (λ (n : ℕ). IsNamedIn 2 owner cluster n floor (db' 0)) (sym held_same) named
+      says : (db' : Trees) → IsNamedIn newest_form owner cluster held floor (db' 0) → IsNamedIn newest_form owner cluster content.held floor (db' 0)
+      says db' named = subst (λ (n : ℕ). IsNamedIn newest_form owner cluster n floor (db' 0)) (sym held_same) named
 
       abbrev pub Leaves : Trees → Type 0
       Leaves left = IsSound log_schema left × ((entries : List Entry) × HoldsContent owner cluster (purged floor content) entries left)
 
-      pub first_leaves : (left : Trees) → IsSound log_schema left × ((left 1 ≡ db 1) × IsNamedIn 2 owner cluster held floor (left 0)) → Leaves left
+      pub first_leaves : (left : Trees) → IsSound log_schema left × ((left 1 ≡ db 1) × IsNamedIn newest_form owner cluster held floor (left 0)) → Leaves left
       first_leaves left did = (did.0, (content.entries, floored_holds left (says left did.1.1) did.1.0))
 
-      module _ (mid : Trees) (rows : mid 1 ≡ db 1) (named : IsNamedIn 2 owner cluster held floor (mid 0)) where
+      module _ (mid : Trees) (rows : mid 1 ≡ db 1) (named : IsNamedIn newest_form owner cluster held floor (mid 0)) where
         dropped : (after : Trees) → Drops floor (mid 1) (after 1) → after 0 ≡ mid 0 → HoldsContent owner cluster (purged floor content) (purged floor content).entries after
         dropped after drops meta =
-            purged_holds after (subst (IsNamedIn 2 owner cluster content.held floor) (sym meta) (says mid named)) (subst (λ (before : List Row). Drops floor before (after 1)) rows drops)
+            purged_holds after (subst (IsNamedIn newest_form owner cluster content.held floor) (sym meta) (says mid named)) (subst (λ (before : List Row). Drops floor before (after 1)) rows drops)
 
         pub second_holds : {E : Type 0} (result : Result (Unit {0}) E) (after : Trees) → OnOk result (Drops floor (mid 1) (after 1) × (after 0 ≡ mid 0))
             → OnOk result (HoldsContent owner cluster (purged floor content) (purged floor content).entries after)

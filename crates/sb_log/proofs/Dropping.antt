@@ -1,5 +1,5 @@
 -- What the statement that takes out removals does.
-use Rattle.std.proofs.Common.{◌≡◌, ◌≤◌, inl, inr, ⊎_elim, ℕ, ℤ, pos, Bool, true, false, cond, not, ◌&&◌, ◌||◌, true≢false, List, [], ◌∷◌, ◌++◌, length, map, filter, flat_map, Option, None, Some, Ok, refl, sym, ap, subst, subst₂, ◌∙◌, arith, int_cmp, is_eq, nat_lt, IsPermutation}
+use Rattle.std.proofs.Common.{◌≡◌, ◌≤◌, inl, inr, ⊎_elim, ℕ, ℤ, pos, Bool, true, false, cond, not, ◌&&◌, ◌||◌, true≢false, List, [], ◌∷◌, ◌++◌, length, map, filter, flat_map, Option, None, Some, Ok, refl, sym, ap, subst, subst₂, ◌∙◌, arith, int_cmp, is_eq, nat_lt, ◌==◌, IsPermutation}
 use Rattle.std.specs.List.{AllByRecursion, list_any, list_all}
 use Rattle.std.specs.Ordering.{is_le}
 use Rattle.std.proofs.lemmas.Bool.{and_parts, and_from, or_parts, cases_Bool}
@@ -39,8 +39,10 @@ use Rattle.sqlite.specs.State.{State, Writes, Executes, MayCommit, CommitsBy, mo
 use Rattle.sqlite.proofs.Callers.{IsPlain, command_of, statement_of, runs_as, one_step}
 use Rattle.sb_types.specs.declared.entry.Slot.{Slot}
 use Rattle.sb_types.specs.declared.entry.Slot.TheVariants.{Set, Removed}
-use Rattle.sb_types.specs.Value as values
-use Rattle.sb_types.specs.Value.{Addr, Weight, Flag}
+use Rattle.sb_types.specs.declared.kind.Kind.{Kind}
+use Rattle.sb_types.specs.declared.format.TheConstants.{TAG_REMOVED}
+use Rattle.sb_types.specs.Kinds.{tag_of, kind_of}
+use Rattle.sb_types.proofs.KindTable.{tag_not_removed}
 use Rattle.sb_types.specs.Records.{Entry, Table}
 use Rattle.sb_types.specs.Runs.{is_set, live}
 use Rattle.sb_table.proofs.Order.{run_kept}
@@ -224,11 +226,12 @@ tag_is : (n : ℕ) → is_true (binary (Compare Eq Binary) (Int (pos n)) (Int (p
 unfolding binary
 tag_is n = shown_truth (is_eq (value_cmp (Int (pos n)) (Int (pos 0)))) ∙ ap is_eq (value_cmp-Int (pos n) (pos 0))
 
+-- by the table no kind has the tag of a removal
+no_removal : (kind : Kind) → is_eq (int_cmp (pos (tag_of kind)) (pos 0)) ≡ false
+no_removal kind = let other : (tag_of kind == TAG_REMOVED) ≡ false = tag_not_removed kind in grind (arith, ints, nat_tests)
+
 kept_slot : (floor version : ℕ) (slot : Slot) → tested_slot floor version slot ≡ (is_set slot || nat_lt floor version)
-kept_slot floor version (Set (Addr text)) = ap (λ (b : Bool). not (b && (below floor version && true))) (tag_is 1)
-kept_slot floor version (Set (Weight weight)) = ap (λ (b : Bool). not (b && (below floor version && true))) (tag_is 2)
-kept_slot floor version (Set (Flag flag)) = ap (λ (b : Bool). not (b && (below floor version && true))) (tag_is 3)
-kept_slot floor version (Set (values.Text text)) = ap (λ (b : Bool). not (b && (below floor version && true))) (tag_is 4)
+kept_slot floor version (Set value) = ap (λ (b : Bool). not (b && (below floor version && true))) (tag_is (tag_of (kind_of value)) ∙ no_removal (kind_of value))
 kept_slot floor version Removed =
     ap (λ (b : Bool). not (b && (below floor version && true))) (tag_is 0) ∙ not_both (below floor version)
     ∙ ap not (marker_kept floor version ∙ ap is_le (value_cmp-Int (pos version) (pos floor))) ∙ above_floor floor version

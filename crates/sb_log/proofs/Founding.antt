@@ -12,7 +12,7 @@ use Rattle.sb_log.specs.declared.cause.LogError.{LogError}
 use Rattle.sb_log.specs.declared.cause.LogError.TheVariants.{Store, Fault}
 use Rattle.sb_log.specs.Cause.{fault_of, IsMakingFault, IsReadingFault, IsStoreError, OnRefusal}
 use Rattle.sb_log.specs.Opening.{meta_cells, meta_row, meta_found, writes_found, IsForm, IsFormOf, IsNamedIn, IsNamed, IsSaid, IsMetaOf, IsOthers, NamesAnother, IsRaised, IsCleared, SaysStill, Completes, Opens, Grows, Founds, IsWant, IsOpeningFault}
-use Rattle.sb_log.specs.Form.{log_schema, schema_with}
+use Rattle.sb_log.specs.Form.{newest_form, log_schema, schema_with}
 use Rattle.sb_log.specs.declared.schema.Made.{Made}
 use Rattle.sb_log.specs.declared.schema.Made.TheVariants.{Neither, Meta, Both}
 use Rattle.sqlite_trees.specs.Tree.{Trees}
@@ -76,23 +76,23 @@ whatever_came (Ok a) p = p
 whatever_came (Err e) p = tt
 
 pub holds_new : (owner cluster : List ℕ) (result : Result Table LogError) (before : List Row) (db : Trees) → IfOk result (λ t. AreRowsOf t before) → OnOk result (db 1 ≡ before)
-    → OnOk result (IsNamedIn 2 owner cluster 0 0 (db 0)) → IfOk result (λ t. HoldsContent owner cluster t t.entries db)
+    → OnOk result (IsNamedIn newest_form owner cluster 0 0 (db 0)) → IfOk result (λ t. HoldsContent owner cluster t t.entries db)
 holds_new owner cluster (Ok t) before db are same named = holds_plain owner cluster t db named (subst (AreRowsOf t) (sym same) are)
 holds_new owner cluster (Err fault) before db are same named = tt
 
 module _ (owner cluster : List ℕ) (old mid : Database) (all : Completes old mid) (now : Trees) where
-  pub still_new : (result : Result Table LogError) → mid.trees 0 ≡ [] → OnOk result (IsNamedIn 2 owner cluster 0 0 (now 0)) → OnOk result (SaysStill owner cluster old now)
+  pub still_new : (result : Result Table LogError) → mid.trees 0 ≡ [] → OnOk result (IsNamedIn newest_form owner cluster 0 0 (now 0)) → OnOk result (SaysStill owner cluster old now)
   still_new (Ok t) none named =
-      record { made = all.made; schema = all.schema; meta = subst (λ (m : List Row). IsNamedIn 2 owner cluster (last_in m) (floor_in m) (now 0)) (sym (sym all.meta ∙ none)) named }
+      record { made = all.made; schema = all.schema; meta = subst (λ (m : List Row). IsNamedIn newest_form owner cluster (last_in m) (floor_in m) (now 0)) (sym (sym all.meta ∙ none)) named }
   still_new (Err fault) none named = tt
 
-  pub still_old : (result : Result Table LogError) (read : Database) → read ≡ mid → OnOk result (IsNamedIn 2 owner cluster (last_in (read.trees 0)) (floor_in (read.trees 0)) (now 0))
+  pub still_old : (result : Result Table LogError) (read : Database) → read ≡ mid → OnOk result (IsNamedIn newest_form owner cluster (last_in (read.trees 0)) (floor_in (read.trees 0)) (now 0))
       → OnOk result (SaysStill owner cluster old now)
   still_old (Ok t) read kept named =
       record {
         made = all.made;
         schema = all.schema;
-        meta = subst (λ (m : List Row). IsNamedIn 2 owner cluster (last_in m) (floor_in m) (now 0)) (ap (λ (d : Database). d.trees 0) kept ∙ all.meta) named;
+        meta = subst (λ (m : List Row). IsNamedIn newest_form owner cluster (last_in m) (floor_in m) (now 0)) (ap (λ (d : Database). d.trees 0) kept ∙ all.meta) named;
       }
   still_old (Err fault) read kept named = tt
 
@@ -160,7 +160,7 @@ or_grows owner cluster found db (inl was) = inl was
 or_grows owner cluster found db (inr grows) = inr (inl grows)
 
 pub names_too : (owner cluster : List ℕ) (old mid read : Database) (db : Trees) → Completes old mid → read ≡ mid → mid.trees 0 ≡ []
-    → IsSound log_schema db × (db 1 ≡ read.trees 1) × IsNamedIn 2 owner cluster 0 0 (db 0) → Founds owner cluster old db
+    → IsSound log_schema db × (db 1 ≡ read.trees 1) × IsNamedIn newest_form owner cluster 0 0 (db 0) → Founds owner cluster old db
 names_too owner cluster old mid read db all kept none names =
     inr (inl (record {
       made = all.made;
@@ -174,11 +174,11 @@ names_too owner cluster old mid read db all kept none names =
 -- ---- what is accepted is raised, and cleared
 
 module _ (form : ℕ) (owner cluster : List ℕ) (last floor : ℕ) (metas rows : List Row) (named : IsNamedIn form owner cluster last floor metas) where
-  pub raised_in : (db : Trees) → (form ≡ 1) × IsSound log_schema db × (db 1 ≡ rows) × IsNamedIn 2 owner cluster last floor (db 0) → IsRaised owner cluster metas rows db
+  pub raised_in : (db : Trees) → (form ≡ 1) × IsSound log_schema db × (db 1 ≡ rows) × IsNamedIn newest_form owner cluster last floor (db 0) → IsRaised owner cluster metas rows db
   raised_in db did =
       record { last = last; floor = floor; older = subst (λ (n : ℕ). IsNamedIn n owner cluster last floor metas) did.0 named; sound = did.1; meta = did.3; same = did.2 }
 
-  pub cleared_in : (mid db : Trees) → mid 1 ≡ rows → IsNamedIn 2 owner cluster last floor (mid 0) → IsSound log_schema db × (Drops floor (mid 1) (db 1) × (db 0 ≡ mid 0)) → IsCleared owner cluster metas rows db
+  pub cleared_in : (mid db : Trees) → mid 1 ≡ rows → IsNamedIn newest_form owner cluster last floor (mid 0) → IsSound log_schema db × (Drops floor (mid 1) (db 1) × (db 0 ≡ mid 0)) → IsCleared owner cluster metas rows db
   cleared_in mid db same raised did =
       record {
         form = form;
@@ -186,7 +186,7 @@ module _ (form : ℕ) (owner cluster : List ℕ) (last floor : ℕ) (metas rows 
         floor = floor;
         said = named;
         sound = did.0;
-        meta = subst (IsNamedIn 2 owner cluster last floor) (sym did.1.1) raised;
+        meta = subst (IsNamedIn newest_form owner cluster last floor) (sym did.1.1) raised;
         left = subst (λ (before : List Row). Drops floor before (db 1)) same did.1.0;
       }
 

@@ -21,7 +21,7 @@ use Rattle.sb_table.specs.Plain.{plain_table, with_entry, is_full_for}
 use Rattle.sb_table.specs.Contents.{IsContent}
 use Rattle.sb_log.specs.Records.{Committed, Log}
 use Rattle.sb_log.specs.Puts.{is_idle, Puts, Loads, refusal, next_entry, next_content, IsReason}
-use Rattle.sb_log.specs.Form.{log_schema}
+use Rattle.sb_log.specs.Form.{newest_form, log_schema}
 use Rattle.sb_log.specs.Rows.{AreRowsOf, CanSay, Enters, content_by, content_of}
 use Rattle.sb_log.specs.Opening.{IsNamed, IsNamedIn}
 use Rattle.sb_log.specs.Standing.{IsReady, HoldsContent, IsKept, Finds, MayLeave}
@@ -76,7 +76,7 @@ module _ (old : Log) (up : old.is_open ≡ true) (key : List ℕ) (slot : Slot) 
           (subst (λ (o : Option Fault). IsReason o fault) (sym is) (inl same))
 
 module _ {S : Type 0} (g : Ghosts S) (settled : (s : S) (db : Trees) → IsTrue (g.view s).is_open → g.recovers s db → db ≡ (g.view s).committed) (owner cluster : List ℕ) where
-  in_two : (table : Table) (last floor : ℕ) (rows : List Row) → IsNamedIn 2 owner cluster last floor rows → CanSay last floor table.entries → IsNamed owner cluster table last floor rows
+  in_two : (table : Table) (last floor : ℕ) (rows : List Row) → IsNamedIn newest_form owner cluster last floor rows → CanSay last floor table.entries → IsNamed owner cluster table last floor rows
   in_two table last floor rows named can = (2, inr refl, named, can)
 
   pub found_in : (content : Table) (entries : List Entry) (db : Trees) → IsSound log_schema db → HoldsContent owner cluster content entries db → (left : Table) → Finds owner cluster db left → left ≡ content

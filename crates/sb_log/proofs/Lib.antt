@@ -1,6 +1,7 @@
 mod Refusals
 mod Texts
 mod Cells
+mod Slots
 mod Nodes
 mod Reading
 mod Making

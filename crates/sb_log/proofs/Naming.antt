@@ -18,7 +18,7 @@ use Rattle.sqlite.specs.Listing.{understood}
 use Rattle.sqlite.specs.State.{State, Writes, Executes, MayCommit, CommitsBy, mode_of}
 use Rattle.sqlite_catalog.specs.Listing.{IsSound}
 use Rattle.sqlite.proofs.Callers.{IsPlain, command_of, statement_of, runs_as, one_step}
-use Rattle.sb_log.specs.Form.{log_schema, meta_table, meta_row_text}
+use Rattle.sb_log.specs.Form.{newest_form, log_schema, meta_table, meta_row_text}
 use Rattle.sb_log.specs.Opening.{meta_cells, meta_row, IsNamedIn}
 use Rattle.sb_log.specs.Standing.{IsReady}
 use Rattle.sb_log.proofs.Making.{went, same_value, commits}
@@ -53,7 +53,7 @@ module _ (owner cluster : List ℕ) where
 
   module _ (limit : Option ℕ) (mode : Mode) where
     named : (text : List ℕ) (db : Database) (tally : Tally) (after : Database) → db.schema ≡ log_schema → Does limit mode params db text None insert (Ok (tally, after))
-        → (after.schema ≡ log_schema) × (after.trees 1 ≡ db.trees 1) × (db.trees 0 ≡ [] → after.trees 0 ≡ source 2 owner cluster 0 0 ∷ [])
+        → (after.schema ≡ log_schema) × (after.trees 1 ≡ db.trees 1) × (db.trees 0 ≡ [] → after.trees 0 ≡ source newest_form owner cluster 0 0 ∷ [])
     named text db tally after has h =
         let done = went (subst (λ (s : Schema). Does limit mode params (record db { schema = s }) text None insert (Ok (tally, after))) has h) in
         let now = ap (λ (p : Tally × Database). p.1) (same_value (went (went done.2).2).2) in
@@ -67,7 +67,7 @@ module _ (owner cluster : List ℕ) where
           ap (λ (d : Database). d.schema) now,
           at 1 ∙ put.tables.1.0 apart,
           λ empty. at 0 ∙ put.rows ∙ (λ i. put_all (empty i) (numbered Chosen (empty i) (map (λ (s : Row). cast_row meta_table (drop 0 s)) (given.1.1 i))))
-              ∙ (λ i. put_all [] (numbered Chosen [] (cast_source 2 owner cluster 0 0 i ∷ []))),
+              ∙ (λ i. put_all [] (numbered Chosen [] (cast_source newest_form owner cluster 0 0 i ∷ []))),
         )
 
   module _ (old new : State) (count : ℕ) (ready : IsReady old) (h : Executes meta_row_text params old new (Ok count)) where
@@ -77,7 +77,7 @@ module _ (owner cluster : List ℕ) where
     ran : Writes old new None insert text_run params count
     ran = runs_as meta_row_text params old new log_schema ready.schema insert meta_row_is meta_row_plain count h
 
-    did : (new.now.schema ≡ log_schema) × (new.now.trees 1 ≡ old.now.trees 1) × (old.now.trees 0 ≡ [] → new.now.trees 0 ≡ source 2 owner cluster 0 0 ∷ [])
+    did : (new.now.schema ≡ log_schema) × (new.now.trees 1 ≡ old.now.trees 1) × (old.now.trees 0 ≡ [] → new.now.trees 0 ≡ source newest_form owner cluster 0 0 ∷ [])
     did = named old.step_limit (mode_of old) text_run old.now ran.tally new.now ready.schema ran.changed
 
     pub name_ready : IsReady new
@@ -88,13 +88,13 @@ module _ (owner cluster : List ℕ) where
     pub name_rows : new.now.trees 1 ≡ old.now.trees 1
     name_rows = did.1
 
-    pub name_meta : old.now.trees 0 ≡ [] → map meta_cells (new.now.trees 0) ≡ meta_row 2 owner cluster 0 0 ∷ []
+    pub name_meta : old.now.trees 0 ≡ [] → map meta_cells (new.now.trees 0) ≡ meta_row newest_form owner cluster 0 0 ∷ []
     name_meta empty = ap (map meta_cells) (did.2 empty)
 
   -- what a crash leaves of it
   module _ (old : State) (ready : IsReady old) where
     abbrev pub NamedIn : Trees → Type 0
-    NamedIn db = IsSound log_schema db × (db 1 ≡ old.now.trees 1) × (old.now.trees 0 ≡ [] → map meta_cells (db 0) ≡ meta_row 2 owner cluster 0 0 ∷ [])
+    NamedIn db = IsSound log_schema db × (db 1 ≡ old.now.trees 1) × (old.now.trees 0 ≡ [] → map meta_cells (db 0) ≡ meta_row newest_form owner cluster 0 0 ∷ [])
 
     abbrev text_left : List ℕ
     text_left = statement_of meta_row_text (understood log_schema meta_row_text)

@@ -9,7 +9,7 @@ use Rattle.sqlite_rules.specs.Cast.{cast_row}
 use Rattle.sqlite.specs.State.{State, Executes, CommitsBy}
 use Rattle.sqlite_catalog.specs.Listing.{IsSound}
 use Rattle.sqlite.proofs.Callers.{one_permutation}
-use Rattle.sb_log.specs.Form.{log_schema, meta_table, raise_text}
+use Rattle.sb_log.specs.Form.{newest_form, log_schema, meta_table, raise_text}
 use Rattle.sb_log.specs.Opening.{meta_cells, meta_row, IsNamedIn}
 use Rattle.sb_log.specs.Standing.{IsReady}
 use Rattle.sb_log.proofs.Changing.{Shows, update_ready, update_rows, update_meta, updates_in}
@@ -17,7 +17,7 @@ use Rattle.sb_log.proofs.Naming.{source, cast_source, cell}
 use Rattle.sb_log.proofs.Texts.{raise_query, raise_is, raise_plain}
 
 abbrev raised : Row → Row
-raised r = column r 0 ∷ Null ∷ Int (pos 2) ∷ column r 3 ∷ column r 4 ∷ column r 5 ∷ column r 6 ∷ []
+raised r = column r 0 ∷ Null ∷ Int (pos newest_form) ∷ column r 3 ∷ column r 4 ∷ column r 5 ∷ column r 6 ∷ []
 
 found_one : (r : Row) → Shows raise_query [] r (raised r)
 found_one r db found is answer =
@@ -27,22 +27,22 @@ found_one r db found is answer =
 
 module _ (form last floor : ℕ) (owner cluster : List ℕ) where
   -- with the columns that stay it says the same, in form 2
-  renamed : (r : Row) → meta_cells r ≡ meta_row form owner cluster last floor → cast_row meta_table (raised r) ≡ source 2 owner cluster last floor
+  renamed : (r : Row) → meta_cells r ≡ meta_row form owner cluster last floor → cast_row meta_table (raised r) ≡ source newest_form owner cluster last floor
   renamed r is =
       let at = cell form owner cluster last floor r is in
-      (λ i. cast_row meta_table (at 0 i ∷ Null ∷ Int (pos 2) ∷ at 2 i ∷ at 3 i ∷ at 4 i ∷ at 5 i ∷ [])) ∙ cast_source 2 owner cluster last floor
+      (λ i. cast_row meta_table (at 0 i ∷ Null ∷ Int (pos newest_form) ∷ at 2 i ∷ at 3 i ∷ at 4 i ∷ at 5 i ∷ [])) ∙ cast_source newest_form owner cluster last floor
 
   module _ (old : State) (ready : IsReady old) (named : IsNamedIn form owner cluster last floor (old.now.trees 0)) where
     module _ (new : State) (count : ℕ) (h : Executes raise_text [] old new (Ok count)) where
       pub raise_ready : IsReady new
-      raise_ready = update_ready raise_text [] raise_query raise_is raise_plain raised found_one owner cluster form last floor 2 last floor renamed old ready named new count h
+      raise_ready = update_ready raise_text [] raise_query raise_is raise_plain raised found_one owner cluster form last floor newest_form last floor renamed old ready named new count h
 
       pub raise_rows : new.now.trees 1 ≡ old.now.trees 1
-      raise_rows = update_rows raise_text [] raise_query raise_is raise_plain raised found_one owner cluster form last floor 2 last floor renamed old ready named new count h
+      raise_rows = update_rows raise_text [] raise_query raise_is raise_plain raised found_one owner cluster form last floor newest_form last floor renamed old ready named new count h
 
-      pub raise_meta : IsNamedIn 2 owner cluster last floor (new.now.trees 0)
-      raise_meta = update_meta raise_text [] raise_query raise_is raise_plain raised found_one owner cluster form last floor 2 last floor renamed old ready named new count h
+      pub raise_meta : IsNamedIn newest_form owner cluster last floor (new.now.trees 0)
+      raise_meta = update_meta raise_text [] raise_query raise_is raise_plain raised found_one owner cluster form last floor newest_form last floor renamed old ready named new count h
 
     -- what a crash leaves of it
-    pub raises_in : (db : Trees) → CommitsBy raise_text [] old db → IsSound log_schema db × (db 1 ≡ old.now.trees 1) × IsNamedIn 2 owner cluster last floor (db 0)
-    raises_in db h = updates_in raise_text [] raise_query raise_is raise_plain raised found_one owner cluster form last floor 2 last floor renamed old ready named db h
+    pub raises_in : (db : Trees) → CommitsBy raise_text [] old db → IsSound log_schema db × (db 1 ≡ old.now.trees 1) × IsNamedIn newest_form owner cluster last floor (db 0)
+    raises_in db h = updates_in raise_text [] raise_query raise_is raise_plain raised found_one owner cluster form last floor newest_form last floor renamed old ready named db h

@@ -18,7 +18,7 @@ use Rattle.sqlite.specs.Listing.{understood, reads_listing}
 use Rattle.sqlite.proofs.Callers.{IsPlain, command_of, statement_of}
 use Rattle.sqlite_schema.specs.declared.schema.Table.{Table}
 use Rattle.sqlite_catalog.specs.Change.{created}
-use Rattle.sb_log.specs.Form.{meta_text, writes_text, rows_text, meta_rows_text, meta_row_text, raise_text, floor_text, drop_text, upsert_text, meta_table, writes_table, no_schema, meta_schema, log_schema}
+use Rattle.sb_log.specs.Form.{newest_form, meta_text, writes_text, rows_text, meta_rows_text, meta_row_text, raise_text, floor_text, drop_text, upsert_text, meta_table, writes_table, no_schema, meta_schema, log_schema}
 
 abbrev pub unplaced : Table
 unplaced = record writes_table { tree = 0 }
@@ -132,7 +132,7 @@ unfolding understood everything
 meta_alone_plain = (refl, refl)
 
 abbrev pub meta_terms : List Term
-meta_terms = lit (Int (pos 1)) ∷ lit Null ∷ lit (Int (pos 2)) ∷ col 0 0 ∷ col 0 1 ∷ lit (Int (pos 0)) ∷ lit (Int (pos 0)) ∷ []
+meta_terms = lit (Int (pos 1)) ∷ lit Null ∷ lit (Int (pos newest_form)) ∷ col 0 0 ∷ col 0 1 ∷ lit (Int (pos 0)) ∷ lit (Int (pos 0)) ∷ []
 
 pub meta_row_is : command_of (understood log_schema meta_row_text) ≡ Insert 0 (Values meta_terms 7)
 unfolding understood everything
@@ -148,7 +148,7 @@ raise_query = record {
   from = inner 0 end;
   filter = [];
   group = None;
-  project = col 1 0 ∷ col 1 0 ∷ lit Null ∷ lit (Int (pos 2)) ∷ col 1 3 ∷ col 1 4 ∷ col 1 5 ∷ col 1 6 ∷ [];
+  project = col 1 0 ∷ col 1 0 ∷ lit Null ∷ lit (Int (pos newest_form)) ∷ col 1 3 ∷ col 1 4 ∷ col 1 5 ∷ col 1 6 ∷ [];
   distinct = false;
   collations = [];
   order = [];

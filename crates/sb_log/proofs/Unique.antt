@@ -2,29 +2,20 @@
 use Rattle.std.proofs.Common.{◌≡◌, ℕ, zero, suc, ◌<◌, ◌≤◌, add-one, arith, is_lt, length, get_or, true, false, List, [], ◌∷◌, map, refl, sym, ap, subst, subst₂, ◌∙◌, IsPermutation, IsSorted}
 use Rattle.std.specs.Prelude.{nat_lt}
 use Rattle.std.proofs.lemmas.List.Sorted.{IsPermutation-refl, IsPermutation-cons, IsPermutation-middle, IsPermutation-sym, IsPermutation-map, IsPermutation-trans}
-use Rattle.sqlite_value.specs.Order.{Row, column}
+use Rattle.sqlite_value.specs.Order.{Row}
 use Rattle.sb_types.specs.declared.entry.Slot.{Slot}
-use Rattle.sb_types.specs.declared.entry.Slot.TheVariants.{Set, Removed}
-use Rattle.sb_types.specs.Value.{Addr, Weight, Flag, Text}
 use Rattle.sb_types.specs.Records.{Entry, Table}
 use Rattle.sb_types.specs.Runs.{are_ascending}
 use Rattle.std.proofs.lemmas.Bool.{and_parts, cond_both}
 use Rattle.std.proofs.lemmas.Bool.Decides.{nat_tests}
 use Rattle.sb_types.proofs.DistinctKeys.{by_version, versions_sorted_back}
 use Rattle.sb_table.specs.Plain.{IsPlainTable, plain_table}
-use Rattle.sb_log.specs.Rows.{cells, cells_of, slot_cells, slot_by, number_of, entry_by, put_by_version, in_order, AreRowsOf}
+use Rattle.sb_log.specs.Rows.{cells, cells_of, entry_by, put_by_version, in_order, AreRowsOf}
+use Rattle.sb_log.proofs.Slots.{slot_back}
 
 -- the cells tell the entry
 pub entry_back : (e : Entry) → entry_by (cells_of e) ≡ e
-entry_back e = ap (λ (s : Slot). let x : Entry = record { key = e.key; version = e.version; slot = s } in x) (go e.slot)
-  where
-    go : (s : Slot) → slot_by (number_of (column (slot_cells s) 0)) (column (slot_cells s) 1) (column (slot_cells s) 2) ≡ s
-    go Removed = refl
-    go (Set (Addr text)) = refl
-    go (Set (Weight weight)) = refl
-    go (Set (Flag true)) = refl
-    go (Set (Flag false)) = refl
-    go (Set (Text text)) = refl
+entry_back e = ap (λ (s : Slot). let x : Entry = record { key = e.key; version = e.version; slot = s } in x) (slot_back e.slot)
 
 entries_back : (es : List Entry) → map entry_by (map cells_of es) ≡ es
 entries_back [] = refl

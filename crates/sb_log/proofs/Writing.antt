@@ -31,12 +31,12 @@ use Rattle.sqlite.specs.State.{State, Writes, Executes, CommitsBy, MayCommit, mo
 use Rattle.sqlite.proofs.Callers.{IsPlain, command_of, statement_of, runs_as, one_step}
 use Rattle.sb_types.specs.declared.entry.Slot.{Slot}
 use Rattle.sb_types.specs.declared.entry.Slot.TheVariants.{Set, Removed}
-use Rattle.sb_types.specs.Value as values
-use Rattle.sb_types.specs.Value.{Addr, Weight, Flag}
+use Rattle.sb_types.specs.Kinds as kinds
+use Rattle.sb_types.specs.Kinds.{tag_of, kind_of, content_of}
 use Rattle.sb_types.specs.Records.{Entry, Table}
 use Rattle.sb_table.specs.Plain.{IsPlainTable, with_entry}
 use Rattle.sb_log.specs.Form.{log_schema, writes_table, writes_columns, upsert_text}
-use Rattle.sb_log.specs.Rows.{cells, cells_of, slot_cells, is_kept, AreRowsOf, Enters}
+use Rattle.sb_log.specs.Rows.{cells, cells_of, number_cell, text_cell, slot_cells, is_kept, AreRowsOf, Enters}
 use Rattle.sb_log.specs.Standing.{IsReady}
 use Rattle.sb_log.proofs.Making.{went, same_value}
 use Rattle.sb_log.proofs.Texts.{upsert_terms, on_key, update_query, update_program, upsert_is, upsert_plain}
@@ -55,10 +55,14 @@ c2 s = column (slot_cells s) 2
 
 three : (s : Slot) → slot_cells s ≡ c0 s ∷ c1 s ∷ c2 s ∷ []
 three Removed = refl
-three (Set (Addr text)) = refl
-three (Set (Weight weight)) = refl
-three (Set (Flag flag)) = refl
-three (Set (values.Text text)) = refl
+three (Set value) = refl
+
+fits_content : (tag : ℕ) (c : kinds.Content) → cast_all (drop 2 writes_columns) (Int (pos tag) ∷ number_cell c ∷ text_cell c ∷ []) ≡ Int (pos tag) ∷ number_cell c ∷ text_cell c ∷ []
+fits_content tag (kinds.Word text) = λ i. cast_int (pos tag) i ∷ cast_null i ∷ Text text ∷ []
+fits_content tag (kinds.Text text) = λ i. cast_int (pos tag) i ∷ cast_null i ∷ Text text ∷ []
+fits_content tag (kinds.Number number) = λ i. cast_int (pos tag) i ∷ cast_int (pos number) i ∷ Null ∷ []
+fits_content tag (kinds.Truth true) = λ i. cast_int (pos tag) i ∷ cast_int (pos 1) i ∷ Null ∷ []
+fits_content tag (kinds.Truth false) = λ i. cast_int (pos tag) i ∷ cast_int (pos 0) i ∷ Null ∷ []
 
 module _ (e : Entry) where
   abbrev spread : Row
@@ -72,11 +76,7 @@ module _ (e : Entry) where
 
   fits_slot : (s : Slot) → cast_all (drop 2 writes_columns) (c0 s ∷ c1 s ∷ c2 s ∷ []) ≡ c0 s ∷ c1 s ∷ c2 s ∷ []
   fits_slot Removed = λ i. cast_int (pos 0) i ∷ cast_null i ∷ Null ∷ []
-  fits_slot (Set (Addr text)) = λ i. cast_int (pos 1) i ∷ cast_null i ∷ Text text ∷ []
-  fits_slot (Set (Weight weight)) = λ i. cast_int (pos 2) i ∷ cast_int (pos weight) i ∷ Null ∷ []
-  fits_slot (Set (Flag true)) = λ i. cast_int (pos 3) i ∷ cast_int (pos 1) i ∷ Null ∷ []
-  fits_slot (Set (Flag false)) = λ i. cast_int (pos 3) i ∷ cast_int (pos 0) i ∷ Null ∷ []
-  fits_slot (Set (values.Text text)) = λ i. cast_int (pos 4) i ∷ cast_null i ∷ Text text ∷ []
+  fits_slot (Set value) = fits_content (tag_of (kind_of value)) (content_of value)
 
   fits : cast_all writes_columns spread ≡ spread
   fits = λ i. Text e.key ∷ cast_int (pos e.version) i ∷ fits_slot e.slot i

@@ -14,7 +14,7 @@ use Rattle.sb_log.specs.declared.cause.LogError.{LogError}
 use Rattle.sb_log.specs.declared.cause.LogError.TheVariants.{Store, Fault}
 use Rattle.sb_log.specs.declared.schema.Made.{Made}
 use Rattle.sb_log.specs.declared.schema.Made.TheVariants.{Neither, Meta, Both}
-use Rattle.sb_log.specs.Form.{schema_with, log_schema}
+use Rattle.sb_log.specs.Form.{newest_form, schema_with, log_schema}
 use Rattle.sb_log.specs.Rows.{has_texts, last_in, floor_in, content_by, AreRowsOf, CanSay, Drops}
 
 -- the rowid, form, owner, cluster, last and floor of a row of meta
@@ -31,11 +31,11 @@ IsNamedIn form owner cluster last floor rows = map meta_cells rows ≡ meta_row 
 
 -- the forms that are read; the second is that of every log that was opened
 abbrev pub IsForm : ℕ → Type 0
-IsForm form = (form ≡ 1) ⊎ (form ≡ 2)
+IsForm form = (form ≡ 1) ⊎ (form ≡ newest_form)
 
 -- one of them, which has such content: the first has no texts
 abbrev pub IsFormOf : ℕ → Table → Type 0
-IsFormOf form content = ((form ≡ 1) × (has_texts content ≡ false)) ⊎ (form ≡ 2)
+IsFormOf form content = ((form ≡ 1) × (has_texts content ≡ false)) ⊎ (form ≡ newest_form)
 
 -- a row of a form that is read names another owner or another cluster
 abbrev pub IsOthers : List ℕ → List ℕ → Row → Type 0
@@ -105,7 +105,7 @@ pub record Names (owner cluster : List ℕ) (found : Database) (db : Trees) : Ty
   pub schema : found.schema ≡ schema_with made
   pub none : meta_found made found.trees ≡ []
   pub sound : IsSound log_schema db
-  pub meta : IsNamedIn 2 owner cluster 0 0 (db 0)
+  pub meta : IsNamedIn newest_form owner cluster 0 0 (db 0)
   pub rows : db 1 ≡ writes_found made found.trees
 
 -- the owner's log of these rows, which was of form 1, is of form 2
@@ -114,7 +114,7 @@ pub record IsRaised (owner cluster : List ℕ) (metas rows : List Row) (db : Tre
   pub floor : ℕ
   pub older : IsNamedIn 1 owner cluster last floor metas
   pub sound : IsSound log_schema db
-  pub meta : IsNamedIn 2 owner cluster last floor (db 0)
+  pub meta : IsNamedIn newest_form owner cluster last floor (db 0)
   pub same : db 1 ≡ rows
 
 -- the owner's log of these rows has none of removals up to the floor that it says, and is of form 2
@@ -124,7 +124,7 @@ pub record IsCleared (owner cluster : List ℕ) (metas rows : List Row) (db : Tr
   pub floor : ℕ
   pub said : IsNamedIn form owner cluster last floor metas
   pub sound : IsSound log_schema db
-  pub meta : IsNamedIn 2 owner cluster last floor (db 0)
+  pub meta : IsNamedIn newest_form owner cluster last floor (db 0)
   pub left : Drops floor rows (db 1)
 
 -- an owner's log of these rows was accepted, in part or in whole
@@ -145,7 +145,7 @@ Founds owner cluster found db = Grows found db ⊎ (Names owner cluster found db
 pub record SaysStill (owner cluster : List ℕ) (found : Database) (now : Trees) : Type 0 where
   pub made : Made
   pub schema : found.schema ≡ schema_with made
-  pub meta : IsNamedIn 2 owner cluster (last_in (meta_found made found.trees)) (floor_in (meta_found made found.trees)) (now 0)
+  pub meta : IsNamedIn newest_form owner cluster (last_in (meta_found made found.trees)) (floor_in (meta_found made found.trees)) (now 0)
 
 -- memory was missing, or the store failed
 abbrev pub IsWant : LogError → Type 0

@@ -1,5 +1,5 @@
 -- What the rows of a log's tables hold.
-use Rattle.std.specs.Prelude.{◌≡◌, ◌≤◌, ℕ, max, ℤ, pos, Bool, true, false, ◌&&◌, ◌==◌, if◌then◌else◌, nat_le, nat_lt, List, [], ◌∷◌, map, filter, length, IsPermutation}
+use Rattle.std.specs.Prelude.{◌≡◌, ◌≤◌, ℕ, max, ℤ, pos, Bool, true, false, ◌&&◌, ◌==◌, if◌then◌else◌, nat_le, nat_lt, List, [], ◌∷◌, map, filter, length, Option, Some, None, option_map, unwrap_or, IsPermutation}
 use Rattle.std.specs.List.{list_all, list_any, AllByRecursion}
 use Rattle.sqlite_value.specs.declared.value.Value as cell
 use Rattle.sqlite_value.specs.declared.value.Value.TheVariants.{Null, Int, Text}
@@ -9,8 +9,12 @@ use Rattle.sqlite_trees.specs.View.{is_int}
 use Rattle.sb_types.specs.declared.entry.Slot.{Slot}
 use Rattle.sb_types.specs.declared.entry.Slot.TheVariants.{Set, Removed}
 use Rattle.sb_types.specs.declared.limits.TheConstants.{VERSION_MOST}
-use Rattle.sb_types.specs.Value as values
-use Rattle.sb_types.specs.Value.{Addr, Weight, Flag}
+use Rattle.sb_types.specs.declared.kind.Kind.{Kind}
+use Rattle.sb_types.specs.declared.kind.Form.{Form}
+use Rattle.sb_types.specs.declared.kind.Form.TheVariants as forms
+use Rattle.sb_types.specs.declared.format.TheConstants.{TAG_TEXT}
+use Rattle.sb_types.specs.Kinds as kinds
+use Rattle.sb_types.specs.Kinds.{Content, Word, Number, Truth, tag_of, kind_of, form_of, kind_of_tag, made_value}
 use Rattle.sb_types.specs.Limits.{is_entry}
 use Rattle.sb_types.specs.Records.{Entry, Table}
 use Rattle.sb_types.specs.Runs.{last_version, live}
@@ -20,20 +24,26 @@ abbrev pub flag_number : Bool → ℕ
 flag_number true = 1
 flag_number false = 0
 
+abbrev pub number_cell : Content → cell.Value
+number_cell (Word text) = Null
+number_cell (kinds.Text text) = Null
+number_cell (Number number) = Int (pos number)
+number_cell (Truth truth) = Int (pos (flag_number truth))
+
+abbrev pub text_cell : Content → cell.Value
+text_cell (Word text) = Text text
+text_cell (kinds.Text text) = Text text
+text_cell (Number number) = Null
+text_cell (Truth truth) = Null
+
 -- the tag, the number and the text of a slot
 abbrev pub slot_cells : Slot → Row
 slot_cells Removed = Int (pos 0) ∷ Null ∷ Null ∷ []
-slot_cells (Set (Addr text)) = Int (pos 1) ∷ Null ∷ Text text ∷ []
-slot_cells (Set (Weight weight)) = Int (pos 2) ∷ Int (pos weight) ∷ Null ∷ []
-slot_cells (Set (Flag flag)) = Int (pos 3) ∷ Int (pos (flag_number flag)) ∷ Null ∷ []
-slot_cells (Set (values.Text text)) = Int (pos 4) ∷ Null ∷ Text text ∷ []
+slot_cells (Set value) = Int (pos (tag_of (kind_of value))) ∷ number_cell (kinds.content_of value) ∷ text_cell (kinds.content_of value) ∷ []
 
 abbrev pub sets_text : Slot → Bool
 sets_text Removed = false
-sets_text (Set (Addr text)) = false
-sets_text (Set (Weight weight)) = false
-sets_text (Set (Flag flag)) = false
-sets_text (Set (values.Text text)) = true
+sets_text (Set value) = tag_of (kind_of value) == TAG_TEXT
 
 abbrev pub has_texts : Table → Bool
 has_texts table = list_any (λ e. sets_text e.slot) table.entries
@@ -83,9 +93,19 @@ abbrev pub number_of : cell.Value → ℕ
 number_of (Int (pos n)) = n
 number_of _ = 0
 
+-- the content in these cells, by its form
+abbrev pub content_by_form : Form → cell.Value → cell.Value → Content
+content_by_form forms.Word number text = Word (bytes text)
+content_by_form forms.Text number text = kinds.Text (bytes text)
+content_by_form forms.Number number text = Number (number_of number)
+content_by_form forms.Truth number text = Truth (number_of number == 1)
+
+abbrev pub slot_by_kind : Option Kind → cell.Value → cell.Value → Slot
+slot_by_kind None number text = Removed
+slot_by_kind (Some kind) number text = unwrap_or (option_map Set (made_value kind (content_by_form (form_of kind) number text))) Removed
+
 abbrev pub slot_by : ℕ → cell.Value → cell.Value → Slot
-slot_by tag number text =
-    if tag == 1 then Set (Addr (bytes text)) else (if tag == 2 then Set (Weight (number_of number)) else (if tag == 3 then Set (Flag (number_of number == 1)) else (if tag == 4 then Set (values.Text (bytes text)) else Removed)))
+slot_by tag number text = slot_by_kind (kind_of_tag tag) number text
 
 abbrev pub entry_by : Row → Entry
 entry_by row = record { key = bytes (column row 0); version = number_of (column row 1); slot = slot_by (number_of (column row 2)) (column row 3) (column row 4) }

@@ -9,7 +9,7 @@ use Rattle.sqlite_catalog.specs.Listing.{IsSound}
 use Rattle.sb_types.specs.Records.{Entry, Table}
 use Rattle.sb_table.specs.Plain.{plain_table}
 use Rattle.sb_table.specs.Floors.{IsKeptTable}
-use Rattle.sb_log.specs.Form.{log_schema}
+use Rattle.sb_log.specs.Form.{newest_form, log_schema}
 use Rattle.sb_log.specs.Rows.{AreRowsOf, CanSay, content_by, content_of}
 use Rattle.sb_log.specs.Opening.{IsNamed, IsNamedIn}
 
@@ -31,7 +31,7 @@ pub record IsPrepared (s : State) : Type 0 where
 -- the tables say whose log it is, in form 2, and their rows, which are these entries, are with the last version and the floor that they say this content
 pub record HoldsContent (owner cluster : List ℕ) (content : Table) (entries : List Entry) (db : Trees) : Type 0 where
   pub last : ℕ
-  pub named : IsNamedIn 2 owner cluster last content.floor (db 0)
+  pub named : IsNamedIn newest_form owner cluster last content.floor (db 0)
   pub can : CanSay last content.floor entries
   pub rows : AreRowsOf (plain_table entries) (db 1)
   pub table : IsKeptTable content

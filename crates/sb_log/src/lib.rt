@@ -9,6 +9,7 @@
 //! - A log in a database reports `StoreFailed` although its store took each statement: tests.
 //! - It reports `StoreFailed` in place of `LogDamaged`: nothing.
 //! - It gives another cause than its database reported. Only `StoreCause::of` has an exact contract: tests, `tools/check-node`.
+//! - A cause has another name, or prints another text: a test that compares each word for word.
 //! - It loads what it has in memory. That equals the rows as long as the store keeps its promise: nothing.
 //! - A third kind of log keeps removals up to its floor, and only its content leaves them out: tests of that log.
 //! - An opening inside a transaction ends that transaction before it answers: a test.

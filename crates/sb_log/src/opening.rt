@@ -9,7 +9,7 @@ ghost use Rattle.sb_types.specs.Runs.{live};
 ghost use Rattle.sb_table.specs.Plain.{IsPlainTable, plain_table};
 ghost use Rattle.sb_table.specs.Contents.{IsContent};
 ghost use Rattle.sb_log.specs.Cause.{fault_of, IsAnswer, IsMakingFault, IsReadingFault, IsStoreError, OnRefusal};
-ghost use Rattle.sb_log.specs.Form.{no_schema, meta_schema, log_schema, schema_with};
+ghost use Rattle.sb_log.specs.Form.{newest_form, no_schema, meta_schema, log_schema, schema_with};
 ghost use Rattle.sb_log.specs.Opening.{meta_row, meta_found, IsForm, IsFormOf, IsNamedIn, IsSaid, IsOthers, NamesAnother, IsAccepted, SaysStill, Completes, Opens, Grows, Founds, IsWant, IsOpeningFault};
 ghost use Rattle.sb_log.specs.Rows.{last_in, floor_in, AreRowsOf, CanSay};
 ghost use Rattle.sb_log.specs.Standing.{HoldsContent, IsPrepared, IsReady};
@@ -73,10 +73,10 @@ fn open_new<S: Alter>(
     ensures empty { IfOk result (λ t. t ≡ plain_table []) }
     ensures ready { AfterReady S.Store conn.old conn.new (λ _ new. OnOk result (IsReady new)) }
     ensures same { AfterReady S.Store conn.old conn.new (λ old new. OnOk result (new.now.trees 1 ≡ old.now.trees 1)) }
-    ensures meta { AfterReady S.Store conn.old conn.new (λ old new. old.now.trees 0 ≡ [] → OnOk result (IsNamedIn 2 owner.now cluster.now 0 0 (new.now.trees 0))) }
+    ensures meta { AfterReady S.Store conn.old conn.new (λ old new. old.now.trees 0 ≡ [] → OnOk result (IsNamedIn newest_form owner.now cluster.now 0 0 (new.now.trees 0))) }
     ensures refused { AfterReady S.Store conn.old conn.new (λ old new. OnRefusal result (new.now ≡ old.now)) }
     ensures crash { AfterReady S.Store conn.old conn.new (λ old new. old.now.trees 0 ≡ []
-        → Leaves old new (λ db. IsSound log_schema db × (db 1 ≡ old.now.trees 1) × IsNamedIn 2 owner.now cluster.now 0 0 (db 0))) }
+        → Leaves old new (λ db. IsSound log_schema db × (db 1 ≡ old.now.trees 1) × IsNamedIn newest_form owner.now cluster.now 0 0 (db 0))) }
     ensures whole { AfterReady S.Store conn.old conn.new (λ old _. (t : records.Table) → AreRowsOf t (old.now.trees 1) → t ≡ plain_table [] → IfErr result IsWant) }
     ensures clean { KeepsDoubt S.Store conn.old conn.new }
     ensures fault { IfErr result IsReadingFault }
@@ -107,7 +107,7 @@ fn open_old<S: Alter>(
     ensures ready { AfterRow S.Store conn.old conn.new row.now (λ _ new. OnOk result (IsReady new)) }
     ensures holds { AfterRow S.Store conn.old conn.new row.now (λ _ new. IfOk result (λ t. HoldsContent owner.now cluster.now t t.entries new.now.trees)) }
     ensures still { AfterRow S.Store conn.old conn.new row.now (λ old new. OnOk result
-        (IsNamedIn 2 owner.now cluster.now (last_in (old.now.trees 0)) (floor_in (old.now.trees 0)) (new.now.trees 0))) }
+        (IsNamedIn newest_form owner.now cluster.now (last_in (old.now.trees 0)) (floor_in (old.now.trees 0)) (new.now.trees 0))) }
     ensures refused { AfterReady S.Store conn.old conn.new (λ old new. OnRefusal result (new.now ≡ old.now)) }
     ensures crash { AfterRow S.Store conn.old conn.new row.now (λ old new. Leaves old new (IsAccepted owner.now cluster.now (old.now.trees 0) (old.now.trees 1))) }
     ensures whole { AfterReady S.Store conn.old conn.new (λ old _. (form last floor : ℕ) → row.now ≡ meta_row form owner.now cluster.now last floor
@@ -176,7 +176,7 @@ fn accept_from<S: Alter>(
         → (t : records.Table) → AreRowsOf t (old.now.trees 1) → (has_dead ≡ false → live floor t.entries ≡ t.entries)
         → OnOk result (AreRowsOf (plain_table (live floor t.entries)) (new.now.trees 1))) }
     ensures meta { AfterReady S.Store conn.old conn.new (λ old new. IsForm form → (last : ℕ) (owner cluster : List ℕ) → IsNamedIn form owner cluster last floor (old.now.trees 0)
-        → OnOk result (IsNamedIn 2 owner cluster last floor (new.now.trees 0))) }
+        → OnOk result (IsNamedIn newest_form owner cluster last floor (new.now.trees 0))) }
     ensures crash { AfterReady S.Store conn.old conn.new (λ old new. IsForm form → (last : ℕ) (owner cluster : List ℕ) → IsNamedIn form owner cluster last floor (old.now.trees 0)
         → Leaves old new (IsAccepted owner cluster (old.now.trees 0) (old.now.trees 1))) }
     ensures clean { KeepsDoubt S.Store conn.old conn.new }
@@ -195,9 +195,9 @@ fn raise_from<S: Alter>(conn: &mut Connection<S>, form: u64) -> Result<(), Store
     ensures rows { AfterReady S.Store conn.old conn.new (λ old new. (last floor : ℕ) (owner cluster : List ℕ) → IsNamedIn form owner cluster last floor (old.now.trees 0)
         → OnOk result (new.now.trees 1 ≡ old.now.trees 1)) }
     ensures meta { AfterReady S.Store conn.old conn.new (λ old new. IsForm form → (last floor : ℕ) (owner cluster : List ℕ) → IsNamedIn form owner cluster last floor (old.now.trees 0)
-        → OnOk result (IsNamedIn 2 owner cluster last floor (new.now.trees 0))) }
+        → OnOk result (IsNamedIn newest_form owner cluster last floor (new.now.trees 0))) }
     ensures crash { AfterReady S.Store conn.old conn.new (λ old new. (last floor : ℕ) (owner cluster : List ℕ) → IsNamedIn form owner cluster last floor (old.now.trees 0)
-        → Leaves old new (λ db. (form ≡ 1) × IsSound log_schema db × (db 1 ≡ old.now.trees 1) × IsNamedIn 2 owner cluster last floor (db 0))) }
+        → Leaves old new (λ db. (form ≡ 1) × IsSound log_schema db × (db 1 ≡ old.now.trees 1) × IsNamedIn newest_form owner cluster last floor (db 0))) }
     ensures clean { KeepsDoubt S.Store conn.old conn.new }
 {
     if form == 1 {

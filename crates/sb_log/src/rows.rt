@@ -1,5 +1,5 @@
 //! Entries as rows of a log's table, and back.
-ghost use Rattle.std.specs.Prelude.{◌≡◌, ◌≢◌, ◌<◌, ◌⊎◌, ◌^◌, true, [], ◌∷◌, ◌++◌, false, pos, not, map, length, IfOk, IfErr, IfSome, IsTrue, OnOk, Ok, None, drop, IsSome};
+ghost use Rattle.std.specs.Prelude.{◌≡◌, ◌≢◌, ◌<◌, ◌⊎◌, ◌^◌, true, [], ◌∷◌, ◌++◌, false, pos, not, map, length, IfOk, IfErr, IfSome, IfNone, IsTrue, OnOk, Ok, None, drop, IsSome};
 ghost use Rattle.std.specs.BTreeSet.{contains, Updates};
 ghost use Rattle.std.specs.Ordering.{int_cmp};
 ghost use Rattle.std.specs.List.{list_all};
@@ -11,12 +11,15 @@ ghost use Rattle.sqlite.specs.Values.{bound};
 ghost use Rattle.sb_types.specs.declared.limits.TheConstants.{KEYS_MOST};
 ghost use Rattle.sb_types.specs.Limits.{is_slot, is_entry};
 ghost use Rattle.sb_types.specs.Records as records;
+ghost use Rattle.sb_types.specs.Kinds as kinds;
+ghost use Rattle.sb_types.specs.declared.kind.Kind as declared_kind;
+ghost use Rattle.sb_types.specs.Kinds.{Fits, shown, tag_of, form_in};
 ghost use Rattle.sb_types.specs.Runs.{has_key};
 ghost use Rattle.sb_table.specs.Plain.{IsPlainTable};
-ghost use Rattle.sb_log.specs.Rows.{slot_cells, cells_of, is_kept, sets_text, has_texts, AreNumbered, AreNumberedApart};
+ghost use Rattle.sb_log.specs.Rows.{number_cell, text_cell, slot_cells, cells_of, is_kept, sets_text, has_texts, AreNumbered, AreNumberedApart};
 
 use sb_table::Table;
-use sb_types::{Entry, Fault, Key, Slot, VERSION_MOST, Value, ValueRef as Lent};
+use sb_types::{ContentRef, Entry, Fault, Form, Key, Kind, Slot, TAG_TEXT, VERSION_MOST, Value};
 use sqlite::Row;
 use sqlite_value::value::ValueRef;
 use std::alloc::Global;
@@ -43,19 +46,20 @@ fn slot_cells(slot: &Slot) -> (ValueRef<'_>, ValueRef<'_>, ValueRef<'_>)
     let Slot::Set(value) = slot else {
         return (ValueRef::Int(0), ValueRef::Null, ValueRef::Null);
     };
-    match value.view() {
-        Lent::Addr(text) => (ValueRef::Int(1), ValueRef::Null, ValueRef::Text(text)),
-        Lent::Weight(weight) => (
-            ValueRef::Int(2),
-            ValueRef::Int(weight as i64),
-            ValueRef::Null,
-        ),
-        Lent::Flag(flag) => (
-            ValueRef::Int(3),
-            ValueRef::Int(i64::from(flag)),
-            ValueRef::Null,
-        ),
-        Lent::Text(text) => (ValueRef::Int(4), ValueRef::Null, ValueRef::Text(text)),
+    let (number, text) = content_cells(value.content());
+    (ValueRef::Int(i64::from(value.kind().tag())), number, text)
+}
+
+/// The number and the text of what a value holds.
+fn content_cells(content: ContentRef<'_>) -> (ValueRef<'_>, ValueRef<'_>)
+    requires { Fits (shown content) }
+    ensures { bound (result.0 ∷ result.1 ∷ []) ≡ number_cell (shown content.entry) ∷ text_cell (shown content.entry) ∷ [] }
+{
+    match content {
+        ContentRef::Word(text) => (ValueRef::Null, ValueRef::Text(text)),
+        ContentRef::Text(text) => (ValueRef::Null, ValueRef::Text(text)),
+        ContentRef::Number(number) => (ValueRef::Int(number as i64), ValueRef::Null),
+        ContentRef::Truth(truth) => (ValueRef::Int(i64::from(truth)), ValueRef::Null),
     }
 }
 
@@ -131,28 +135,62 @@ fn slot_in(
 {
     match (tag, number, text) {
         (ValueRef::Int(0), ValueRef::Null, ValueRef::Null) => Ok(Some(Slot::Removed)),
-        (ValueRef::Int(1), ValueRef::Null, ValueRef::Text(text)) => match Value::addr(alloc, text) {
-            Ok(value) => Ok(Some(Slot::Set(value))),
-            Err(Fault::NoMemory) => Err(Fault::NoMemory),
-            Err(_) => Ok(None),
-        },
-        (ValueRef::Int(2), ValueRef::Int(weight), ValueRef::Null) if weight >= 0 =>
-            match Value::weight(weight as u64) {
-                Ok(value) => Ok(Some(Slot::Set(value))),
-                Err(_) => Ok(None),
-            },
-        (ValueRef::Int(3), ValueRef::Int(0), ValueRef::Null) => Ok(Some(Slot::Set(Value::flag(
-            false,
-        )))),
-        (ValueRef::Int(3), ValueRef::Int(1), ValueRef::Null) => Ok(Some(Slot::Set(Value::flag(
-            true,
-        )))),
-        (ValueRef::Int(4), ValueRef::Null, ValueRef::Text(text)) => match Value::text(alloc, text) {
-            Ok(value) => Ok(Some(Slot::Set(value))),
-            Err(Fault::NoMemory) => Err(Fault::NoMemory),
-            Err(_) => Ok(None),
+        (ValueRef::Int(tag), number, text) => match kind_at(tag) {
+            Some(kind) => value_in(alloc, kind, number, text),
+            None => Ok(None),
         },
         _ => Ok(None),
+    }
+}
+
+/// The kind of a tag; none if no kind has it.
+#[tactic(auto, using(crate::proofs::Slots::kind_found, crate::proofs::Slots::kind_missed, crate::proofs::Slots::kind_below))]
+fn kind_at(tag: i64) -> Option<Kind>
+    ensures found { IfSome result (λ kind. pos (tag_of kind) ≡ tag) }
+    ensures none { IfNone result ((kind : declared_kind.Kind) → pos (tag_of kind) ≢ tag) }
+{
+    match u8::try_from(tag) {
+        Ok(tag) => Kind::of_tag(tag),
+        Err(_) => None,
+    }
+}
+
+/// The value of this kind in these cells; none if they break its rule. `NoMemory`.
+#[tactic(auto, using(crate::proofs::Slots::value_found))]
+fn value_in(
+    alloc: Global,
+    kind: Kind,
+    number: ValueRef<'_>,
+    text: ValueRef<'_>,
+) -> Result<Option<Slot>, Fault>
+    ensures slot { IfOk result (λ found. IfSome found (λ s. (slot_cells s ≡ Int (pos (tag_of kind)) ∷ owned number.entry ∷ owned text.entry ∷ []) × (is_slot s ≡ true))) }
+    ensures whole { (s : _) → is_slot s ≡ true → slot_cells s ≡ Int (pos (tag_of kind)) ∷ owned number.entry ∷ owned text.entry ∷ [] → result ≢ Ok None }
+    ensures fault { IfErr result (λ fault. fault ≡ Fault.NoMemory) }
+{
+    let Some(content) = content_in(kind.form(), number, text) else {
+        return Ok(None);
+    };
+    match Value::from_content(alloc, kind, content) {
+        Ok(value) => Ok(Some(Slot::Set(value))),
+        Err(Fault::BadValue) => Ok(None),
+        Err(_) => Err(Fault::NoMemory),
+    }
+}
+
+/// The content of this form in these cells; none if they hold no such content.
+fn content_in<'a>(form: Form, number: ValueRef<'a>, text: ValueRef<'a>) -> Option<ContentRef<'a>>
+    ensures found { IfSome result (λ content. (form_in (shown content) ≡ form) × (number_cell (shown content) ≡ owned number.entry) × (text_cell (shown content) ≡ owned text.entry)) }
+    ensures none { IfNone result ((content : kinds.Content) → form_in content ≡ form → number_cell content ≡ owned number.entry → text_cell content ≢ owned text.entry) }
+{
+    match (form, number, text) {
+        (Form::Word, ValueRef::Null, ValueRef::Text(text)) => Some(ContentRef::Word(text)),
+        (Form::Text, ValueRef::Null, ValueRef::Text(text)) => Some(ContentRef::Text(text)),
+        (Form::Number, ValueRef::Int(number), ValueRef::Null) if number >= 0 => {
+            Some(ContentRef::Number(number as u64))
+        }
+        (Form::Truth, ValueRef::Int(0), ValueRef::Null) => Some(ContentRef::Truth(false)),
+        (Form::Truth, ValueRef::Int(1), ValueRef::Null) => Some(ContentRef::Truth(true)),
+        _ => None,
     }
 }
 
@@ -226,12 +264,7 @@ fn sets_text(slot: &Slot) -> bool
     let Slot::Set(value) = slot else {
         return false;
     };
-    match value.view() {
-        Lent::Addr(_) => false,
-        Lent::Weight(_) => false,
-        Lent::Flag(_) => false,
-        Lent::Text(_) => true,
-    }
+    value.kind().tag() == TAG_TEXT
 }
 
 /// Enters an entry of a new key and a later version. `LogDamaged` for any other entry, or if there is no room; `NoMemory`.

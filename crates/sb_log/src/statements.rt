@@ -5,7 +5,7 @@ ghost use Rattle.sqlite_catalog.specs.Listing.{IsSound};
 ghost use Rattle.sb_types.specs.declared.limits.TheConstants.{VERSION_MOST};
 ghost use Rattle.sb_types.specs.Records as records;
 ghost use Rattle.sb_table.specs.Plain.{IsPlainTable};
-ghost use Rattle.sb_log.specs.Form.{no_schema, meta_schema, log_schema};
+ghost use Rattle.sb_log.specs.Form.{newest_form, no_schema, meta_schema, log_schema};
 ghost use Rattle.sb_log.specs.Rows.{cells_of, numbered_cells, is_kept, Enters, AreRowsOf};
 ghost use Rattle.sb_log.specs.Opening.{meta_cells, IsNamedIn};
 ghost use Rattle.sb_log.specs.Cause.{IsAnswer, IsReadingFault, IsUndamaged};
@@ -76,7 +76,7 @@ pub(crate) fn write_meta<S: Alter>(
     owner: &Name,
     cluster: &Name,
 ) -> Result<(), StoreCause>
-    ensures commits { Commits S.Store conn.old conn.new result (λ old new. (new 1 ≡ old 1) × (old 0 ≡ [] → IsNamedIn 2 owner.now cluster.now 0 0 (new 0))) }
+    ensures commits { Commits S.Store conn.old conn.new result (λ old new. (new 1 ≡ old 1) × (old 0 ≡ [] → IsNamedIn newest_form owner.now cluster.now 0 0 (new 0))) }
     ensures clean { KeepsDoubt S.Store conn.old conn.new }
 {
     match conn.execute(
@@ -95,7 +95,7 @@ pub(crate) fn write_meta<S: Alter>(
 pub(crate) fn raise_form<S: Alter>(conn: &mut Connection<S>) -> Result<(), StoreCause>
     // All else that the row says stays.
     ensures commits { (form last floor : ℕ) (owner cluster : List ℕ) → IsNamedIn form owner cluster last floor ((state S.Store conn.old).now.trees 0)
-        → Commits S.Store conn.old conn.new result (λ old new. (new 1 ≡ old 1) × IsNamedIn 2 owner cluster last floor (new 0)) }
+        → Commits S.Store conn.old conn.new result (λ old new. (new 1 ≡ old 1) × IsNamedIn newest_form owner cluster last floor (new 0)) }
     ensures clean { KeepsDoubt S.Store conn.old conn.new }
 {
     match conn.execute("UPDATE meta SET form = 2", &[]) {

@@ -10,14 +10,23 @@ use sqlite::{Error, ErrorCode};
 use std::alloc::Global;
 use std::process::Abort;
 
-const CAUSES: [StoreCause; 7] = [
-    StoreCause::NoSpace,
-    StoreCause::CannotOpen,
-    StoreCause::Locked,
-    StoreCause::Io,
-    StoreCause::Damaged,
-    StoreCause::NoMemory,
-    StoreCause::Other,
+/// Each cause, by its number from 1 on, with its name and the text that it prints.
+const CAUSES: [(StoreCause, &str, &str); 7] = [
+    (StoreCause::NoSpace, "no_space", "no space is left"),
+    (
+        StoreCause::CannotOpen,
+        "cannot_open",
+        "the file cannot be opened",
+    ),
+    (StoreCause::Locked, "locked", "another process has it open"),
+    (StoreCause::Io, "io", "it cannot be read or written"),
+    (StoreCause::Damaged, "damaged", "it is damaged"),
+    (StoreCause::NoMemory, "no_memory", "memory is missing"),
+    (
+        StoreCause::Other,
+        "other",
+        "the database reports another error",
+    ),
 ];
 
 const CODES: [(ErrorCode, StoreCause); 8] = [
@@ -48,29 +57,18 @@ fn each_error_of_the_database_has_its_cause(rt: HostRuntime) {
     );
 }
 
-// No two causes have one number, name or text.
+/// Asserts the number of the cause, its name, and the text that it prints.
+fn assert_told(rt: &impl Abort, alloc: Global, cause: StoreCause, told: (u64, &str, &str)) {
+    let printed: Result<String, _> = cause.to_string(alloc);
+    let printed = got(rt, printed);
+    same(rt, &(cause.number(), cause.name(), printed.as_str()), &told);
+    same(rt, &StoreCause::from_number(cause.number()), &Some(cause));
+}
+
 #[test]
-fn causes_are_told_apart(rt: HostRuntime) {
-    for (at, cause) in CAUSES.into_iter().enumerate() {
-        same(&rt, &cause.number(), &(at as u64 + 1));
-        same(&rt, &StoreCause::from_number(cause.number()), &Some(cause));
-        for other in CAUSES {
-            let is_same = cause == other;
-            same_at(
-                &rt,
-                &(cause, other),
-                &(cause.name() == other.name()),
-                &is_same,
-            );
-            let text: Result<String, _> = cause.to_string(rt.alloc());
-            let another: Result<String, _> = other.to_string(rt.alloc());
-            same_at(
-                &rt,
-                &(cause, other),
-                &(got(&rt, text) == got(&rt, another)),
-                &is_same,
-            );
-        }
+fn each_cause_has_its_number_its_name_and_its_text(rt: HostRuntime) {
+    for (at, (cause, name, text)) in CAUSES.into_iter().enumerate() {
+        assert_told(&rt, rt.alloc(), cause, (at as u64 + 1, name, text));
     }
     same(&rt, &StoreCause::from_number(0), &None);
     same(&rt, &StoreCause::from_number(8), &None);

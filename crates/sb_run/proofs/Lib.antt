@@ -6,3 +6,5 @@ pub mod Leaving
 pub mod Enduring
 pub mod Hellos
 pub mod Receiving
+pub mod Paging
+pub mod Arriving

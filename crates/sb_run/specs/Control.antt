@@ -1,5 +1,5 @@
 -- What comes of one request on the control socket.
-use Rattle.std.specs.Prelude.{◌≡◌, ◌⊎◌, ℕ, ◌+◌, List, Option, Result, Ok, Err, OnOk, IfOk, IfErr}
+use Rattle.std.specs.Prelude.{◌≡◌, ◌⊎◌, ℕ, ◌+◌, Bool, true, List, Option, Result, Ok, Err, OnOk, IfOk, IfErr}
 use Rattle.std.specs.Io.KnownBytes.{Keeps}
 use mathlib.Core.List.{IsPrefix}
 use Rattle.sb_types.specs.declared.entry.Slot.{Slot}
@@ -75,10 +75,10 @@ Answers seen opening budget old owed before (kinds.Rows x) new owes after reply 
 Answers seen opening budget old owed before (kinds.Done x) new owes after reply = (new ≡ old) × (owes ≡ owed) × (after ≡ before) × IsUnknown reply
 Answers seen opening budget old owed before (kinds.Refused x) new owes after reply = (new ≡ old) × (owes ≡ owed) × (after ≡ before) × IsUnknown reply
 
--- nothing changes, or one request is answered
-abbrev pub AnswersOne : {L : Type 0} → (L → Log) → Node → ℕ → L → Option Committed → Seat → L → Option Committed → Seat → Type 0
-AnswersOne seen opening budget old owed before new owes after =
-    ((new ≡ old) × (owes ≡ owed) × (after ≡ before)) ⊎ ((request : Message) × ((reply : Message) × Answers seen opening budget old owed before request new owes after reply))
+-- this request is answered; or it failed, and nothing changes
+abbrev pub AnswersTo : {L : Type 0} → (L → Log) → Node → ℕ → L → Option Committed → Seat → Message → L → Option Committed → Seat → Bool → Type 0
+AnswersTo seen opening budget old owed before request new owes after failed =
+    ((failed ≡ true) × (new ≡ old) × (owes ≡ owed) × (after ≡ before)) ⊎ ((reply : Message) × Answers seen opening budget old owed before request new owes after reply)
 
 -- if no request is received all stays the same and nothing is written; else one answer is written, or its first bytes
 abbrev pub Controls : Type 0 → (Message → Message → Type 0) → Connection → Connection → Result (Unit {0}) Fault → Type 0

@@ -4,6 +4,8 @@ pub mod Control
 pub mod Gates
 pub mod Hellos
 pub mod Pools
+pub mod Sources
+pub mod Arriving
 pub mod Running
 pub mod Turns
 pub mod Together

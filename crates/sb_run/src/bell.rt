@@ -7,13 +7,13 @@ use sb_types::{Delta, Fault};
 use std::alloc::Global;
 use std::sync::atomic::{AtomicBool, Ordering};
 
-/// Wakes the thread that dials where there is something new to pass on. Sessions pass it as a gate that turns nobody away.
+/// Wakes the thread that dials when there is something new to pass on. Sessions pass it as a gate that turns nobody away.
 #[derive(Drop)]
 pub(crate) struct Bell {
     unparker: Unparker,
     /// Whether there is news that no burst has taken up.
     has_news: AtomicBool,
-    /// Whether an owner may have come of whom nothing was held.
+    /// Whether an owner may have come that was not held.
     has_new_owner: AtomicBool,
 }
 
@@ -32,7 +32,7 @@ impl Bell {
         Ok((bell, parker))
     }
 
-    /// Says that there is news, and whether it is of an owner of whom nothing was held.
+    /// Says that there is news, and whether it is of an owner that was not held.
     pub(crate) fn ring(&self, is_new_owner: bool) {
         if is_new_owner {
             self.has_new_owner.store(true, Ordering::SeqCst);

@@ -1,6 +1,7 @@
 //! What all threads of a running node share.
 ghost use Rattle.std.specs.Prelude.{◌≡◌};
 
+use crate::arrivals::Asked;
 use crate::bell::Bell;
 use crate::counts::Counts;
 use crate::ending::EndFlag;
@@ -10,7 +11,6 @@ use crate::serving::Serving;
 use crate::sockets::BoundSockets;
 use sb_directory::Directory;
 use std::alloc::Global;
-use std::net::Net;
 use std::sync::Wait;
 
 /// A running node, which its threads share.
@@ -23,7 +23,7 @@ pub(crate) struct NodeContext<'a, S: RoundsTag, H: Wait + Drop, Q> {
     pub(crate) ending: &'a EndFlag,
     pub(crate) bell: &'a Bell,
     pub(crate) counts: &'a Counts,
-    pub(crate) workers: u64,
+    pub(crate) asked: &'a Asked,
     pub(crate) pace: Pace,
     ghost paced: { pace.rounds ≡ S.rounds },
 }
@@ -42,10 +42,10 @@ impl<S: RoundsTag, H: Wait + Drop, Q> NodeContext<'_, S, H, Q> {
     }
 }
 
-impl<S: RoundsTag, H: Wait + Drop, Q: Net> NodeContext<'_, S, H, Q> {
-    /// Ends each thread that accepts, and wakes the one that dials.
+impl<S: RoundsTag, H: Wait + Drop, Q> NodeContext<'_, S, H, Q> {
+    /// Ends the thread that accepts, and with it what the workers and the calling thread wait for, and wakes the one that dials.
     pub(crate) fn end(&self) {
-        self.ending.raise(self.rt, self.sockets, self.workers);
+        self.ending.raise(self.sockets);
         self.bell.wake();
     }
 }

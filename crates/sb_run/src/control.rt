@@ -5,6 +5,10 @@ ghost use Rattle.sb_codec.specs.Limits.{is_version};
 ghost use Rattle.sb_frames.specs.Sending.{OnlyWhereFailed};
 ghost use Rattle.sb_codec.specs.declared.message.Message.TheVariants as kinds;
 ghost use Rattle.sb_log.specs.Puts.{IsSettled};
+ghost use Rattle.sb_codec.specs.declared.message.Message.{Message};
+ghost use Rattle.sb_frames.specs.Frames.{frame};
+ghost use Rattle.sb_frames.specs.Sending.{Sends};
+ghost use Rattle.sb_directory.specs.Serving.{IsLater};
 ghost use Rattle.sb_run.specs.Control.{IsPutReply, IsPageReply, IsLookedUp, Answers, Controls};
 
 use crate::one_message::receive_first;
@@ -12,7 +16,7 @@ use crate::own_writes::OwnWrites;
 use crate::serving::Serving;
 use sb_codec::{Ask, Done, Message, Refused};
 use sb_directory::{DirectoryTag, EnteredSeat, ReaderSeat};
-use sb_frames::Connection;
+use sb_frames::{Connection, send};
 use sb_log::WriteLog;
 use sb_query::answer;
 use sb_types::{
@@ -131,6 +135,43 @@ fn reply_to<L: WriteLog, S: DirectoryTag, H: Wait + Drop, Q: Wait>(
 }
 
 impl<S: DirectoryTag, H: Wait + Drop, Q: Wait> Serving<'_, S, H, Q> {
+    /// Answers an Ask by a page of what the seat reads, or by the fault that it met, and gives the seat back. It takes no write.
+    /// `WriteFailed`, with how many bytes of the answer are written; `NoMemory`, with none.
+    pub fn answer_ask<W: Write>(
+        &self,
+        writer: &mut W,
+        seat: ReaderSeat<S>,
+        ask: &Ask,
+    ) -> (ReaderSeat<S>, Result<(), Fault>)
+        ensures answers { (reply : Message) × IsPageReply S.opening S.settings.budget seat ask.now result.0 reply
+            × Sends (W.contents writer.old) (W.contents writer.new) (frame reply) result.1 }
+        ensures later { IsLater seat result.0 }
+    {
+        let (seat, reply) = reply_to_ask(self.alloc, self.directory.settings(), seat, ask);
+        let sent = send(self.alloc, writer, &reply);
+        (seat, sent)
+    }
+
+    /// Answers a request that was read, and gives the seat back: as `serve_control` does. `WriteFailed`, with how many bytes of
+    /// the answer are written, and `NoMemory`, with none; the request was done before.
+    pub fn answer_request<W: Write, L: WriteLog>(
+        &self,
+        writer: &mut W,
+        writes: &mut OwnWrites<L>,
+        seat: ReaderSeat<S>,
+        request: &Message,
+    ) -> (ReaderSeat<S>, Result<(), Fault>)
+        ensures answers { (reply : Message) × Answers L.seen S.opening S.settings.budget writes.old.log writes.old.owed seat request.now writes.new.log writes.new.owed result.0 reply
+            × Sends (W.contents writer.old) (W.contents writer.new) (frame reply) result.1 }
+        // A log that was open and is closed now is told to have failed.
+        ensures closes { (L.seen writes.old.log).is_open ≡ true → (L.seen writes.new.log).is_open ≡ false → writes.new.has_failed ≡ true }
+        ensures settled { IsSettled (L.seen writes.old.log) (L.leaves writes.old.log) → IsSettled (L.seen writes.new.log) (L.leaves writes.new.log) }
+    {
+        let (seat, reply) = reply_to(self, writes, seat, request);
+        let sent = send(self.alloc, writer, &reply);
+        (seat, sent)
+    }
+
     /// Reads one request, writes one answer, and gives the seat back. The answer to an Ask is its page. The answer to a Put is the
     /// version under which the log took the write in this call, also if the directory refused it. The answer to either may be the
     /// fault that it met, and to any other message it is the fault `UnknownKind`. After the call the connection says whether its

@@ -1,84 +1,53 @@
-//! The calling thread of a running node, at its control socket.
-ghost use Rattle.std.specs.Prelude.{◌≡◌, ◌+◌, ◌<◌, ◌≤◌, true, false};
-ghost use Rattle.sb_run.specs.Control.{AnswersOne};
+//! The calling thread of a running node: it answers what callers asked at the control socket, and makes the own writes.
+ghost use Rattle.std.specs.Prelude.{◌≡◌, true, false};
+ghost use Rattle.sb_run.specs.Control.{AnswersTo};
 ghost use Rattle.sb_run.specs.Running.{IsOpenedFrom};
 
-use crate::accepting::Acceptor;
+use crate::arrivals::{Request, Requests};
 use crate::context::NodeContext;
 use crate::node::OnLogFault;
 use crate::observer::Observer;
 use crate::own_writes::OwnWrites;
-use crate::pool::Source;
 use crate::rounds::RoundsTag;
+use crate::sockets::limit;
 use crate::timed::Timed;
 use sb_directory::ReaderSeat;
-use sb_frames::{Connection, Steps};
 use sb_log::{StoreCause, WriteLog};
-use sb_types::Fault;
-use std::marker::Brand;
-use std::net::Net;
-use std::os::unix::net::UnixStream;
 use std::sync::Wait;
-use std::sync::ledger::{Blank, Ledger};
 use std::time::Clock;
-
-/// Both ways of a connection at the control socket.
-type TimedConnection<'a, Q, K> = Connection<Timed<'a, Q>, Timed<'a, Q>, K>;
 
 /// What comes of the control socket.
 #[derive(Drop)]
 pub(crate) struct ControlEnd<S: RoundsTag> {
     pub(crate) seat: ReaderSeat<S>,
-    /// How many connections ended with a fault or could not be accepted.
+    /// How many answers could not be sent.
     pub(crate) faults: u64,
     /// Whether it ended the node since its log had failed.
     pub(crate) has_left: bool,
 }
 
 impl<S: RoundsTag, H: Wait + Drop, Q: Wait + Clock> NodeContext<'_, S, H, Q> {
-    /// Serves one connection, a request and its answer, and says whether it ended with a fault. It makes at most the node's
-    /// `max_reads` reads.
-    fn answer_one<L: WriteLog, K: Ledger>(
+    /// Answers a request, and says whether that ended with a fault. The answer is taken within the node's `request`. If that
+    /// limit can't be set, nothing is done.
+    fn answer_one<L: WriteLog>(
         &self,
         writes: &mut OwnWrites<L>,
-        connection: &mut TimedConnection<'_, Q, K>,
+        request: Request,
         seat: ReaderSeat<S>,
     ) -> (ReaderSeat<S>, bool)
-        requires limit { connection.old.left ≤ self.now.pace.max_reads }
-        ensures reads { connection.new.steps ≤ connection.old.steps + self.now.pace.max_reads }
         ensures closes { (L.seen writes.old.log).is_open ≡ true → (L.seen writes.new.log).is_open ≡ false → writes.new.has_failed ≡ true }
-        // A request was answered, or nothing came of what was read.
-        ensures answers { AnswersOne L.seen S.opening S.settings.budget writes.old.log writes.old.owed seat writes.new.log writes.new.owed result.0 }
+        // This request was answered, or nothing came of it, which is a fault.
+        ensures answers { AnswersTo L.seen S.opening S.settings.budget writes.old.log writes.old.owed seat request.message writes.new.log writes.new.owed result.0 result.1 }
     {
-        let serving = self.serving();
-        let (seat, ended) = serving.serve_control(connection, writes, seat);
-        (seat, ended.is_err())
-    }
-
-    /// Serves a connection that was accepted, or not, and says whether that ended with a fault. Its request comes whole within the
-    /// node's `request`, and so does its answer. Its reads are the first of a ledger.
-    fn serve_accepted<L: WriteLog, K: Ledger>(
-        &self,
-        writes: &mut OwnWrites<L>,
-        accepted: Result<(u64, UnixStream, UnixStream), Fault>,
-        seat: ReaderSeat<S>,
-        blank: Blank,
-    ) -> (ReaderSeat<S>, bool)
-        requires name { blank.name ≡ K.name }
-        requires parts { blank.parts ≡ K.parts }
-        requires some { 0 < blank.parts }
-        ensures closes { (L.seen writes.old.log).is_open ≡ true → (L.seen writes.new.log).is_open ≡ false → writes.new.has_failed ≡ true }
-        ensures answers { AnswersOne L.seen S.opening S.settings.budget writes.old.log writes.old.owed seat writes.new.log writes.new.owed result.0 }
-    {
-        let Ok((_, input, output)) = accepted else {
-            return (seat, true);
-        };
+        let Request { message, stream } = request;
         let pace = &self.pace;
-        let request = Timed::new(self.rt, &input, pace.idle, pace.request);
-        let reply = Timed::new(self.rt, &output, pace.idle, pace.request);
-        let steps = Steps::<K>::new(blank);
-        let mut connection = Connection::new(self.alloc, request, reply, pace.max_reads, steps);
-        self.answer_one(writes, &mut connection, seat)
+        if limit(&stream, pace.idle).is_err() {
+            return (seat, true);
+        }
+        let mut output = Timed::new(self.rt, stream, pace.idle, pace.request);
+        let serving = self.serving();
+        let (seat, sent) = serving.answer_request(&mut output, writes, seat, &message);
+        (seat, sent.is_err())
     }
 }
 
@@ -112,11 +81,12 @@ impl<S: RoundsTag, H: Wait + Drop, Q> NodeContext<'_, S, H, Q> {
     }
 }
 
-impl<S: RoundsTag, H: Wait + Drop, Q: Wait + Net + Clock> NodeContext<'_, S, H, Q> {
-    /// Serves one connection after another at the control socket, until the node is to end. It ends the node itself if the log
-    /// failed and the node is to exit then.
-    pub(crate) fn serve_control_socket<L: WriteLog + Drop, O: Observer>(
+impl<S: RoundsTag, H: Wait + Drop, Q: Wait + Clock> NodeContext<'_, S, H, Q> {
+    /// Answers one request after another, until the node is to end. It ends the node itself if the log failed and the node is to
+    /// exit then.
+    pub(crate) fn answer_requests<L: WriteLog + Drop, O: Observer>(
         &self,
+        requests: Requests,
         writes: OwnWrites<L>,
         seat: ReaderSeat<S>,
         observer: &O,
@@ -124,25 +94,17 @@ impl<S: RoundsTag, H: Wait + Drop, Q: Wait + Net + Clock> NodeContext<'_, S, H, 
         requires opened { IsOpenedFrom (L.seen writes.log) S.opening }
         ensures { result.has_left ≡ true → self.now.pace.on_log_fault ≡ OnLogFault.Exit }
     {
-        let control = &self.sockets.control;
-        let acceptor = Acceptor::new(self.rt, control, self.ending, self.pace.idle, None);
         let (mut writes, mut current) = (writes, seat);
         let mut faults: u64 = 0;
         for _ in self.rt.forever() {
-            let Some(accepted) = acceptor.next() else {
+            let Some(request) = requests.next(self.rt, self.ending) else {
                 return ControlEnd {
                     seat: current,
                     faults,
                     has_left: false,
                 };
             };
-            let blank = Blank::new(1);
-            let (seat, failed) = self.serve_accepted::<L, Brand>(
-                &mut writes,
-                accepted,
-                current,
-                blank,
-            );
+            let (seat, failed) = self.answer_one(&mut writes, request, current);
             current = seat;
             if failed {
                 faults = faults.saturating_add(1);

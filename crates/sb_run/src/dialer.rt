@@ -1,4 +1,4 @@
-//! The thread that dials the peers of a node: in turn, with a pause after each round, and in bursts where there is news.
+//! The thread that dials the peers of a node: in turn, with a pause after each round, and in bursts when there is news.
 
 use crate::context::NodeContext;
 use crate::dialing::{dial_peer, digests_of_all};
@@ -13,7 +13,7 @@ use std::sync::Wait;
 use std::thread;
 use std::time::{Clock, Duration, Instant};
 
-/// After how long the observer is told again how the node is, in milliseconds.
+/// After how long the observer gets the status of the node again, in milliseconds.
 const STATUS_INTERVAL: u64 = 1_000;
 
 /// How long after a burst begins news is gathered for the next, in milliseconds.
@@ -30,13 +30,13 @@ pub(crate) struct Dialer<'a, O> {
     rounds: u64,
     /// How many of them had a fault.
     faults: u64,
-    /// When the observer is to be told again how the node is; at once, where none is given.
+    /// When the observer is to get the status of the node again; at once if this is none.
     status_due: Option<Instant>,
-    /// Whether the observer was told that another node writes under this node's name.
+    /// Whether the observer knows that another node writes under this node's name.
     is_conflict_reported: bool,
-    /// How many exchanges tell of all owners that the node holds, where that was counted.
+    /// How many exchanges cover all owners that the node holds, if that was counted.
     exchanges: Option<u64>,
-    /// When the next round in turn is due. None where the clock can't be read.
+    /// When the next round in turn is due. None if the clock can't be read.
     due: Option<Instant>,
     /// Until when news is gathered for the next burst.
     gathers_until: Option<Instant>,
@@ -61,7 +61,7 @@ fn moment_after<Q: Clock>(clock: &Q, milliseconds: u64) -> Option<Instant> {
     }
 }
 
-/// Whether a moment has come; also where the clock can't be read, which is no reason to wait.
+/// Whether a moment has come. If the clock can't be read, it has, since that is no reason to wait.
 fn is_past<Q: Clock>(clock: &Q, moment: Instant) -> bool {
     match Instant::now(clock) {
         Ok(now) => now >= moment,
@@ -100,7 +100,7 @@ impl<'a, O: Observer> Dialer<'a, O> {
         self.observer
     }
 
-    /// How many exchanges tell of all owners that the node holds; 1 where memory is wanting to count them.
+    /// How many exchanges cover all owners that the node holds; 1 if there is no memory to count them.
     fn count_exchanges<S: RoundsTag, H: Wait + Drop, Q: Wait>(
         &mut self,
         node: &NodeContext<S, H, Q>,
@@ -140,7 +140,7 @@ impl<'a, O: Observer> Dialer<'a, O> {
         seat
     }
 
-    /// Tells the observer how the node is, where it wants to know and is to be told by now.
+    /// Reports the status of the node to the observer, if it wants to know and it is time.
     fn tell_status<S: RoundsTag, H: Wait + Drop, Q: Wait + Clock>(
         &mut self,
         node: &NodeContext<S, H, Q>,
@@ -191,7 +191,7 @@ impl<'a, O: Observer> Dialer<'a, O> {
         }
     }
 
-    /// Makes one round, of a burst or in turn, if there is a peer for it. After one in turn the next is due behind the pause.
+    /// Makes one round, of a burst or in turn, if there is a peer for it. After one in turn the next is due after the pause.
     fn next_round<S: RoundsTag, H: Wait + Drop, Q: Wait + Net + Clock>(
         &mut self,
         node: &NodeContext<S, H, Q>,
@@ -233,7 +233,7 @@ impl<'a, O: Observer> Dialer<'a, O> {
         unreachable!()
     }
 
-    /// Begins a burst, where there is news and a peer for it. News that comes soon after a burst began is gathered first.
+    /// Begins a burst, if there is news and a peer for it. News that comes soon after a burst began is gathered first.
     fn begins_burst<S: RoundsTag, H: Wait + Drop, Q: Wait + Clock>(
         &mut self,
         node: &NodeContext<S, H, Q>,
@@ -278,7 +278,7 @@ impl<'a, O: Observer> Dialer<'a, O> {
         unreachable!()
     }
 
-    /// Makes all rounds of the node's pace. None where the node ended before the last of them.
+    /// Makes all rounds of the node's pace. None if the node ended before the last of them.
     pub(crate) fn dial_all<S: RoundsTag, H: Wait + Drop, Q: Wait + Net + Clock>(
         self,
         node: &NodeContext<S, H, Q>,

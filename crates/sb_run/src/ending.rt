@@ -1,10 +1,9 @@
 //! The end of a node that runs.
 
 use crate::sockets::BoundSockets;
-use std::net::Net;
 use std::sync::atomic::{AtomicBool, Ordering};
 
-/// Whether the node is to end. Whoever accepts asks it behind each connection.
+/// Whether the node is to end. Whoever waits for the next connection, request or turn asks it after each wait.
 #[derive(Drop)]
 pub(crate) struct EndFlag {
     flag: AtomicBool,
@@ -23,10 +22,9 @@ impl EndFlag {
         self.flag.load(Ordering::SeqCst)
     }
 
-    /// Ends the node: wakes each worker that accepts, and the calling thread at the control socket.
-    pub(crate) fn raise<R: Net>(&self, rt: &R, sockets: &BoundSockets, workers: u64) {
+    /// Ends the node: wakes the thread that accepts, and its end is that of what the workers and the calling thread wait for.
+    pub(crate) fn raise(&self, sockets: &BoundSockets) {
         self.flag.store(true, Ordering::SeqCst);
-        sockets.sock.wake(rt, workers);
-        sockets.control.wake(rt, 1);
+        sockets.wake();
     }
 }

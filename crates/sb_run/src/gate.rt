@@ -6,7 +6,7 @@ use sb_holdings::{BlockEnd, Report};
 use sb_session::Handler;
 use sb_types::{Delta, Fault, Name};
 
-/// Where a session asks its gate.
+/// At which point a session asks its gate.
 #[derive(Clone, Copy, Debug, PartialEq, Eq)]
 pub enum GatePoint {
     /// It is about to apply a delta.
@@ -26,11 +26,11 @@ pub trait Gate {
     /// What holds where it turns the session away: nothing need.
     ghost turns_away: { Self → ℕ → GatePoint → Type 0 };
 
-    /// Whether the session may go on. Where it may not, it ends with `TurnsSpent`.
+    /// Whether the session may go on. If not, it ends with `TurnsSpent`.
     fn pass(&self, session: u64, point: GatePoint) -> bool
         ensures { MatchBool result (lets self.now session point) (turns_away self.now session point) };
 
-    /// Sessions call it behind each delta of which something was entered.
+    /// Sessions call it after each delta that entered something.
     fn entered(&self, _delta: &Delta) {}
 }
 

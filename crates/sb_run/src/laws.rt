@@ -24,14 +24,18 @@ use sb_holdings::{nodes_hold, reads_are_true, runs_join};
 use sb_node::answers_are_honest;
 use sb_views::views_show_what_is_held;
 
-/// What one running node gives is true and exact where what it was given is true. Said of all lists of writes, one for each
-/// owner, of each opening node that holds only what is true of them, and of each history whose own writes are the owner's
-/// and whose blocks are honest, whatever their ends: what a view of the node after the history has under an owner and a key
-/// was written by that owner under that version (`given`); a write whose key was not written again, at or below the version
-/// that the view shows of its owner, is what the view has under its key, or nothing for a removal (`exact`); each block of
-/// a delta that the node gives after the history is honest (`honest`); and a digest that it tells says of each owner that
-/// it covers how far the node holds it (`digests`), which is no further than was written (`reached`). After more events,
-/// true or not, no version is lower (`later`).
+/// What one running node gives is true and exact if what it was given is true. Take any lists of writes, one for each owner, and
+/// any opening node that holds only what is true of them. Take any history whose own writes are the owner's and whose blocks
+/// are honest, whatever their ends. Then:
+///
+/// - `given`: what a view of the node after the history has under an owner and a key was written by that owner under that
+///   version.
+/// - `exact`: a write whose key was not written again, at or below the version that the view shows of its owner, is what the
+///   view has under its key. For a removal the view has nothing there.
+/// - `honest`: each block of a delta that the node gives after the history is honest.
+/// - `digests`: a digest that it gives has, for each owner that it covers, how far the node holds it.
+/// - `reached`: that is no further than was written.
+/// - `later`: after more events, true or not, no version is lower.
 ///
 /// That the events are true is a premise: it is what peers give whose sessions receive only what is true
 /// (`sessions_keep_truth` of `sb_node`). A node that opens with what its log holds is such an opening node
@@ -65,20 +69,27 @@ pub fn running_nodes_keep_truth()
     digests_are_true();
 }
 
-/// What running nodes give is true and exact where they are given nothing but what one of them gave. Said of all lists of
-/// writes, one for each owner, of any number of runs, each of a node that opened with what is true of the writes, be it
-/// after a crash, and of all that happens to them in one order (`HappenInTurn`): a run takes writes of its owner, and
-/// deltas that some run could give by then, which come late, again, in any order, or never. Then in each run, what a view
-/// has under an owner and a key was written by that owner under that version (`given`); a write whose key was not written
-/// again, at or below the version that the view shows of its owner, is what the view has under its key, or nothing for a
-/// removal (`exact`); each block of a delta that is given is honest (`honest`); a digest that is told reaches no further
-/// than was written (`reached`); and no version is lower than it was in this run (`later`). All that happens is any list,
-/// so this holds at each moment.
+/// What running nodes give is true and exact if they are given nothing but what one of them gave. Take any lists of writes, one
+/// for each owner, and any number of runs. Each is of a node that opened with what is true of the writes, also after a crash.
+/// Take all that happens to them, in one order (`HappenInTurn`). A run takes writes of its owner, and deltas that some run
+/// could give by then, which come late, again, in any order, or never. Then in each run:
 ///
-/// Premises are that no two nodes that live at once have one name; that no log forgets a write that a delta told of; and
-/// that no other delta comes: that whoever dials or is dialed runs this program, that what is read from a socket was
-/// written to it, and that the workers and the dialing thread hand on just what they read. That what a run is handed
-/// becomes its events, and what it gives is an answer after them, is what the contracts of `Directory` say.
+/// - `given`: what a view has under an owner and a key was written by that owner under that version.
+/// - `exact`: a write whose key was not written again, at or below the version that the view shows of its owner, is what the
+///   view has under its key. For a removal the view has nothing there.
+/// - `honest`: each block of a delta that is given is honest.
+/// - `reached`: a digest that is given reaches no further than was written.
+/// - `later`: no version is lower than it was in this run.
+///
+/// All that happens is any list, so this holds at each moment. It has these premises:
+///
+/// - No two nodes that live at once have one name.
+/// - No log forgets a write that was in a delta.
+/// - No other delta comes. So whoever dials or is dialed runs this program, and what is read from a socket was written to it.
+///   The workers and the dialing thread hand on just what they read.
+///
+/// The contracts of `Directory` say that what a run is handed becomes its events, and that what it gives is an answer after
+/// them.
 pub fn running_nodes_tell_truth()
     ensures given { (writes : List ℕ → List Write) (opening : ℕ → Node) (settings : ℕ → Settings) (all : List RunEvent) (run : ℕ)
         (page : NodeView) (owner key : List ℕ) (value : Value) (version : ℕ) →

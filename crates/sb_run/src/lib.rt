@@ -1,9 +1,9 @@
 //! The running node: it serves its peers and its clients over sockets, and dials its peers.
 //!
-//! `run_node` runs the node that owns a log: workers serve the peers that connect, one thread dials the peers in turn and
-//! where there is news, and the calling thread answers clients at the control socket. Each write of a client is in the
-//! log before the directory takes it. A program with connections of its own serves them by `Serving`, and asks by
-//! `ask_control`.
+//! `run_node` runs the node that owns a log. One thread accepts at both sockets. Workers serve the peers that connect, and
+//! answer questions of clients. One thread dials the peers, in turn and when there is news. The calling thread makes the
+//! writes of clients: each is in the log before the directory takes it. A program with connections of its own serves them by
+//! `Serving`, and asks by `ask_control`.
 //!
 //! ```rust
 //! /// Runs the node of this name over a log in memory, until it has made its rounds.
@@ -45,8 +45,13 @@
 //! - If a peer is passed over, another than the next is dialed, or nobody. `next_in_turn` covers the first turn
 //!   alone. The tests of `sb_run` and `tools/check-node` refuse it.
 //! - No burst is dialed. The tests of `sb_run` and `tools/check-node` refuse it.
-//! - A request may take too long, because its time never begins, or because it goes on once its time is over. The
-//!   tests of `sb_run` and `tools/check-node` refuse it.
+//! - A silent connection is never closed, or is closed too soon. A Hello or a request that is whole is never handed
+//!   on. The tests of `sb_run` and `tools/check-node` refuse it.
+//! - A session does not read what came before a worker took it, or reads it twice. Tests refuse it.
+//! - A question goes to the owner's thread although a worker is free, or to workers that are busy.
+//!   `tools/check-node` refuses it.
+//! - A request or session may take too long, because its time never begins, or because it goes on once its time is
+//!   over. The tests of `sb_run` and `tools/check-node` refuse it.
 //! - A log that failed does not end a node that must exit. Only `tools/check-node` refuses it.
 //! - `Peers::note` returns that nothing was news, or loses the last peer. Tests refuse it.
 //! - `OwnWrites::put` owes a write for missing memory although it could share it. Tests refuse it.
@@ -77,6 +82,7 @@
 #![tactic(auto)]
 
 mod accepting;
+mod arrivals;
 mod asking;
 mod bell;
 mod context;
@@ -86,6 +92,7 @@ mod counts;
 mod dialer;
 mod dialing;
 mod ending;
+mod first_message;
 mod gate;
 mod greeting;
 mod laws;
@@ -104,6 +111,7 @@ mod status;
 mod tagged;
 mod threads;
 mod timed;
+mod waiting;
 
 pub use asking::ask_control;
 pub use gate::{Gate, GatePoint, Open};
@@ -112,7 +120,7 @@ pub use node::{NodeConfig, OnLogFault, Pace, Paths, Ran, run_node};
 pub use observer::{Nobody, Observer};
 pub use own_writes::{OwnWrites, Stored};
 pub use peers::{LastRound, Peer};
-pub use pool::{Pooled, Source};
+pub use pool::{Pooled, Source, Taken};
 pub use runtime::Runtime;
 pub use serving::Serving;
 pub use status::Status;

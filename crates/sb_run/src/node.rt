@@ -21,7 +21,7 @@ use std::sync::ledger::Blank;
 pub struct Paths<'a> {
     /// Where its peers connect.
     pub sock: &'a str,
-    /// Where its clients connect: who writes its rows, or asks for rows of any owner.
+    /// Where its clients connect, which write its rows and ask for rows of any owner.
     pub control: &'a str,
     /// Where its peers listen.
     pub peers: &'a [&'a str],
@@ -43,10 +43,12 @@ pub struct Pace {
     pub rounds: u64,
     /// How long it waits after each round in turn, in milliseconds.
     pub pause: u64,
-    /// How many peers it dials one after another, without a pause, where it has something new to pass on; 0 for none.
+    /// How many peers it dials one after another, without a pause, when it has something new to pass on; 0 for none.
     pub fanout: u64,
     /// How long a connection may move no byte, in milliseconds; 0 for no limit.
     pub idle: u64,
+    /// How long the session of a peer that has dialed may take, in milliseconds; 0 for no limit.
+    pub session: u64,
     /// The same of a connection to a peer that it dials.
     pub dial_idle: u64,
     /// How long the request of a connection at the control socket may take until it is whole, and then its answer, in
@@ -92,30 +94,45 @@ fn start_refusal<L: WriteLog>(settings: &Settings, log: &L) -> Option<Fault>
     None
 }
 
-/// Runs the node that owns a log. It binds both sockets, each at a path where no file is or a socket at which nobody
-/// listens, and tells the observer. Workers serve peers on `sock`, as many at once as there are workers. The calling thread
-/// serves clients on `control`, one connection after another. One more thread dials the peers in turn, one a round, with a
-/// pause after each. A round has as many exchanges of digests and deltas as it takes to tell of all owners that the node
-/// holds: one, where the budget has room for a digest of all. A peer that let a round wait for `dial_idle` milliseconds is
-/// passed over in its next seven turns, unless nobody else is left. The observer is told of a round that ended otherwise
-/// than the one before with that peer. After the last round the node ends, once the connections that are open have ended,
-/// and removes what is at the paths of both sockets, also where another put it there since.
+/// Runs the node that owns a log. It binds both sockets and reports that to the observer. At each path must be no file, or a
+/// socket at which nobody listens. One thread accepts at both. Workers serve peers, as many at once as there are workers, and
+/// answer questions of clients. The calling thread makes the own writes, one after another, and answers questions while no
+/// worker is free. One more thread dials the peers in turn, one a round, with a pause after each. A round has as many exchanges
+/// of digests and deltas as digests of all owners that the node holds need: one, if the budget has room for a digest of all. A
+/// peer that let a round wait for `dial_idle` milliseconds is passed over in its next seven turns, unless nobody else is left.
+/// The observer gets each round that ended otherwise than the one before with that peer. The node ends after the last round,
+/// once the connections that are open have ended. Then it removes what is at the paths of both sockets, even if another put it
+/// there since.
 ///
-/// Where a client wrote, or a peer told of something new, the node dials the next `fanout` peers one after another, without a
-/// pause, but for those whose last round had a fault. News that comes within ten milliseconds goes together. These are rounds too.
-/// With no pause there is no need of them.
+/// If a client wrote, or a peer had something new, the node dials the next `fanout` peers one after another, without a pause.
+/// It leaves out those whose last round had a fault. News that comes within ten milliseconds goes together. These are rounds
+/// too. With no pause there is no need of them.
 ///
-/// A connection ends with a fault where its peer breaks the rules of a session or of the control socket, where it takes
-/// more than `max_reads` reads, where no byte moved for `idle` milliseconds, or for `dial_idle` where the node has dialed, or
-/// where a request or its answer took longer than `request`. That costs this connection alone.
+/// A connection takes a worker or the calling thread only once it has something to say: a peer's whole Hello, or a client's
+/// whole request. Until then it waits, for `idle` milliseconds at `sock` and for `request` at `control`, or `idle` if that is
+/// 0. At most 1,024 wait at a socket; one more closes the oldest that said nothing, or else the oldest.
 ///
-/// Where a fault of its store closes the log it tells the observer, and goes on or ends, as `on_log_fault` says.
+/// Each of these ends a connection with a fault, and costs this connection alone:
 ///
-/// `BadSetting` where there are fewer seats than two beside one for each worker; `WrongCluster` where the log is of another
-/// cluster than the settings'; the faults of the log's `load`; `NoMemory`; `ReadFailed` where a socket can't be bound;
-/// `NoMemory` where the thread of the pool, or the one that dials, can't be made; `StoreFailed` where the log failed and the
-/// node is to exit then. With each of these no file is left that was not there before. Where the thread of a worker can't be
-/// made, the node serves fewer peers at once.
+/// - Its Hello or its request was not whole in time, or it made room for another.
+/// - Its peer breaks the rules of a session or of the control socket.
+/// - It takes more than `max_reads` reads.
+/// - No byte moved for `idle` milliseconds, or for `dial_idle` if the node has dialed.
+/// - A session that a peer dialed took longer than `session`.
+/// - A request or its answer took longer than `request`.
+///
+/// If a fault of its store closes the log, it reports that to the observer, and goes on or ends, as `on_log_fault` says.
+///
+/// Its faults, with each of which no file is left that was not there before:
+///
+/// - `BadSetting` if there are fewer seats than two beside one for each worker.
+/// - `WrongCluster` if the log is of another cluster than the settings'.
+/// - The faults of the log's `load`.
+/// - `NoMemory`, also if the thread that accepts, that of the pool, or the one that dials, can't be made.
+/// - `ReadFailed` if a socket can't be bound.
+/// - `StoreFailed` if the log failed and the node is to exit then.
+///
+/// If the thread of a worker can't be made, the node serves fewer peers at once.
 pub fn run_node<
     L: WriteLog + Drop,
     R: Runtime + Net<Listener = TcpListener, Stream = TcpStream>,

@@ -43,20 +43,20 @@ use sb_types::Fault;
 /// }
 /// ```
 pub trait Observer {
-    /// Both sockets are bound, and nothing is served or dialed yet. It is told once.
+    /// Both sockets are bound, and nothing is served or dialed yet. It is called once.
     fn listening(&self);
 
-    /// How a round with the peer at this path ended: `RoundsDone` where all exchanges of digests of this one round were made;
-    /// `ReadFailed` also where the peer could not be reached. Each peer's first
-    /// round is told, and then each that ended otherwise than its round before, be it by another fault; but `WriteFailed` is
-    /// not told behind a refusal of the peer's Hello, since it is the same one.
+    /// How a round with the peer at this path ended: `RoundsDone` if all exchanges of digests of this one round were made.
+    /// `ReadFailed` also if the peer could not be reached. It is called for each peer's first round, and then for each that
+    /// ended otherwise than its round before, also by another fault. `WriteFailed` after a refusal of the peer's Hello is the
+    /// same refusal, for which it is not called again.
     fn dialed(&self, peer: &str, ended: &Result<Ended, Fault>);
 
-    /// Another node writes under this node's name, of which this version was seen. It is told once, behind a round.
+    /// Another node writes under this node's name: this version of it was seen. It is called once, after a round.
     fn conflict(&self, version: u64);
 
     /// The store of the node's own log failed at a write, by this cause, and the log is closed. The log has the write or has it
-    /// not. It is told once.
+    /// not. It is called once.
     fn log_failed(&self, _cause: StoreCause) {}
 
     /// Whether it wants to know how the node is.
@@ -64,15 +64,15 @@ pub trait Observer {
         false
     }
 
-    /// How the node is, where it wants to know: behind a round that ended otherwise than the one before with that peer, and
-    /// behind each that ends a second or more after it was told last.
+    /// How the node is, if it wants to know. It is called after a round that ended otherwise than the one before with that peer,
+    /// and after each that ends a second or more after the last call.
     fn status(&self, _status: &Status<'_>) {}
 
-    /// At this path lay the socket of a node that no longer runs, and it was removed. It is told before `listening`.
+    /// At this path lay the socket of a node that no longer runs, and it was removed. It is called before `listening`.
     fn socket_removed(&self, _path: &str) {}
 }
 
-/// Nobody, who does nothing with what is told.
+/// Nobody, who does nothing with what happens.
 #[derive(Clone, Copy, Debug)]
 pub struct Nobody;
 

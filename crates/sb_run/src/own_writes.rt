@@ -37,9 +37,9 @@ impl Stored {
 pub struct OwnWrites<L: WriteLog> {
     log: L,
     owed: Option<Committed>,
-    /// The version of the last write that the log took or that was handed in, where it was not asked for since.
+    /// The version of the last write that the log took or that was handed in, if it was not asked for since.
     stored: Option<u64>,
-    /// Whether a write closed the log by a fault of its store, where it was not asked for since.
+    /// Whether a write closed the log by a fault of its store, if it was not asked for since.
     has_failed: bool,
 }
 
@@ -58,7 +58,7 @@ impl<L: WriteLog> OwnWrites<L> {
         }
     }
 
-    /// The version of the last write that the log took, or that was handed in, since this was last asked; none where there was none.
+    /// The version of the last write that the log took, or that was handed in, since this was last asked; none if there was none.
     pub(crate) fn take_stored(&mut self) -> Option<u64>
         ensures stored { (result ≡ self.old.stored) × (self.new.stored ≡ None) }
         ensures same { (self.new.log ≡ self.old.log) × (self.new.owed ≡ self.old.owed) × (self.new.has_failed ≡ self.old.has_failed) }
@@ -105,8 +105,8 @@ impl<L: WriteLog> OwnWrites<L> {
         kept
     }
 
-    /// Hands in what is owed. `OwnerConflict` where another node writes under the own name; then the faults of
-    /// the directory for what is owed. Each leaves everything as it was, but for the seat's last call.
+    /// Hands in what is owed. `OwnerConflict` if another node writes under the own name; then the faults of
+    /// the directory for what is owed. Each leaves everything as it was, except the seat's last call.
     fn hand_in<S: DirectoryTag, H: Wait + Drop, Q: Wait>(
         &mut self,
         rt: &Q,
@@ -138,13 +138,13 @@ impl<L: WriteLog> OwnWrites<L> {
         Ok(())
     }
 
-    /// Puts a write into the log, under the next version, and hands it to the directory. Where the directory refuses it by a
+    /// Puts a write into the log, under the next version, and hands it to the directory. If the directory refuses it by a
     /// fault, it is owed, and is handed in before the next write.
     ///
-    /// `OwnerConflict` where another node writes under the own name; the faults of the directory for what is owed.
-    /// Each of these leaves everything as it was, but for the seat's last call. Then, with what was owed handed in, the
-    /// faults of `WriteLog::put`: with `StoreFailed` the write stands or does not, and the log is closed; with each other one
-    /// the log took nothing.
+    /// `OwnerConflict` if another node writes under the own name; the faults of the directory for what is owed.
+    /// Each of these leaves everything as it was, except the seat's last call. Then, with what was owed handed in, the
+    /// faults of `WriteLog::put`. With `StoreFailed` the log is closed, and has the write or has it not. With each other one the
+    /// log took nothing.
     pub fn put<S: DirectoryTag, H: Wait + Drop, Q: Wait>(
         &mut self,
         rt: &Q,

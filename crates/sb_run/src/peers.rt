@@ -42,7 +42,7 @@ impl LastRound {
         matches!(self, LastRound::Failed(_))
     }
 
-    /// Whether the Hello of the peer was none for this node.
+    /// Whether the Hello of the peer was refused.
     fn was_refused(&self) -> bool
         ensures { result ≡ spec.was_refused self.now }
     {
@@ -55,7 +55,7 @@ impl LastRound {
 pub struct Peer<'a> {
     path: &'a str,
     last: LastRound,
-    /// The number of its last round, from 1; 0 where there was none.
+    /// The number of its last round, from 1; 0 before the first.
     round: u64,
     /// How many more of its turns it is passed over.
     turns_out: u64,
@@ -67,19 +67,18 @@ impl<'a> Peer<'a> {
         self.path
     }
 
-    /// How the last round with it ended; but where that was `WriteFailed` behind a refusal of its Hello, still that refusal.
+    /// How the last round with it ended. If that was `WriteFailed` after a refusal of its Hello, it is still that refusal.
     pub fn last(&self) -> LastRound {
         self.last
     }
 
-    /// The number of its last round, from 1; 0 where there was none.
+    /// The number of its last round, from 1; 0 before the first.
     pub fn round(&self) -> u64 {
         self.round
     }
 
     /// Takes down how its round of this number ended, and whether it kept the node waiting. Says whether that is news: it
-    /// ended otherwise than the round before, and not by a write that failed behind a refused Hello, which is the same
-    /// refusal.
+    /// ended otherwise than the round before. A write that failed after a refused Hello is the same refusal, and not news.
     fn note(&mut self, round: u64, ended: &Result<Ended, Fault>, has_waited: bool) -> bool
         ensures path { self.new.path ≡ self.old.path }
         ensures round { self.new.round ≡ round }
@@ -103,7 +102,7 @@ impl<'a> Peer<'a> {
     }
 }
 
-/// Whose turn it is of so many: behind the last comes the first.
+/// Whose turn it is of so many: after the last comes the first.
 fn turn_of(count: usize, turn: usize) -> usize
     ensures { result ≡ spec.turn_of count turn }
 {
@@ -143,7 +142,7 @@ impl<'a> Peers<'a> {
         })
     }
 
-    /// Takes the next turn: the index of the peer whose turn it is, and whether it is passed over. None where there are no
+    /// Takes the next turn: the index of the peer whose turn it is, and whether it is passed over. None if there are no
     /// peers.
     fn take_turn(&mut self) -> Option<(usize, bool)>
         ensures none { result ≡ None → vec_len self.old.all ≡ 0 }
@@ -165,8 +164,8 @@ impl<'a> Peers<'a> {
         Some((turn, is_out))
     }
 
-    /// The index of the peer whose turn it is; behind the last comes the first. One that kept the node waiting is passed over
-    /// in seven of its turns. None where there are no peers.
+    /// The index of the peer whose turn it is; after the last comes the first. One that kept the node waiting is passed over
+    /// in seven of its turns. None if there are no peers.
     pub(crate) fn next_in_turn(&mut self) -> Option<usize>
         ensures first { IfSome (slice_get self.old.all.items (spec.turn_of (vec_len self.old.all) self.old.turn))
             (λ peer. peer.turns_out ≡ 0 → result ≡ Some (spec.turn_of (vec_len self.old.all) self.old.turn)) }
@@ -178,7 +177,7 @@ impl<'a> Peers<'a> {
         if is_out { self.pass_over() } else { Some(turn) }
     }
 
-    /// The index of the next peer that is not passed over, behind one that is.
+    /// The index of the next peer that is not passed over, after one that is.
     fn pass_over(&mut self) -> Option<usize>
         ensures within { IfSome result (λ index. index < vec_len self.new.all) }
         ensures next { IfSome result (λ index. self.new.turn ≡ index + 1) }
@@ -195,7 +194,7 @@ impl<'a> Peers<'a> {
     }
 
     /// Takes the next turn of a burst: the index of the peer whose turn it is, and whether its last round had a fault. None
-    /// where there are no peers.
+    /// if there are no peers.
     fn take_burst_turn(&mut self) -> Option<(usize, bool)>
         ensures none { result ≡ None → vec_len self.old.all ≡ 0 }
         ensures turn { IfSome result (λ taken. taken.0 ≡ spec.turn_of (vec_len self.old.all) self.old.burst_turn) }
@@ -227,7 +226,7 @@ impl<'a> Peers<'a> {
         }
     }
 
-    /// The index of the next peer whose last round had no fault, behind one whose last round had one.
+    /// The index of the next peer whose last round had no fault, after one whose last round had one.
     fn pass_over_in_burst(&mut self) -> Option<usize>
         ensures fit { IfSome result (λ index. IfSome (slice_get self.new.all.items index) (λ peer. spec.has_failed peer.last ≡ false)) }
         ensures within { IfSome result (λ index. index < vec_len self.new.all) }
@@ -254,7 +253,7 @@ impl<'a> Peers<'a> {
         count
     }
 
-    /// The path of a peer; the empty one where there is none.
+    /// The path of a peer; the empty one if there is none.
     pub(crate) fn path(&self, index: usize) -> &'a str
         ensures { IfSome (slice_get self.now.all.items index) (λ peer. result ≡ peer.path) }
     {
@@ -269,8 +268,8 @@ impl<'a> Peers<'a> {
         &self.all
     }
 
-    /// Takes down how the round of this number with a peer ended, and whether that kept the node waiting. Tells the observer
-    /// where it is news, and says whether it is.
+    /// Takes down how the round of this number with a peer ended, and whether that kept the node waiting. Reports it to
+    /// the observer if it is news, and says whether it is.
     pub(crate) fn note<O: Observer>(
         &mut self,
         index: usize,

@@ -1,14 +1,17 @@
-//! Workers that serve the connections of a source, each from a seat of its own.
+//! Workers that serve the sessions of a source and answer its questions, each from a seat of its own.
 ghost use Rattle.std.specs.Prelude.{◌≡◌, ◌+◌, ◌<◌, ◌≤◌, length, IfSome, IfNone, IfOk, IsOk};
 ghost use Rattle.std.specs.Thread.{IsSend};
 ghost use Rattle.sb_run.specs.Gates.{IsShut, AreShut};
 ghost use Rattle.sb_run.specs.Hellos.{Greets};
+ghost use Rattle.sb_directory.specs.Serving.{IsLater};
 ghost use Rattle.sb_run.specs.Pools.{IsKept, AreKept};
+ghost use Rattle.sb_run.specs.Sources.{IsNumbered, IsQuestion};
 
 use crate::gate::{Gate, GatedHandler};
 use crate::greeting::session_of;
 use crate::serving::Serving;
 use core::mem::replace_with;
+use sb_codec::Ask;
 use sb_directory::{DirectoryTag, ReaderSeat, SeatHandler};
 use sb_frames::{Connection, Steps};
 use sb_session::serve;
@@ -21,8 +24,19 @@ use std::sync::ledger::{Blank, Ledger};
 use std::thread;
 use std::thread::Threads;
 
+/// What a worker takes from a source.
+#[derive(Drop)]
+pub enum Taken<I, O> {
+    /// The connection of a peer, as a reader and a writer, with the number of its session, from 1.
+    Session(u64, I, O),
+    /// The question of a caller, and the writer that gets its answer.
+    Question(Ask, O),
+}
+
 /// What gives workers their connections.
 pub trait Source {
+    ghost use Rattle.sb_run.specs.Sources.{IsNumbered, IsQuestion};
+
     type In: Read + Drop + Send;
 
     type Out: Write + Drop + Send;
@@ -30,19 +44,23 @@ pub trait Source {
     /// What holds once there are no more connections; it may be nothing.
     ghost over: { Self → Type 0 };
 
-    /// The next connection, with the number of its session, from 1. `None` once there are no more; a fault if one could not be
-    /// had, after which the next may be asked for.
-    fn next(&self) -> Option<Result<(u64, Self::In, Self::Out), Fault>>
-        ensures numbered { IfSome result (λ next. IfOk next (λ taken. 0 < taken.0)) }
+    /// What holds when it gives a question; it may be nothing. If it never gives one this may be false.
+    ghost asks: { Self → Type 0 };
+
+    /// The next connection. `None` once there are no more; a fault if one could not be had, after which the next may be asked
+    /// for.
+    fn next(&self) -> Option<Result<Taken<Self::In, Self::Out>, Fault>>
+        ensures numbered { IfSome result (λ next. IfOk next (λ taken. IsNumbered taken)) }
+        ensures asks { IfSome result (λ next. IfOk next (λ taken. IsQuestion taken → asks self.now)) }
         ensures over { IfNone result (over self.now) };
 }
 
 /// What the workers of a pool did.
 #[derive(Drop)]
 pub struct Pooled<S: DirectoryTag> {
-    /// How many connections were taken.
+    /// How many connections of peers were taken.
     pub sessions: u64,
-    /// How many of them ended with a fault, and how many could not be had.
+    /// How many connections ended with a fault, or could not be had.
     pub faults: u64,
     /// The seats that were given, in their order.
     pub seats: Vec<ReaderSeat<S>>,
@@ -76,23 +94,22 @@ impl<S: DirectoryTag, H: Wait + Drop, Q: Wait> Serving<'_, S, H, Q> {
         (handler.into_inner().into_seat(), ended.is_err())
     }
 
-    /// Serves a connection that was taken from the source, and counts it, and whether it ended with a fault. Its reads are the
-    /// first of a ledger.
-    fn serve_taken<I: Read + Drop, O: Write + Drop, G: Gate, K: Ledger>(
+    /// Serves the session of this number, and counts it, and whether it ended with a fault. Its reads are the first of a ledger.
+    fn serve_counted<I: Read + Drop, O: Write + Drop, G: Gate, K: Ledger>(
         &self,
         gate: &G,
         tally: &Tally,
-        taken: (u64, I, O),
+        session: (u64, I, O),
         seat: ReaderSeat<S>,
         blank: Blank,
     ) -> ReaderSeat<S>
         requires name { blank.name ≡ K.name }
         requires parts { blank.parts ≡ K.parts }
         requires some { 0 < blank.parts }
-        ensures { IsKept (IsShut (G.lets gate.now taken.0)) seat result }
+        ensures { IsKept (IsShut (G.lets gate.now session.0)) seat result }
     {
         tally.sessions.fetch_add(1, Ordering::SeqCst);
-        let (number, input, output) = taken;
+        let (number, input, output) = session;
         let max_reads = self.max_reads;
         let steps = Steps::<K>::new(blank);
         let mut connection = Connection::new(self.alloc, input, output, max_reads, steps);
@@ -101,6 +118,50 @@ impl<S: DirectoryTag, H: Wait + Drop, Q: Wait> Serving<'_, S, H, Q> {
             tally.faults.fetch_add(1, Ordering::SeqCst);
         }
         seat
+    }
+
+    /// Answers a question, and counts whether that ended with a fault.
+    fn answer_counted<O: Write + Drop>(
+        &self,
+        tally: &Tally,
+        ask: &Ask,
+        output: O,
+        seat: ReaderSeat<S>,
+    ) -> ReaderSeat<S>
+        ensures { IsLater seat result }
+    {
+        let mut output = output;
+        let (seat, sent) = self.answer_ask(&mut output, seat, ask);
+        if sent.is_err() {
+            tally.faults.fetch_add(1, Ordering::SeqCst);
+        }
+        seat
+    }
+
+    /// Serves the session, or answers the question, that was taken from a source.
+    fn serve_taken<X: Source, G: Gate>(
+        &self,
+        source: &X,
+        gate: &G,
+        tally: &Tally,
+        taken: Taken<X::In, X::Out>,
+        seat: ReaderSeat<S>,
+    ) -> ReaderSeat<S>
+        requires asks { IsQuestion taken → X.asks source.now }
+        ensures { IsKept (AreShut (G.lets gate.now) × (X.asks source.now → ⊥)) seat result }
+    {
+        match taken {
+            Taken::Session(number, input, output) => {
+                self.serve_counted::<X::In, X::Out, G, Brand>(
+                    gate,
+                    tally,
+                    (number, input, output),
+                    seat,
+                    Blank::new(1),
+                )
+            }
+            Taken::Question(ask, output) => self.answer_counted(tally, &ask, output, seat),
+        }
     }
 
     /// Serves connections from a seat until the source has no more.
@@ -112,7 +173,7 @@ impl<S: DirectoryTag, H: Wait + Drop, Q: Wait> Serving<'_, S, H, Q> {
         tally: &Tally,
         seat: ReaderSeat<S>,
     ) -> (ReaderSeat<S>, ())
-        ensures kept { IsKept (AreShut (G.lets gate.now)) seat result.0 }
+        ensures kept { IsKept (AreShut (G.lets gate.now) × (X.asks source.now → ⊥)) seat result.0 }
         ensures over { X.over source.now }
     {
         let mut current = seat;
@@ -123,13 +184,7 @@ impl<S: DirectoryTag, H: Wait + Drop, Q: Wait> Serving<'_, S, H, Q> {
                     tally.faults.fetch_add(1, Ordering::SeqCst);
                 }
                 Some(Ok(taken)) => {
-                    current = self.serve_taken::<X::In, X::Out, G, Brand>(
-                        gate,
-                        tally,
-                        taken,
-                        current,
-                        Blank::new(1),
-                    );
+                    current = self.serve_taken(source, gate, tally, taken, current);
                 }
             }
         }
@@ -144,7 +199,7 @@ impl<S: DirectoryTag, H: Wait + Drop, Q: Wait> Serving<'_, S, H, Q> {
         tally: &Tally,
         seat: &mut ReaderSeat<S>,
     )
-        ensures kept { IsKept (AreShut (G.lets gate.now)) seat.old seat.new }
+        ensures kept { IsKept (AreShut (G.lets gate.now) × (X.asks source.now → ⊥)) seat.old seat.new }
         ensures over { X.over source.now }
     {
         // `self` is handed in: the prover keeps no clause of a closure that captures a struct with a lifetime.
@@ -153,7 +208,7 @@ impl<S: DirectoryTag, H: Wait + Drop, Q: Wait> Serving<'_, S, H, Q> {
             self,
             |seat, serving| -> (ReaderSeat<S>, ())
                 requires { IsSend X.In.row × IsSend X.Out.row }
-                ensures kept { IsKept (AreShut (G.lets gate.entry.now)) seat result.0 }
+                ensures kept { IsKept (AreShut (G.lets gate.entry.now) × (X.asks source.entry.now → ⊥)) seat result.0 }
                 ensures over { X.over source.entry.now }
             { serving.work(source, gate, tally, seat) },
         );
@@ -169,8 +224,9 @@ where
     /// Serves the connections of a source until it has no more, with a worker for each seat, each in a thread of its own. The
     /// caller is one of the workers, and does the work of those whose thread can't be made. A session is of the directory's node,
     /// under its name and of its cluster. One that the gate turns away ends with `TurnsSpent`; each makes at most `max_reads`
-    /// reads. The seats come back in their order. If the gate lets no session apply a delta, none of them made an event or has
-    /// seen more. It never refuses.
+    /// reads. A question is answered by a page of what the worker's seat reads. The seats come back in their order. If the gate
+    /// lets no session apply a delta, and the source gives no question, none of them made an event or has seen more. It never
+    /// refuses.
     pub fn serve_pool<X: Source + Sync, G: Gate + Sync>(
         &self,
         seats: Vec<ReaderSeat<S>>,
@@ -178,7 +234,7 @@ where
         gate: &G,
     ) -> Result<Pooled<S>, (Fault, Vec<ReaderSeat<S>>)>
         ensures ok { IsOk result }
-        ensures kept { IfOk result (λ pooled. AreKept (AreShut (G.lets gate.now)) seats.items pooled.seats.items) }
+        ensures kept { IfOk result (λ pooled. AreKept (AreShut (G.lets gate.now) × (X.asks source.now → ⊥)) seats.items pooled.seats.items) }
         // Each worker goes on until the source has no more.
         ensures over { 0 < length seats.items → X.over source.now }
     {
@@ -203,7 +259,7 @@ where
         tally: &Tally,
         seats: &mut [ReaderSeat<S>],
     )
-        ensures kept { AreKept (AreShut (G.lets gate.now)) seats.old seats.new }
+        ensures kept { AreKept (AreShut (G.lets gate.now) × (X.asks source.now → ⊥)) seats.old seats.new }
         ensures over { 0 < length seats.old → X.over source.now }
     {
         if seats.is_empty() {
@@ -216,7 +272,7 @@ where
             workers,
             &|_, seat| -> ()
                 requires { IsSend X.In.row × IsSend X.Out.row }
-                ensures kept { IsKept (AreShut (G.lets gate.entry.now)) seat.entry.now seat.exit.now }
+                ensures kept { IsKept (AreShut (G.lets gate.entry.now) × (X.asks source.entry.now → ⊥)) seat.entry.now seat.exit.now }
                 ensures over { X.over source.entry.now }
             { self.work_in_place(source, gate, tally, seat) },
         );

@@ -92,7 +92,7 @@ impl<S: RoundsTag> RoundsSender<S> {
 }
 
 impl<S: RoundsTag> RoundsReceiver<S> {
-    /// Waits until the rounds are sent. `NoMemory` where the other end is gone before.
+    /// Waits until the rounds are sent. `NoMemory` if the other end is gone before.
     pub(crate) fn receive<R: Wait>(self, rt: &R) -> Result<Rounds<S>, Fault>
         ensures { IfErr result (λ fault. fault ≡ Fault.NoMemory) }
     {

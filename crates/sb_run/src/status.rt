@@ -17,7 +17,7 @@ pub struct Status<'a> {
     pub keys: usize,
     /// Why its log takes no writes; none if it takes them.
     pub log_cause: Option<StoreCause>,
-    /// The version under its name that another node wrote; none where no such was seen.
+    /// The version under its name that another node wrote; none if no such was seen.
     pub conflict: Option<u64>,
     /// What the dialing thread's seat sees of it.
     pub snapshot: Snapshot<'a>,

@@ -2,6 +2,8 @@
 ghost use Rattle.std.specs.Prelude.{◌≡◌, ◌⊎◌, ◌+◌, ◌≤◌, vec_len, vec_capacity, IsOk, IfOk, IfErr};
 ghost use Rattle.sb_run.specs.Running.{IsEndFault, IsTagOf, IsStarted};
 
+use crate::accepting::Acceptor;
+use crate::arrivals::{Asked, new_handover};
 use crate::bell::Bell;
 use crate::context::NodeContext;
 use crate::counts::Counts;
@@ -15,7 +17,7 @@ use crate::rounds::{RoundsTag, rounds_channel};
 use crate::runtime::Runtime;
 use crate::seats::{ThreadSeats, gather_seats, part_seats};
 use crate::sockets::BoundSockets;
-use crate::threads::ThreadsEnd;
+use crate::threads::{Links, ThreadsEnd};
 use sb_directory::{Directory, ReaderSeat};
 use sb_log::WriteLog;
 use sb_node::NodeCore;
@@ -70,7 +72,7 @@ fn seat_all<S: RoundsTag, R: Wait>(
 }
 
 /// Makes the directory and its seats, binds both sockets, runs the threads, and removes the sockets' files. `NoMemory`;
-/// `ReadFailed` where a socket can't be bound; `StoreFailed` where the log failed and the node is to exit then.
+/// `ReadFailed` if a socket can't be bound; `StoreFailed` if the log failed and the node is to exit then.
 pub(crate) fn run_tagged<
     S: RoundsTag + Send + Sync,
     L: WriteLog + Drop,
@@ -93,10 +95,11 @@ pub(crate) fn run_tagged<
     ensures rounds { IfOk result (λ ran. ran.rounds ≡ pace.rounds) }
     ensures fault { IfErr result (λ fault. IsEndFault pace.on_log_fault fault ⊎ (fault ≡ Fault.ReadFailed)) }
 {
-    let workers = start.core.settings().workers();
     let (rounds_sender, rounds_receiver) = rounds_channel::<S>(alloc)?;
     let (bell, parker) = Bell::new(alloc)?;
     let dialer = Dialer::new(Peers::new(alloc, paths.peers)?, observer, parker);
+    let (handover, jobs, requests) = new_handover(alloc)?;
+    let events = Acceptor::events(alloc)?;
     let (directory, thread_seats, spare) = seat_all::<S, R>(
         rt,
         alloc,
@@ -104,11 +107,18 @@ pub(crate) fn run_tagged<
         start.blank,
         start.core,
     )?;
-    let Ok(sockets) = BoundSockets::bind(rt, paths.sock, paths.control, observer) else {
+    let Ok((sockets, poll)) = BoundSockets::bind(rt, paths.sock, paths.control, observer) else {
         return Err(Fault::ReadFailed);
     };
     observer.listening();
-    let (ending, counts) = (EndFlag::new(), Counts::new());
+    let links = Links {
+        acceptor: Acceptor::new(alloc, poll, events, handover),
+        jobs,
+        requests,
+        rounds_sender,
+        rounds_receiver,
+    };
+    let (ending, counts, asked) = (EndFlag::new(), Counts::new(), Asked::new());
     let node = NodeContext {
         rt,
         alloc,
@@ -117,16 +127,10 @@ pub(crate) fn run_tagged<
         ending: &ending,
         bell: &bell,
         counts: &counts,
-        workers,
+        asked: &asked,
         pace,
     };
-    let finished = dialer.run_threads(
-        &node,
-        start.writes,
-        thread_seats,
-        rounds_sender,
-        rounds_receiver,
-    );
+    let finished = dialer.run_threads(&node, start.writes, thread_seats, links);
     sockets.remove(rt);
     close(rt, directory, finished?, spare)
 }

@@ -4,6 +4,7 @@ ghost use Rattle.std.specs.Thread.{IsSend, IsSync};
 ghost use Rattle.sb_run.specs.Running.{IsEndFault, IsOpenedFrom};
 
 use crate::accepting::Acceptor;
+use crate::arrivals::{Arrivals, Jobs, Requests};
 use crate::context::NodeContext;
 use crate::control_socket::ControlEnd;
 use crate::dialer::Dialer;
@@ -31,6 +32,16 @@ pub(crate) struct ThreadsEnd<S: RoundsTag> {
     pub(crate) faults: u64,
 }
 
+/// What the threads of a node hand each other.
+#[derive(Drop)]
+pub(crate) struct Links<S: RoundsTag> {
+    pub(crate) acceptor: Acceptor,
+    pub(crate) jobs: Jobs,
+    pub(crate) requests: Requests,
+    pub(crate) rounds_sender: RoundsSender<S>,
+    pub(crate) rounds_receiver: RoundsReceiver<S>,
+}
+
 /// That a pool gives so many seats back.
 #[derive(Clone, Copy)]
 struct AsMany(usize);
@@ -41,22 +52,15 @@ impl<S: DirectoryTag> Promise<Pooled<S>> for AsMany {
     ghost kept_by = { λ p r. vec_len r.seats ≡ p.0 };
 }
 
-/// Serves peers on the socket of the node until it is to end, with a worker for each seat.
-fn serve_sock<
+/// Serves the peers that were accepted, and answers questions, until the node is to end, with a worker for each seat.
+fn serve_arrivals<
     S: RoundsTag + Send + Sync,
     H: Wait + Drop + Send + Sync,
     Q: Threads + Wait + Clock + Sync,
->(node: &NodeContext<S, H, Q>, seats: Vec<ReaderSeat<S>>) -> Pooled<S>
+>(node: &NodeContext<S, H, Q>, jobs: Jobs, seats: Vec<ReaderSeat<S>>) -> Pooled<S>
     ensures { vec_len result.seats ≡ vec_len seats }
 {
-    let socket = &node.sockets.sock;
-    let source = Acceptor::new(
-        node.rt,
-        socket,
-        node.ending,
-        node.pace.idle,
-        Some(node.counts),
-    );
+    let source = Arrivals::new(node.rt, jobs, node.ending, node.asked, node.pace);
     let serving = node.serving();
     match serving.serve_pool(seats, &source, node.bell) {
         Ok(pooled) => pooled,
@@ -64,7 +68,7 @@ fn serve_sock<
     }
 }
 
-/// Makes all rounds, sends how many to the calling thread, and ends the node; or leaves where the node ended before.
+/// Makes all rounds, sends how many to the calling thread, and ends the node; or leaves if the node ended before.
 fn dial_to_the_end<S: RoundsTag, H: Wait + Drop, Q: Wait + Net + Clock, O: Observer>(
     node: &NodeContext<S, H, Q>,
     dialer: Dialer<'_, O>,
@@ -80,9 +84,9 @@ fn dial_to_the_end<S: RoundsTag, H: Wait + Drop, Q: Wait + Net + Clock, O: Obser
 }
 
 impl<O: Observer + Sync> Dialer<'_, O> {
-    /// Runs the threads of a node to their end: its workers, the one that dials, and the calling one at the control socket.
-    /// `NoMemory` if the thread of the pool, or the one that dials, can't be made; `StoreFailed` if the log failed and the node is to
-    /// exit then.
+    /// Runs the threads of a node to their end. One accepts, some are workers, one dials, and the calling one makes the own
+    /// writes. `NoMemory` if the thread that accepts, that of the pool, or the one that dials, can't be made. `StoreFailed` if the
+    /// log failed and the node is to exit then.
     pub(crate) fn run_threads<
         S: RoundsTag + Send + Sync,
         L: WriteLog + Drop,
@@ -93,8 +97,7 @@ impl<O: Observer + Sync> Dialer<'_, O> {
         node: &NodeContext<S, H, Q>,
         writes: OwnWrites<L>,
         thread_seats: ThreadSeats<S>,
-        rounds_sender: RoundsSender<S>,
-        rounds_receiver: RoundsReceiver<S>,
+        links: Links<S>,
     ) -> Result<ThreadsEnd<S>, Fault>
         requires opened { IsOpenedFrom (L.seen writes.log) S.opening }
         requires workers { vec_len thread_seats.workers ≡ S.settings.workers }
@@ -108,6 +111,13 @@ impl<O: Observer + Sync> Dialer<'_, O> {
             dialing,
             control,
         } = thread_seats;
+        let Links {
+            acceptor,
+            jobs,
+            requests,
+            rounds_sender,
+            rounds_receiver,
+        } = links;
         let count = workers.len();
         thread::scope(
             thread::scope_env(),
@@ -118,10 +128,15 @@ impl<O: Observer + Sync> Dialer<'_, O> {
                 ensures thread_seats { IfOk result (λ finished. vec_len finished.thread_seats.workers ≡ count) }
                 ensures fault { IfErr result (IsEndFault node.entry.now.pace.on_log_fault) }
             {
+                let Ok(accepting_thread) = scope.spawn(move || acceptor.accept_all(node)) else {
+                    return Err(Fault::NoMemory);
+                };
                 let Ok(pool_thread) = scope.spawn_with(
                     AsMany(count),
-                    move || serve_sock(node, workers),
+                    move || serve_arrivals(node, jobs, workers),
                 ) else {
+                    node.end();
+                    accepting_thread.join(node.rt);
                     return Err(Fault::NoMemory);
                 };
                 let Ok(dialing_thread) = scope.spawn(move || dial_to_the_end(
@@ -131,13 +146,15 @@ impl<O: Observer + Sync> Dialer<'_, O> {
                     rounds_sender,
                 )) else {
                     node.end();
+                    accepting_thread.join(node.rt);
                     pool_thread.join(node.rt);
                     return Err(Fault::NoMemory);
                 };
-                let at_control = node.serve_control_socket(writes, control, observer);
+                let at_control = node.answer_requests(requests, writes, control, observer);
                 let rounds = rounds_receiver.receive(node.rt);
                 let (dialing, pooled) = (dialing_thread.join(node.rt), pool_thread.join(node.rt));
-                threads_end(pooled, dialing, at_control, rounds)
+                let of_accepting = accepting_thread.join(node.rt);
+                threads_end(pooled, dialing, at_control, of_accepting, rounds)
             },
         )
     }
@@ -149,6 +166,7 @@ fn threads_end<S: RoundsTag>(
     pooled: Pooled<S>,
     dialing: ReaderSeat<S>,
     at_control: ControlEnd<S>,
+    of_accepting: u64,
     rounds: Result<Rounds<S>, Fault>,
 ) -> Result<ThreadsEnd<S>, Fault>
     ensures left { at_control.has_left ≡ true → result ≡ Err Fault.StoreFailed }
@@ -172,6 +190,7 @@ fn threads_end<S: RoundsTag>(
     let rounds = rounds?;
     let faults = of_control
         .saturating_add(of_workers)
+        .saturating_add(of_accepting)
         .saturating_add(rounds.faults);
     let thread_seats = ThreadSeats {
         workers,

@@ -1,4 +1,4 @@
-//! Connections with a limit on how long a request or its answer takes.
+//! Connections with a limit on how long a session, a request or its answer takes.
 
 ghost use Rattle.std.specs.Prelude.{◌≡◌, ◌≢◌, ◌⊎◌, ◌+◌, ◌*◌, ◌<◌, ◌≤◌, None, Some, Ok, IfOk, IfSome, IsSome};
 ghost use Rattle.std.specs.Duration.{as_nanos};
@@ -9,7 +9,7 @@ use std::io::{Read, Write};
 use std::os::unix::net::UnixStream;
 use std::time::{Clock, Duration, Instant};
 
-/// The time from one moment to a later one. `TimedOut` where it is not later.
+/// The time from one moment to a later one. `TimedOut` if it is not later.
 fn time_between(now: Instant, until: Instant) -> io::Result<Duration>
     ensures { IfOk result (λ left. (as_nanos left + instant_nanos now ≡ instant_nanos until) × (0 < as_nanos left)) }
 {
@@ -24,7 +24,7 @@ fn time_between(now: Instant, until: Instant) -> io::Result<Duration>
 #[derive(Drop)]
 pub(crate) struct Timed<'a, Q> {
     clock: &'a Q,
-    stream: &'a UnixStream,
+    stream: UnixStream,
     /// How long no byte may move, in milliseconds; 0 for no limit.
     idle: u64,
     /// How long all of it may take, in milliseconds; 0 for no limit.
@@ -34,7 +34,7 @@ pub(crate) struct Timed<'a, Q> {
 
 impl<'a, Q: Clock> Timed<'a, Q> {
     /// This way of the connection, which may be idle for so many milliseconds, and may take so many in all; 0 for no limit.
-    pub(crate) fn new(clock: &'a Q, stream: &'a UnixStream, idle: u64, whole: u64) -> Timed<'a, Q> {
+    pub(crate) fn new(clock: &'a Q, stream: UnixStream, idle: u64, whole: u64) -> Timed<'a, Q> {
         Timed {
             clock,
             stream,
@@ -58,8 +58,8 @@ impl<'a, Q: Clock> Timed<'a, Q> {
         }
     }
 
-    /// How long the next read or write may wait; none where the limit that the connection has is the only one. `TimedOut`
-    /// where the time is over.
+    /// How long the next read or write may wait; none if the limit that the connection has is the only one. `TimedOut`
+    /// if the time is over.
     fn left(&mut self) -> io::Result<Option<Duration>>
         ensures unlimited { self.old.whole ≡ 0 → (result ≡ Ok None) }
         ensures limited { self.old.until ≢ None → IfOk result (λ left. left ≡ None → self.old.whole ≡ 0) }
@@ -90,7 +90,7 @@ impl<Q: Clock> Read for Timed<'_, Q> {
         if let Some(left) = self.left()? {
             self.stream.set_read_timeout(Some(left))?;
         }
-        let mut stream = self.stream;
+        let mut stream = &self.stream;
         stream.read(buffer)
     }
 }
@@ -100,7 +100,7 @@ impl<Q: Clock> Write for Timed<'_, Q> {
         if let Some(left) = self.left()? {
             self.stream.set_write_timeout(Some(left))?;
         }
-        let mut stream = self.stream;
+        let mut stream = &self.stream;
         stream.write(bytes)
     }
 

@@ -23,6 +23,8 @@ mod pooling;
 #[cfg(test)]
 mod running;
 #[cfg(test)]
+mod silence;
+#[cfg(test)]
 mod starting;
 #[cfg(test)]
 mod telling;

@@ -5,7 +5,7 @@ use crate::making::new_node;
 use crate::{got, same};
 use sb_directory::{Directory, DirectoryTag, ReaderSeat};
 use sb_node::NodeCore;
-use sb_run::{Gate, GatePoint, Pooled, Serving, Source};
+use sb_run::{Gate, GatePoint, Pooled, Serving, Source, Taken};
 use sb_types::Fault;
 use sb_views::NewHistory;
 use std::alloc::Global;
@@ -46,15 +46,17 @@ impl Source for Peers {
 
     ghost over = { λ peers. Unit {0} };
 
-    fn next(&self) -> Option<Result<(u64, &'static [u8], Vec<u8>), Fault>> {
+    ghost asks = { λ peers. ⊥ };
+
+    fn next(&self) -> Option<Result<Taken<&'static [u8], Vec<u8>>, Fault>> {
         let writer = Vec::new(self.alloc);
         let asked = self.asked.fetch_add(1, Ordering::SeqCst);
         if asked < self.lost {
             return Some(Err(Fault::ReadFailed));
         }
         match asked - self.lost {
-            0 => Some(Ok((1, TELLING, writer))),
-            1 => Some(Ok((2, ASKING, writer))),
+            0 => Some(Ok(Taken::Session(1, TELLING, writer))),
+            1 => Some(Ok(Taken::Session(2, ASKING, writer))),
             _ => None,
         }
     }

@@ -6,6 +6,7 @@ use crate::{got, holds, same};
 use sb_log::PlainLog;
 use sb_run::{Nobody, NodeConfig, Observer, OnLogFault, Pace, Paths, Ran, Runtime, run_node};
 use sb_session::Ended;
+use sb_testing::wire::HELLO_B;
 use sb_types::{Fault, Settings};
 use std::alloc::Global;
 use std::fs::File;
@@ -37,6 +38,7 @@ pub(crate) fn pace(rounds: u64, idle: u64) -> Pace {
         pause: 0,
         fanout: 3,
         idle,
+        session: 0,
         dial_idle: idle,
         request: 0,
         max_reads: 99,
@@ -289,16 +291,20 @@ fn a_node_beside_its_owner_and_its_peers(rt: HostRuntime) {
     same(&rt, &ran, &whole);
 }
 
-/// Whether no more than a Hello comes on connections on which nothing is sent, until the node hangs up.
+/// Whether nothing comes on connections that send nothing, or one byte, until the node hangs up. Whether no more than a Hello
+/// comes on one that sends a Hello.
 fn hears_no_more<R: Net + Abort>(rt: &R, paths: &Paths) -> bool {
     let control = reach(rt, paths.control);
-    let sock = reach(rt, paths.sock);
-    let silence = hears_only(rt, &control, 0);
-    let hello = hears_only(rt, &sock, HELLO);
-    silence && hello
+    let silent = reach(rt, paths.sock);
+    let mut part = reach(rt, paths.sock);
+    got(rt, part.write_all(&HELLO_B[..1]));
+    let mut slow = reach(rt, paths.sock);
+    got(rt, slow.write_all(HELLO_B));
+    let silence = hears_only(rt, &control, 0) && hears_only(rt, &silent, 0);
+    silence && hears_only(rt, &part, 0) && hears_only(rt, &slow, HELLO)
 }
 
-/// Whether no more than a Hello came on the silent connections, and whether the write was done. Then how b's session
+/// Whether no more than that came on the silent connections, and whether the write was done. Then how b's session
 /// ended, and how far b holds a.
 type Heard = (bool, bool, Ended, u64);
 
@@ -331,7 +337,7 @@ fn a_connection_that_says_nothing_ends(rt: HostRuntime) {
     );
     got(&rt, fs::remove_file(&rt, "idle.peer"));
     same(&rt, &heard, &(true, true, Ended::Bye(1), 1));
-    let whole = ran_of(2, 3, 2);
+    let whole = ran_of(2, 5, 2);
     same(&rt, &ran, &whole);
 }
 

@@ -12,7 +12,7 @@ use sb_node::NodeCore;
 use sb_run::Paths;
 use sb_table::Table;
 use sb_testing::delta_of_write;
-use sb_testing::wire::{HELLO_A, HELLO_AND_BYE_B};
+use sb_testing::wire::{HELLO_A, HELLO_AND_BYE_B, HELLO_B};
 use sb_types::{Delta, Entry, Name};
 use std::alloc::Global;
 use std::io::{Read, Write};
@@ -77,16 +77,24 @@ fn be_greeted(rt: &impl Abort, stream: &UnixStream) {
     same(rt, &heard.as_slice(), &HELLO_A);
 }
 
-/// Sends Hello and Bye. Returns whether nothing more comes then.
+/// A connection on which a Hello was sent.
+fn begin<R: Net + Abort>(rt: &R, sock: &str) -> UnixStream {
+    let mut stream = reach(rt, sock);
+    got(rt, stream.write_all(HELLO_B));
+    stream
+}
+
+/// Sends Bye. Returns whether nothing more comes then.
 fn leave(rt: &impl Abort, stream: &UnixStream) -> bool {
     let mut writer = stream;
-    got(rt, writer.write_all(HELLO_AND_BYE_B));
+    got(rt, writer.write_all(&HELLO_AND_BYE_B[12..]));
     hears_only(rt, stream, 0)
 }
 
-/// Three peers connect, and each is greeted before any of them sends a byte. Returns whether each then left in peace.
+/// Three peers connect, and each is greeted before any of them sends more than its Hello. Returns whether each then left in
+/// peace.
 fn crowd<R: Net + Abort>(rt: &R, sock: &str) -> [bool; 3] {
-    let (first, second, third) = (reach(rt, sock), reach(rt, sock), reach(rt, sock));
+    let (first, second, third) = (begin(rt, sock), begin(rt, sock), begin(rt, sock));
     be_greeted(rt, &first);
     be_greeted(rt, &second);
     be_greeted(rt, &third);

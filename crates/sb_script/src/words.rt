@@ -5,7 +5,7 @@ ghost use Rattle.sb_types.specs.declared.entry.Slot as entries;
 ghost use Rattle.sb_script.specs.Commands.{IsSlot};
 ghost use Rattle.sb_script.specs.Faults.{is_word_fault};
 
-use sb_types::{Fault, Key, Name, Slot, Value};
+use sb_types::{Fault, Form, Key, Kind, Name, Slot, Value};
 use sb_world::Event;
 use std::alloc::Global;
 
@@ -16,11 +16,22 @@ fn is_space(byte: &u8) -> bool {
     *byte == b' '
 }
 
-/// Whether a line writes a text: it begins with a command that writes, a node, a key and `text`.
+/// Whether this is the word of a kind whose contents may have spaces.
+fn is_of_texts(kind: &[u8]) -> bool {
+    match Kind::of_word(kind) {
+        Some(kind) => matches!(kind.form(), Form::Text),
+        None => false,
+    }
+}
+
+/// Whether a line writes a text: it begins with a command that writes, a node, a key and the word of a kind of texts.
 fn writes_text(line: &[u8]) -> bool {
     let mut words = line.split(|byte| is_space(byte));
     let is_write = matches!(words.next(), Some(b"put" | b"commit" | b"crash"));
-    is_write && words.nth(2) == Some(b"text".as_slice())
+    match words.nth(2) {
+        Some(kind) => is_write && is_of_texts(kind),
+        None => false,
+    }
 }
 
 /// The words of a line, with one space between two. If there is a space more, or one at an end, an empty word is in
@@ -63,8 +74,10 @@ fn with_end<'a>(
 /// Whether no word is empty, except a text that is written.
 pub(crate) fn are_words(words: &[&[u8]]) -> bool {
     match *words {
-        [b"put" | b"commit" | b"crash", node, key, b"text", _] => are_filled(&[node, key]),
-        [b"crash", node, key, b"text", _, end] => are_filled(&[node, key, end]),
+        [b"put" | b"commit" | b"crash", node, key, kind, _] if is_of_texts(kind) => {
+            are_filled(&[node, key])
+        }
+        [b"crash", node, key, kind, _, end] if is_of_texts(kind) => are_filled(&[node, key, end]),
         _ => are_filled(words),
     }
 }

@@ -60,12 +60,12 @@ fn delta_of_a(rt: &impl Abort, alloc: Global) -> Delta {
     }
 }
 
-/// Pushes over a reader and a writer.
+/// Pushes a delta in a session, over a reader and a writer.
 fn push_on<L: Ledger>(
     alloc: Global,
-    streams: (&mut Pieces<'_>, &mut Room),
-    session: Session,
-    delta: Delta,
+    reader: &mut Pieces<'_>,
+    writer: &mut Room,
+    pushed: (Session, Delta),
     reads: u64,
     blank: Blank,
 ) -> Reported
@@ -73,7 +73,7 @@ fn push_on<L: Ledger>(
     requires parts { blank.parts ≡ L.parts }
     requires some { 0 < blank.parts }
 {
-    let (reader, writer) = streams;
+    let (session, delta) = pushed;
     let mut connection = Connection::new(alloc, reader, writer, reads, Steps::<L>::new(blank));
     let ended = push(&mut connection, session, delta);
     (
@@ -96,9 +96,15 @@ fn outcome(rt: &impl Abort, alloc: Global, terms: Terms<'_>) -> Outcome {
     let session = Session::new(name(rt, b"c1"), name(rt, b"a"));
     let mut reader = Pieces::new(terms.bytes, terms.piece, terms.breaks);
     let mut writer = Room::new(terms.room);
-    let delta = delta_of_a(rt, alloc);
-    let streams = (&mut reader, &mut writer);
-    let reported = push_on::<Brand>(alloc, streams, session, delta, terms.reads, Blank::new(1));
+    let pushed = (session, delta_of_a(rt, alloc));
+    let reported = push_on::<Brand>(
+        alloc,
+        &mut reader,
+        &mut writer,
+        pushed,
+        terms.reads,
+        Blank::new(1),
+    );
     let reported = settled(rt, reported);
     let is_written = writer.has_written(&[HELLO_A, &DELTA_A, BYE]);
     (reported, is_written, reader.bytes.len())
@@ -289,14 +295,14 @@ const WRONG_MARK: &[u8] = b"\xa8\x03\x00\x00\x00\x06\x01\x02c1\x01b";
 fn push_twice<L: Ledger>(
     rt: &impl Abort,
     alloc: Global,
-    streams: (&mut Pieces<'_>, &mut Room),
+    reader: &mut Pieces<'_>,
+    writer: &mut Room,
     blank: Blank,
 ) -> [Result<PushEnd, Fault>; 2]
     requires name { blank.name ≡ L.name }
     requires parts { blank.parts ≡ L.parts }
     requires some { 0 < blank.parts }
 {
-    let (reader, writer) = streams;
     let session = Session::new(name(rt, b"c1"), name(rt, b"a"));
     let mut connection = Connection::new(alloc, reader, writer, 1_000, Steps::<L>::new(blank));
     let first = push(&mut connection, session, delta_of_a(rt, alloc));
@@ -309,8 +315,7 @@ fn a_closed_connection_pushes_nothing(rt: HostRuntime) {
     let alloc = rt.alloc();
     let mut reader = Pieces::new(WRONG_MARK, 4_096, false);
     let mut writer = Room::new(128);
-    let streams = (&mut reader, &mut writer);
-    let found = push_twice::<Brand>(&rt, alloc, streams, Blank::new(1));
+    let found = push_twice::<Brand>(&rt, alloc, &mut reader, &mut writer, Blank::new(1));
     same(&rt, &found, &[Err(Fault::BadMark), Err(Fault::Closed)]);
     same(&rt, &writer.has_written(&[HELLO_A, &DELTA_A, BYE]), &true);
 }

@@ -23,7 +23,7 @@ const FAULTS: &[(Fault, u8, &str)] = &[
     (
         Fault::BadValue,
         4,
-        "a value is addr with 1 to 128 printing bytes, weight with a number below 2^63, flag with true or false, or text with 1 to 512 bytes of UTF-8, whose control bytes and backslashes are a backslash and two digits, as \\0a",
+        "a value is addr with 1 to 128 printing bytes, weight below 2^63, flag true or false, or text of 1 to 512 UTF-8 bytes. In a text, a backslash and two digits, as \\0a, spell a control byte or a backslash",
     ),
     (Fault::BadSetting, 5, "a setting is outside its limits"),
     (

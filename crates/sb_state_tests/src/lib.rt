@@ -15,6 +15,8 @@ mod faults;
 #[cfg(test)]
 mod holdings;
 #[cfg(test)]
+mod kinds;
+#[cfg(test)]
 mod stages;
 #[cfg(test)]
 mod table;

@@ -9,5 +9,6 @@ pub mod Padded
 pub mod Spelling
 pub mod Characters
 pub mod Utf8
+pub mod KindTable
 pub mod TextReading
 pub mod Starts

@@ -2,6 +2,7 @@ pub mod Text
 pub mod Spelling
 pub mod Value
 pub mod Content
+pub mod Kinds
 pub mod Records
 pub mod Runs
 pub mod Writes

@@ -17,7 +17,7 @@ pub enum Fault {
     BadName,
     #[error("a key is 1 to 64 of the bytes a-z, 0-9, '.', '_', '/' and -; a prefix may be empty")]
     BadKey,
-    #[error("a value is addr with 1 to 128 printing bytes, weight with a number below 2^63, flag with true or false, or text with 1 to 512 bytes of UTF-8, whose control bytes and backslashes are a backslash and two digits, as \\0a")]
+    #[error("a value is addr with 1 to 128 printing bytes, weight below 2^63, flag true or false, or text of 1 to 512 UTF-8 bytes. In a text, a backslash and two digits, as \\0a, spell a control byte or a backslash")]
     BadValue,
     #[error("a setting is outside its limits")]
     BadSetting,

@@ -1,6 +1,9 @@
 //! What follows from the definitions alone. The functions do nothing: each clause is a law.
 
-ghost use Rattle.std.specs.Prelude.{◌≡◌, ℕ, ◌∷◌, ◌++◌, List, true};
+ghost use Rattle.std.specs.Prelude.{◌≡◌, ◌==◌, ℕ, ◌∷◌, ◌++◌, List, true, false, Some, Ok};
+ghost use Rattle.sb_types.specs.declared.kind.Kind as declared_kind;
+ghost use Rattle.sb_types.specs.Kinds as table;
+ghost use Rattle.sb_types.specs.Lengths.{value_length};
 ghost use Rattle.sb_types.specs.Spelling.{printed_text, is_one_line};
 ghost use Rattle.sb_types.specs.Value as values;
 
@@ -82,4 +85,18 @@ pub fn words_tell_values_apart()
 pub fn spellings_tell_texts_apart()
     ensures apart { (a b : List ℕ) → printed_text a ≡ printed_text b → a ≡ b }
     ensures line { (text : List ℕ) → is_one_line (printed_text text) ≡ true }
+{}
+
+/// A value is its kind and its content: both together make it again, and its words and its length come of them. Each
+/// kind has a tag of its own, which is not that of a tombstone.
+pub fn kind_and_content_make_a_value()
+    ensures tag { (kind : declared_kind.Kind) → table.kind_of_tag (table.tag_of kind) ≡ Some kind }
+    ensures tagged { (tag : ℕ) (kind : declared_kind.Kind) → table.kind_of_tag tag ≡ Some kind → table.tag_of kind ≡ tag }
+    ensures not_removed { (kind : declared_kind.Kind) → (table.tag_of kind == TAG_REMOVED) ≡ false }
+    ensures form { (value : values.Value) → table.form_in (table.content_of value) ≡ table.form_of (table.kind_of value) }
+    ensures words { (value : values.Value) → values.words_of value ≡ (table.word_of (table.kind_of value), table.content_word (table.content_of value)) }
+    ensures length { (value : values.Value) → value_length value ≡ table.content_length (table.content_of value) }
+    ensures again { (value : values.Value) → values.is_value value ≡ true → table.value_of (table.kind_of value) (table.content_of value) ≡ Ok value }
+    ensures parts { (kind : declared_kind.Kind) (content : table.Content) (value : values.Value) → table.value_of kind content ≡ Ok value →
+        (table.kind_of value ≡ kind) × (table.content_of value ≡ content) × (values.is_value value ≡ true) }
 {}

@@ -33,6 +33,7 @@ mod escapes;
 mod fault;
 mod format;
 mod inline;
+mod kind;
 mod laws;
 mod limits;
 mod settings;
@@ -51,9 +52,10 @@ pub use format::{
     KIND_HELLO, KIND_PUT, KIND_REFUSED, KIND_ROWS, NAME_LENGTH_MOST, NUMBER_LENGTH, REASON_MOST,
     REASON_ROUNDS_DONE, TAG_ADDR, TAG_FLAG, TAG_REMOVED, TAG_TEXT, TAG_WEIGHT, VALUE_LENGTH_MOST,
 };
+pub use kind::{ContentRef, Form, Kind};
 pub use laws::{
-    lengths_are_these_numbers, limits_are_these_numbers, marks_are_these_numbers,
-    spellings_tell_texts_apart, words_tell_values_apart,
+    kind_and_content_make_a_value, lengths_are_these_numbers, limits_are_these_numbers,
+    marks_are_these_numbers, spellings_tell_texts_apart, words_tell_values_apart,
 };
 pub use limits::{
     ADDR_MOST, BUDGET_LEAST, BUDGET_MOST, ENTRIES_MOST, FAULT_NUMBER_MOST, KEY_MOST, KEYS_MOST,

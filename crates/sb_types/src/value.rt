@@ -8,11 +8,13 @@ ghost use Rattle.sb_types.specs.Text.{is_addr, is_addr_byte, is_text};
 ghost use Rattle.sb_types.specs.Spelling.{printed_text};
 ghost use Rattle.sb_types.specs.Value as values;
 ghost use Rattle.sb_types.specs.Lengths.{value_length};
+ghost use Rattle.sb_types.specs.Kinds as table;
 ghost use Rattle.sb_types.specs.Faults.{Gives};
 
 use crate::escapes::unescape;
 use crate::fault::Fault;
 use crate::format::{BYTE_LENGTH, COUNT_LENGTH, NUMBER_LENGTH, VALUE_LENGTH_MOST};
+use crate::kind::{ContentRef, Kind};
 use crate::limits::{ADDR_MOST, TEXT_MOST, WEIGHT_MOST};
 use crate::spelled::Spelled;
 use std::alloc::Global;
@@ -164,6 +166,75 @@ impl Value {
             b"flag" => read_flag(word),
             b"text" => read_text(alloc, word),
             _ => Err(Fault::BadValue),
+        }
+    }
+
+    /// Makes a value of this kind with this content. Returns `BadValue` if the content has another form than the kind, or
+    /// breaks its limits, without asking for memory. Otherwise it may return `NoMemory`, for a word or a text only.
+    #[tactic(auto, using(crate::proofs::KindTable::gives_same))]
+    pub fn from_content(alloc: Global, kind: Kind, content: ContentRef<'_>) -> Result<Value, Fault>
+        ensures exact { Gives result (table.value_of kind (table.shown content.entry)) }
+        // What is not a value is refused without memory.
+        ensures refused { table.value_of kind (table.shown content.entry) ≡ Err Fault.BadValue → result ≡ Err Fault.BadValue }
+        ensures memory { IfErr result (λ fault. fault ≡ Fault.NoMemory → table.takes_memory (table.shown content.entry) ≡ true) }
+    {
+        match (kind, content) {
+            (Kind::Addr, ContentRef::Word(text)) => Value::addr(alloc, text),
+            (Kind::Weight, ContentRef::Number(weight)) => Value::weight(weight),
+            (Kind::Flag, ContentRef::Truth(flag)) => Ok(Value::flag(flag)),
+            (Kind::Text, ContentRef::Text(text)) => Value::text(alloc, text),
+            (_, _) => Err(Fault::BadValue),
+        }
+    }
+
+    /// Returns the kind of the value.
+    pub fn kind(&self) -> Kind
+        ensures kind { result ≡ table.kind_of self.now }
+    {
+        match &self.content {
+            Content::Addr(_) => Kind::Addr,
+            Content::Weight(_) => Kind::Weight,
+            Content::Flag(_) => Kind::Flag,
+            Content::Text(_) => Kind::Text,
+        }
+    }
+
+    /// Returns what the value holds, whatever its kind.
+    #[tactic(auto, using(crate::proofs::KindTable::content_fits, crate::proofs::Utf8::addr_utf8, crate::proofs::Utf8::text_utf8))]
+    pub fn content(&self) -> ContentRef<'_>
+        ensures content { table.shown result ≡ table.content_of self.now }
+        ensures fits { table.Fits (table.shown result) }
+        ensures value { values.is_value self.now ≡ true }
+    {
+        match &self.content {
+            Content::Addr(text) => ContentRef::Word(text),
+            Content::Weight(weight) => ContentRef::Number(*weight),
+            Content::Flag(flag) => ContentRef::Truth(*flag),
+            Content::Text(text) => ContentRef::Text(text),
+        }
+    }
+
+    /// Returns whether both values have one kind and one content.
+    pub fn is_same(&self, other: &Value) -> bool
+        ensures same { result ≡ table.is_same_value self.now other.now }
+    {
+        match self.view() {
+            ValueRef::Addr(text) => match other.as_addr() {
+                Some(it) => it == text,
+                None => false,
+            },
+            ValueRef::Weight(weight) => match other.as_weight() {
+                Some(it) => it == weight,
+                None => false,
+            },
+            ValueRef::Flag(flag) => match other.as_flag() {
+                Some(it) => it == flag,
+                None => false,
+            },
+            ValueRef::Text(text) => match other.as_text() {
+                Some(it) => it == text,
+                None => false,
+            },
         }
     }
 

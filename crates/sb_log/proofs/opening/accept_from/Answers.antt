@@ -2,6 +2,7 @@ use Rattle.std.proofs.Common.{inl, inr, List, sym, subst}
 use Rattle.sqlite_value.specs.Order.{Row}
 use Rattle.sqlite.specs.Held.{state}
 use Rattle.sqlite.specs.State.{HasCleanDisk}
+use Rattle.sb_log.specs.Form.{newest_form}
 use Rattle.sb_log.specs.Opening.{IsNamedIn}
 use Rattle.sb_log.specs.Rows.{AreRowsOf}
 use Rattle.sb_log.proofs.Founding.{was_clean, raised_in, cleared_in}
@@ -55,4 +56,4 @@ returns-then-has_dead-clause-meta g c clean ready is last owner cluster named =
     let raised = c.in_ok-raise_from.ensures in
     let second = raised.meta clean1 ready is last c.args.floor owner cluster named in
     so_on_ok c.drop_removals.result (c.drop_removals.ensures.commits.changes clean (raised.ready clean1 ready last c.args.floor owner cluster named))
-    (λ did. subst (IsNamedIn 2 owner cluster last c.args.floor) (sym did.1) second)
+    (λ did. subst (IsNamedIn newest_form owner cluster last c.args.floor) (sym did.1) second)

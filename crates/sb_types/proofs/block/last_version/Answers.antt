@@ -1,4 +1,4 @@
-use Rattle.std.proofs.Common.{◌-◌, sym, ap, ◌∙◌}
+use Rattle.std.proofs.Common.{sym, ap, ◌∙◌}
 use Rattle.sb_types.specs.Records.{Entry}
 use Rattle.sb_types.proofs.RunLemmas.{last_version-get_or}
 use Rattle.sb_types.proofs.block.last_version.Goals as goal

@@ -1,0 +1,258 @@
+//! What the thread that accepts hands to the other threads.
+ghost use Rattle.std.specs.Prelude.{◌≡◌, IfOk, IfErr};
+ghost use Rattle.sb_run.specs.Sources.{IsNumbered};
+
+use crate::ending::EndFlag;
+use crate::node::Pace;
+use crate::pool::{Source, Taken};
+use crate::sockets::{blocking_stream, limit};
+use crate::timed::Timed;
+use crossbeam_channel::{Receiver, Sender, bounded};
+use mio::net;
+use sb_codec::{Ask, Message};
+use sb_types::Fault;
+use std::alloc::Global;
+use std::io::{Chain, Cursor, Read};
+use std::os::unix::net::UnixStream;
+use std::sync::Wait;
+use std::sync::atomic::{AtomicU64, Ordering};
+use std::time::Clock;
+
+/// How many things may wait for a worker, and how many for the calling thread.
+const HANDED_MOST: usize = 1_024;
+
+/// What a worker is to do next.
+#[derive(Drop)]
+pub(crate) enum Job {
+    /// To serve the session of a peer, of which this has come.
+    Session(Vec<u8>, UnixStream),
+    /// To answer a caller's question.
+    Question(Ask, UnixStream),
+}
+
+/// What a caller asked, and the connection that gets the answer.
+#[derive(Drop)]
+pub(crate) struct Request {
+    pub(crate) message: Message,
+    pub(crate) stream: UnixStream,
+}
+
+/// How often workers asked for something to do.
+#[derive(Drop)]
+pub(crate) struct Asked {
+    count: AtomicU64,
+}
+
+impl Asked {
+    /// No worker has asked yet.
+    pub(crate) fn new() -> Asked {
+        Asked {
+            count: AtomicU64::new(0),
+        }
+    }
+}
+
+/// The end of the thread that accepts.
+#[derive(Drop)]
+pub(crate) struct Handover {
+    to_workers: Sender<Job>,
+    to_owner: Sender<Request>,
+    /// How many jobs were handed to the workers.
+    handed: u64,
+}
+
+/// The end of the workers.
+#[derive(Drop)]
+pub(crate) struct Jobs {
+    from: Receiver<Job>,
+}
+
+/// The end of the calling thread.
+#[derive(Drop)]
+pub(crate) struct Requests {
+    from: Receiver<Request>,
+}
+
+/// The ways from the thread that accepts to the workers and to the calling thread. `NoMemory`.
+pub(crate) fn new_handover(alloc: Global) -> Result<(Handover, Jobs, Requests), Fault>
+    ensures { IfErr result (λ fault. fault ≡ Fault.NoMemory) }
+{
+    let (to_workers, from_workers) = bounded::<Job, Global>(alloc, HANDED_MOST)?;
+    let (to_owner, from_owner) = bounded::<Request, Global>(alloc, HANDED_MOST)?;
+    let handover = Handover {
+        to_workers,
+        to_owner,
+        handed: 0,
+    };
+    Ok((
+        handover,
+        Jobs { from: from_workers },
+        Requests { from: from_owner },
+    ))
+}
+
+impl Handover {
+    /// Hands a job to the workers, and says whether there was room.
+    fn give<R: Wait>(&mut self, rt: &R, job: Job) -> bool {
+        let is_given = self.to_workers.try_send(rt, job).is_ok();
+        if is_given {
+            self.handed = self.handed.saturating_add(1);
+        }
+        is_given
+    }
+
+    /// Hands a request to the calling thread, and says whether there was room.
+    fn give_owner<R: Wait>(&self, rt: &R, message: Message, stream: UnixStream) -> bool {
+        self.to_owner
+            .try_send(rt, Request { message, stream })
+            .is_ok()
+    }
+
+    /// Hands the session of a peer to the workers, with what has come of it. `ReadFailed` if too many wait for one, or if the connection can't be used.
+    pub(crate) fn give_session<R: Wait>(
+        &mut self,
+        rt: &R,
+        came: Vec<u8>,
+        stream: net::UnixStream,
+    ) -> Result<(), Fault> {
+        let Ok(stream) = blocking_stream(stream) else {
+            return Err(Fault::ReadFailed);
+        };
+        if self.give(rt, Job::Session(came, stream)) {
+            Ok(())
+        } else {
+            Err(Fault::ReadFailed)
+        }
+    }
+
+    /// Hands a question to a worker if one is free. If none is, or if it is another request, the calling thread gets it.
+    /// `ReadFailed` if too many wait for that, or if the connection can't be used.
+    pub(crate) fn give_request<R: Wait>(
+        &mut self,
+        rt: &R,
+        asked: &Asked,
+        message: Message,
+        stream: net::UnixStream,
+    ) -> Result<(), Fault> {
+        let Ok(stream) = blocking_stream(stream) else {
+            return Err(Fault::ReadFailed);
+        };
+        // Each worker asks before it waits, and each job ends the wait of one. So one is free where more was asked than handed.
+        let is_worker_free = asked.count.load(Ordering::SeqCst) > self.handed;
+        let is_given = match message {
+            Message::Ask(ask) => {
+                if is_worker_free {
+                    self.give(rt, Job::Question(ask, stream))
+                } else {
+                    self.give_owner(rt, Message::Ask(ask), stream)
+                }
+            }
+            message => self.give_owner(rt, message, stream),
+        };
+        if is_given {
+            Ok(())
+        } else {
+            Err(Fault::ReadFailed)
+        }
+    }
+}
+
+impl Requests {
+    /// The next request; none once the node is to end.
+    pub(crate) fn next<R: Wait>(&self, rt: &R, ending: &EndFlag) -> Option<Request> {
+        let received = self.from.recv(rt);
+        if ending.is_raised() {
+            return None;
+        }
+        received.ok()
+    }
+}
+
+/// What has come of a peer, and then the rest.
+pub(crate) type PeerInput<'a, R> = Chain<Cursor<Vec<u8>>, Timed<'a, R>>;
+
+/// What the workers of a node take their jobs from.
+#[derive(Drop)]
+pub(crate) struct Arrivals<'a, R> {
+    rt: &'a R,
+    jobs: Jobs,
+    ending: &'a EndFlag,
+    asked: &'a Asked,
+    pace: Pace,
+    /// How many sessions were taken.
+    sessions: AtomicU64,
+}
+
+impl<'a, R> Arrivals<'a, R> {
+    /// Gives these jobs until the node is to end, with the limits of its pace.
+    pub(crate) fn new(
+        rt: &'a R,
+        jobs: Jobs,
+        ending: &'a EndFlag,
+        asked: &'a Asked,
+        pace: Pace,
+    ) -> Arrivals<'a, R> {
+        Arrivals {
+            rt,
+            jobs,
+            ending,
+            asked,
+            pace,
+            sessions: AtomicU64::new(0),
+        }
+    }
+}
+
+impl<'a, R: Clock> Arrivals<'a, R> {
+    /// What a worker takes of a job. `ReadFailed` if the limits of the connection can't be set, or there is no descriptor.
+    fn taken_of(&self, job: Job) -> Result<Taken<PeerInput<'a, R>, Timed<'a, R>>, Fault>
+        ensures { IfOk result (λ taken. IsNumbered taken) }
+    {
+        let pace = &self.pace;
+        match job {
+            Job::Session(came, stream) => {
+                let Ok(input) = stream.try_clone() else {
+                    return Err(Fault::ReadFailed);
+                };
+                if limit(&stream, pace.idle).is_err() {
+                    return Err(Fault::ReadFailed);
+                }
+                let rest = Timed::new(self.rt, input, pace.idle, pace.session);
+                let input = Cursor::new(came).chain(rest);
+                let output = Timed::new(self.rt, stream, pace.idle, pace.session);
+                let before = self.sessions.fetch_add(1, Ordering::SeqCst);
+                Ok(Taken::Session(before.saturating_add(1), input, output))
+            }
+            Job::Question(ask, stream) => {
+                if limit(&stream, pace.idle).is_err() {
+                    return Err(Fault::ReadFailed);
+                }
+                let output = Timed::new(self.rt, stream, pace.idle, pace.request);
+                Ok(Taken::Question(ask, output))
+            }
+        }
+    }
+}
+
+impl<'a, R: Wait + Clock + Sync> Source for Arrivals<'a, R> {
+    type In = PeerInput<'a, R>;
+
+    type Out = Timed<'a, R>;
+
+    // A flag that threads share says so, of which contracts see nothing.
+    ghost over = { λ arrivals. Unit {0} };
+
+    ghost asks = { λ arrivals. Unit {0} };
+
+    fn next(&self) -> Option<Result<Taken<PeerInput<'a, R>, Timed<'a, R>>, Fault>> {
+        self.asked.count.fetch_add(1, Ordering::SeqCst);
+        let received = self.jobs.from.recv(self.rt);
+        if self.ending.is_raised() {
+            return None;
+        }
+        match received {
+            Ok(job) => Some(self.taken_of(job)),
+            Err(_) => None,
+        }
+    }
+}

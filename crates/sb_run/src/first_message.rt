@@ -1,0 +1,31 @@
+//! The first bytes of a peer, which come before a worker takes it.
+ghost use Rattle.std.specs.Prelude.{◌≡◌, IfOk, IfErr};
+ghost use Rattle.sb_run.specs.declared.first_message.TheConstants.{FIRST_MOST};
+ghost use Rattle.sb_run.specs.Arriving.{has_begun};
+
+use sb_frames::{Frames, faults_are_of_the_bytes};
+use sb_types::Fault;
+use std::alloc::Global;
+
+/// How many bytes of a peer are read before a worker takes it. Each Hello has fewer.
+pub(crate) const FIRST_MOST: usize = 128;
+
+/// Whether a worker is to take a peer of which this has come: its first message is whole, or it has sent what no Hello begins
+/// with, or more than a Hello has. `NoMemory`.
+pub(crate) fn is_enough(alloc: Global, came: &[u8]) -> Result<bool, Fault>
+    ensures enough { IfOk result (λ is_enough. is_enough ≡ has_begun FIRST_MOST came.now) }
+    ensures memory { IfErr result (λ fault. fault ≡ Fault.NoMemory) }
+{
+    faults_are_of_the_bytes();
+    if came.len() >= FIRST_MOST {
+        return Ok(true);
+    }
+    let mut frames = Frames::new(alloc);
+    frames.feed(came)?;
+    match frames.next() {
+        Ok(Some(_)) => Ok(true),
+        Ok(None) => Ok(false),
+        Err(Fault::NoMemory) => Err(Fault::NoMemory),
+        Err(_) => Ok(true),
+    }
+}
