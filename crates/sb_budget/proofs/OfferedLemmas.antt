@@ -1,10 +1,10 @@
 -- A table as it is offered to a peer.
-use Rattle.std.proofs.Common.{◌≡◌, ℕ, ◌≤◌, ◌<◌, ◌^◌, Bool, true, false, ◌&&◌, ◌||◌, List, [], ◌∷◌, length, nat_lt, refl, sym, ap, ◌∙◌, arith}
+use Rattle.std.proofs.Common.{◌≡◌, ℕ, ◌≤◌, ◌<◌, ◌^◌, Bool, true, false, ◌&&◌, ◌||◌, List, ◌∷◌, length, nat_lt, refl, sym, ap, ◌∙◌, arith}
 use Rattle.std.proofs.lemmas.Bool.{cond-true, cond-false}
 use Rattle.std.proofs.lemmas.List.Elements.{filter_agree}
 use Rattle.sb_types.specs.declared.entry.Write.{Write}
 use Rattle.sb_types.specs.Records.{Entry, Table}
-use Rattle.sb_types.specs.Runs.{above, is_set, live, IsRun, IsTable}
+use Rattle.sb_types.specs.Runs.{above, is_set, live, IsTable}
 use Rattle.sb_types.specs.Writes.{Holds}
 use Rattle.sb_types.proofs.Live.{live-live}
 use Rattle.sb_table.specs.Floors.{IsKeptTable, raised}

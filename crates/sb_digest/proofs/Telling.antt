@@ -1,6 +1,6 @@
 -- What the pairs of what is held tell of an owner.
 use Rattle.std.proofs.Common.{◌≡◌, ℕ, zero, suc, ◌≤◌, ◌<◌, Bool, true, false, ◌&&◌, List, [], ◌∷◌, map, take, length, get_or, Option, Some, None, refl, sym, ap, ◌∙◌, subst, arith, inl, inr, nat_cmp, nat_eq, Ordering, Less, Equal, Greater, is_lt}
-use Rattle.std.specs.Prelude.{filter, cond, unwrap_or, nat_le, if◌then◌else◌}
+use Rattle.std.specs.Prelude.{filter, cond, unwrap_or}
 use lib.Dec.{T}
 use Rattle.std.specs.List.{slice_get, AllByRecursion}
 use Rattle.std.specs.List.Sorted.{IsStrictlySortedBy}
@@ -17,7 +17,7 @@ use Rattle.sb_types.specs.Records.{Holder}
 use Rattle.sb_types.specs.Limits.{text_lt}
 use Rattle.sb_holdings.specs.Held.{Held, nothing, holder_of}
 use Rattle.sb_holdings.specs.Plain.{is_from}
-use Rattle.sb_digest.specs.Digests.{Pair, Digest, is_below, covers, pair_at, held_in, goes_on_at, number_by, number_in, floor_by, floor_in}
+use Rattle.sb_digest.specs.Digests.{Pair, Digest, is_below, covers, pair_at, held_in, number_by, number_in, floor_by, floor_in}
 use Rattle.sb_digest.specs.Lengths.{digest_frame_length}
 use Rattle.sb_digest.specs.Builders.{digest_of_first, IsLongestFront}
 use Rattle.sb_digest.specs.Pairs.{pair_of, pairs_from}

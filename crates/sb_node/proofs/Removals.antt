@@ -1,11 +1,9 @@
 -- The removals of a table, one after another, and the floor up to which it is purged.
-use Rattle.std.proofs.Common.{◌≡◌, ◌≢◌, ℕ, zero, suc, ◌+◌, ◌-◌, ◌/◌, ◌≤◌, Bool, true, false, not, ◌&&◌, ◌||◌, nat_lt, nat_le, ⊎_elim, ltb-true, leb-true, List, [], ◌∷◌, length, inl, inr, Option, Some, None, Ok, refl, sym, ap, subst, ◌∙◌, arith}
+use Rattle.std.proofs.Common.{◌≡◌, ◌≢◌, ℕ, zero, suc, ◌+◌, ◌-◌, ◌/◌, ◌≤◌, true, not, ◌&&◌, ◌||◌, nat_lt, nat_le, ⊎_elim, ltb-true, leb-true, List, [], ◌∷◌, length, inl, inr, Option, Some, None, Ok, refl, ap, ◌∙◌, arith}
 use Rattle.std.proofs.lemmas.Bool.{and_parts, or_cases, cond_both, cond-true, cond-false, le-ltb}
 use Rattle.std.specs.List.{slice_get}
 use Rattle.std.specs.Option.{option_map}
-use Rattle.sb_types.specs.declared.fault.Fault.{Fault}
-use Rattle.sb_types.specs.declared.fault.Fault.TheVariants.{FloorTooHigh}
-use Rattle.sb_types.specs.declared.entry.Slot.TheVariants.{Set, Removed}
+use Rattle.sb_types.specs.declared.entry.Slot.TheVariants.{Removed}
 use Rattle.sb_types.specs.declared.limits.TheConstants.{KEYS_MOST}
 use Rattle.sb_types.specs.Records.{Entry, Table}
 use Rattle.sb_types.specs.Runs.{Stands, is_set, IsRun}

@@ -1,5 +1,5 @@
 -- A purge of the own table: the tables grow, and what views show stays.
-use Rattle.std.proofs.Common.{◌≡◌, ℕ, ◌<◌, ◌≤◌, Bool, true, false, cond, not, ◌&&◌, ◌||◌, nat_lt, nat_le, nat_eq, List, [], ◌∷◌, ◌⊎◌, inl, inr, Option, Some, None, unwrap_or, refl, sym, ap, subst, ◌∙◌, arith, ltb-true}
+use Rattle.std.proofs.Common.{◌≡◌, ℕ, ◌<◌, Bool, true, false, cond, not, ◌&&◌, ◌||◌, nat_lt, nat_le, nat_eq, List, [], ◌∷◌, ◌⊎◌, inl, inr, Option, Some, None, unwrap_or, refl, sym, ap, subst, ◌∙◌, arith, ltb-true}
 use Rattle.std.proofs.lemmas.Bool.{and_parts, cases_Bool, cond_both, cond-true, cond-false, or_parts, not-true, true≢false}
 use Rattle.std.proofs.lemmas.Cmp.{nat_list_cmp_total}
 use Rattle.std.specs.Cmp.Lexicographic.{pointwise}
@@ -36,28 +36,26 @@ none-live floor key (e ∷ es) none =
     (λ _. cond-false (pointwise nat_eq e.key key) (Some e) (entry_at key (live floor es)) parts.0 ∙ none-live floor key es parts.1)
     (λ _. none-live floor key es parts.1)
 
+-- the first entry is that of the key, or is not
+row-first : (floor : ℕ) (key : List ℕ) (e : Entry) (es : List Entry) → not (has_key e.key es) ≡ true → shown_at key (live floor es) ≡ shown_at key es
+    → ((pointwise nat_eq e.key key ≡ true) ⊎ (pointwise nat_eq e.key key ≡ false)) → shown_at key (live floor (e ∷ es)) ≡ shown_at key (e ∷ es)
+row-first floor key e es once rest (inl same) =
+    let here : (xs : List Entry) → shown_at key (e ∷ xs) ≡ shown_slot e.version e.slot = λ xs. ap shown_by_entry (cond-true (pointwise nat_eq e.key key) (Some e) (entry_at key xs) same) in
+    let alone : has_key key es ≡ false = ap (λ (k : List ℕ). has_key k es) (sym (same_text e.key key same)) ∙ not-true (has_key e.key es) once in
+    cond_both (is_set e.slot || nat_lt floor e.version) (e ∷ live floor es) (live floor es) (λ (xs : List Entry). shown_at key xs ≡ shown_at key (e ∷ es))
+    (λ _. here (live floor es) ∙ sym (here es))
+    (λ dead. ap shown_by_entry (none-live floor key es alone) ∙ sym (here es ∙ removed-shown e.version e.slot (or_parts (is_set e.slot) (nat_lt floor e.version) dead).0))
+row-first floor key e es once rest (inr other) =
+    let later : (xs : List Entry) → shown_at key (e ∷ xs) ≡ shown_at key xs = λ xs. ap shown_by_entry (cond-false (pointwise nat_eq e.key key) (Some e) (entry_at key xs) other) in
+    cond_both (is_set e.slot || nat_lt floor e.version) (e ∷ live floor es) (live floor es) (λ (xs : List Entry). shown_at key xs ≡ shown_at key (e ∷ es))
+    (λ _. later (live floor es) ∙ rest ∙ sym (later es))
+    (λ _. rest ∙ sym (later es))
+
 pub row-live : (floor : ℕ) (key : List ℕ) (es : List Entry) → are_distinct es ≡ true → shown_at key (live floor es) ≡ shown_at key es
 row-live floor key [] distinct = refl
-row-live floor key (e ∷ es) distinct = go (cases_Bool (pointwise nat_eq e.key key))
-  where
-    parts : (not (has_key e.key es) ≡ true) × (are_distinct es ≡ true)
-    parts = and_parts (not (has_key e.key es)) (are_distinct es) distinct
-
-    rest : shown_at key (live floor es) ≡ shown_at key es
-    rest = row-live floor key es parts.1
-
-    go : ((pointwise nat_eq e.key key ≡ true) ⊎ (pointwise nat_eq e.key key ≡ false)) → shown_at key (live floor (e ∷ es)) ≡ shown_at key (e ∷ es)
-    go (inl same) =
-        let here : (xs : List Entry) → shown_at key (e ∷ xs) ≡ shown_slot e.version e.slot = λ xs. ap shown_by_entry (cond-true (pointwise nat_eq e.key key) (Some e) (entry_at key xs) same) in
-        let alone : has_key key es ≡ false = ap (λ (k : List ℕ). has_key k es) (sym (same_text e.key key same)) ∙ not-true (has_key e.key es) parts.0 in
-        cond_both (is_set e.slot || nat_lt floor e.version) (e ∷ live floor es) (live floor es) (λ (xs : List Entry). shown_at key xs ≡ shown_at key (e ∷ es))
-        (λ _. here (live floor es) ∙ sym (here es))
-        (λ dead. ap shown_by_entry (none-live floor key es alone) ∙ sym (here es ∙ removed-shown e.version e.slot (or_parts (is_set e.slot) (nat_lt floor e.version) dead).0))
-    go (inr other) =
-        let later : (xs : List Entry) → shown_at key (e ∷ xs) ≡ shown_at key xs = λ xs. ap shown_by_entry (cond-false (pointwise nat_eq e.key key) (Some e) (entry_at key xs) other) in
-        cond_both (is_set e.slot || nat_lt floor e.version) (e ∷ live floor es) (live floor es) (λ (xs : List Entry). shown_at key xs ≡ shown_at key (e ∷ es))
-        (λ _. later (live floor es) ∙ rest ∙ sym (later es))
-        (λ _. rest ∙ sym (later es))
+row-live floor key (e ∷ es) distinct =
+    let parts = and_parts (not (has_key e.key es)) (are_distinct es) distinct in
+    row-first floor key e es parts.0 (row-live floor key es parts.1) (cases_Bool (pointwise nat_eq e.key key))
 
 -- ---- the own table
 
