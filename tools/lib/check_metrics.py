@@ -14,6 +14,7 @@ METRICS = {
     "attrdir_rounds_total": ("counter", ()),
     "attrdir_round_faults_total": ("counter", ()),
     "attrdir_sessions_total": ("counter", ()),
+    "attrdir_purges_total": ("counter", ()),
     "attrdir_log_open": ("gauge", ()),
     "attrdir_log_fault": ("gauge", ("cause",)),
     "attrdir_name_conflict": ("gauge", ()),

@@ -43,6 +43,12 @@ const SESSIONS: Metric = Metric {
     help: "Connections of peers that it took.",
 };
 
+const PURGES: Metric = Metric {
+    name: "attrdir_purges_total",
+    kind: "counter",
+    help: "Times that it purged its own table while it runs.",
+};
+
 const LOG_OPEN: Metric = Metric {
     name: "attrdir_log_open",
     kind: "gauge",
@@ -229,6 +235,7 @@ impl Metrics<'_, '_> {
         self.write_one(f, &ROUNDS, status.rounds)?;
         self.write_one(f, &FAULTS, status.faults)?;
         self.write_one(f, &SESSIONS, status.sessions)?;
+        self.write_one(f, &PURGES, status.purges)?;
         self.write_one(f, &LOG_OPEN, u64::from(status.log_cause.is_none()))?;
         self.write_log_fault(f)?;
         self.write_one(f, &NAME_CONFLICT, u64::from(status.conflict.is_some()))

@@ -7,6 +7,7 @@ use std::sync::atomic::{AtomicU64, Ordering};
 #[derive(Drop)]
 pub(crate) struct Counts {
     sessions: AtomicU64,
+    purges: AtomicU64,
     /// The number of the cause by which the store of the log failed, 0 if it did not.
     log_cause: AtomicU64,
 }
@@ -16,6 +17,7 @@ impl Counts {
     pub(crate) fn new() -> Counts {
         Counts {
             sessions: AtomicU64::new(0),
+            purges: AtomicU64::new(0),
             log_cause: AtomicU64::new(0),
         }
     }
@@ -28,6 +30,16 @@ impl Counts {
     /// How many connections of peers there were.
     pub(crate) fn sessions(&self) -> u64 {
         self.sessions.load(Ordering::SeqCst)
+    }
+
+    /// The own table was purged, and the log with it.
+    pub(crate) fn add_purge(&self) {
+        self.purges.fetch_add(1, Ordering::SeqCst);
+    }
+
+    /// How many times that was.
+    pub(crate) fn purges(&self) -> u64 {
+        self.purges.load(Ordering::SeqCst)
     }
 
     /// The store of the log failed, by this cause, and the log is closed.

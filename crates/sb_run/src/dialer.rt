@@ -162,6 +162,7 @@ impl<'a, O: Observer> Dialer<'a, O> {
                     rounds: self.rounds,
                     faults: self.faults,
                     sessions: node.counts.sessions(),
+                    purges: node.counts.purges(),
                     keys,
                     log_cause: node.counts.log_cause(),
                     conflict,

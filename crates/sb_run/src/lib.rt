@@ -102,6 +102,7 @@ mod one_message;
 mod own_writes;
 mod peers;
 mod pool;
+mod purging;
 mod rounds;
 mod runtime;
 mod seats;

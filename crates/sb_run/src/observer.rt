@@ -59,6 +59,9 @@ pub trait Observer {
     /// not. It is called once.
     fn log_failed(&self, _cause: StoreCause) {}
 
+    /// The node's own table and its log were purged up to this version while the node runs.
+    fn table_purged(&self, _floor: u64) {}
+
     /// Whether it wants to know how the node is.
     fn wants_status(&self) -> bool {
         false

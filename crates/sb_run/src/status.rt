@@ -13,6 +13,8 @@ pub struct Status<'a> {
     pub faults: u64,
     /// How many connections of peers it took.
     pub sessions: u64,
+    /// How many times it purged its own table.
+    pub purges: u64,
     /// How many keys its own table has, removed ones counted.
     pub keys: usize,
     /// Why its log takes no writes; none if it takes them.

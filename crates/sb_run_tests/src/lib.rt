@@ -21,6 +21,8 @@ mod peers;
 #[cfg(test)]
 mod pooling;
 #[cfg(test)]
+mod purging;
+#[cfg(test)]
 mod running;
 #[cfg(test)]
 mod silence;
