@@ -5,7 +5,7 @@ ghost use Rattle.sb_directory.specs.Serving.{IsLater};
 ghost use Rattle.sb_run.specs.OwnWriting.{news_after};
 ghost use Rattle.sb_run.specs.OwnPurging.{IsPurge, IsLogPurged, IsUnpurged};
 
-use super::OwnWrites;
+use crate::own_writes::OwnWrites;
 use sb_directory::{Directory, DirectoryTag, ReaderSeat};
 use sb_log::WriteLog;
 use sb_types::Fault;
