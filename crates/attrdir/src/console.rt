@@ -306,6 +306,14 @@ impl Observer for Console<'_, '_> {
         self.watch.loss(self.rt)
     }
 
+    fn table_purged(&self, floor: u64) {
+        let (rt, head) = (self.rt, self.head(Level::Info));
+        let _ = eprintln!(rt;
+            "{head} log {}: the older half of the removals, up to version {floor}, is purged",
+            self.log
+        );
+    }
+
     fn wants_status(&self) -> bool {
         true
     }

@@ -128,6 +128,12 @@ const BUSY_TIMES: Metric = Metric {
     help: "Times that all workers were busy for longer than a second.",
 };
 
+const PURGES: Metric = Metric {
+    name: "attrdir_purges_total",
+    kind: "counter",
+    help: "Times that it purged its own table while it runs.",
+};
+
 const LOG_OPEN: Metric = Metric {
     name: "attrdir_log_open",
     kind: "gauge",
@@ -385,6 +391,7 @@ impl Metrics<'_, '_> {
         self.write_one(f, &WORKERS, status.workers)?;
         self.write_one(f, &WORKERS_BUSY, status.busy_workers)?;
         self.write_one(f, &BUSY_TIMES, troubles.busy_times)?;
+        self.write_one(f, &PURGES, status.purges)?;
         self.write_one(f, &LOG_OPEN, u64::from(status.log_cause.is_none()))?;
         self.write_log_fault(f)?;
         self.write_one(f, &NAME_CONFLICT, u64::from(status.conflict.is_some()))?;

@@ -1,10 +1,12 @@
 //! The calling thread of a running node: it answers what callers asked at the control socket, and makes the own writes.
 ghost use Rattle.std.specs.Prelude.{◌≡◌, true, false};
 ghost use Rattle.sb_codec.specs.declared.message.Message.{Message};
+ghost use Rattle.sb_directory.specs.Serving.{IsLater};
 ghost use Rattle.sb_frames.specs.Frames.{frame};
 ghost use Rattle.sb_frames.specs.Sending.{Sends};
-ghost use Rattle.sb_run.specs.Control.{AnswersAll, AnswersTo};
 ghost use Rattle.sb_run.specs.Closing.{seen_by};
+ghost use Rattle.sb_run.specs.Control.{AnswersAll, AnswersTo};
+ghost use Rattle.sb_run.specs.OwnPurging.{MayPurge};
 ghost use Rattle.sb_run.specs.Running.{IsOpenedFrom};
 
 use crate::arrivals::{Request, Requests};
@@ -15,6 +17,7 @@ use crate::log_cause::LogCause;
 use crate::node::OnLogFault;
 use crate::observer::Observer;
 use crate::own_writes::OwnWrites;
+use crate::purging::PurgeTurns;
 use crate::rounds::RoundsTag;
 use crate::sockets::limit;
 use crate::timed::Timed;
@@ -136,6 +139,32 @@ impl<S: RoundsTag, H: Wait + Drop, Q> NodeContext<'_, S, H, Q> {
     }
 }
 
+impl<S: RoundsTag, H: Wait + Drop, Q: Wait> NodeContext<'_, S, H, Q> {
+    /// Reports what the last request did to the log, then purges if that is due, and reports what that did. Whether the node is to
+    /// end with either, or because the log was closed since; then its other threads end too.
+    fn ends_after<L: WriteLog, O: Observer>(
+        &self,
+        turns: &mut PurgeTurns,
+        writes: &mut OwnWrites<L>,
+        seat: &mut ReaderSeat<S>,
+        observer: &O,
+    ) -> bool
+        ensures exits { result ≡ true → self.now.pace.on_log_fault ≡ OnLogFault.Exit }
+        ensures ends { writes.old.has_failed ≡ true → self.now.pace.on_log_fault ≡ OnLogFault.Exit → result ≡ true }
+        ensures purges { MayPurge L.seen S.opening turns.old.least writes.old.log writes.old.owed seat.old writes.new.log writes.new.owed seat.new }
+        ensures least { turns.new.least ≡ turns.old.least }
+        ensures later { IsLater seat.old seat.new }
+        // A log that the purge closes ends the node too.
+        ensures closes { (L.seen writes.old.log).is_open ≡ true → (L.seen writes.new.log).is_open ≡ false → self.now.pace.on_log_fault ≡ OnLogFault.Exit → result ≡ true }
+    {
+        if self.ends_with_log(writes, observer) {
+            return true;
+        }
+        self.purge_after(turns, writes, seat, observer);
+        self.ends_with_log(writes, observer)
+    }
+}
+
 impl<S: RoundsTag, H: Wait + Drop, Q: Wait + Clock> NodeContext<'_, S, H, Q> {
     /// Answers one request after another, until the node is to end. It ends the node itself if the log takes no more writes and
     /// the node is to exit then. If the log is closed at the start, that is before the first request.
@@ -160,6 +189,7 @@ impl<S: RoundsTag, H: Wait + Drop, Q: Wait + Clock> NodeContext<'_, S, H, Q> {
                 has_left: true,
             };
         }
+        let mut turns = PurgeTurns::new(self.pace.purge_removals);
         for _ in self.rt.forever() {
             let Some(request) = requests.next(self.rt, self.ending) else {
                 // A thread that dials ends the node too if it finds the log lost.
@@ -170,10 +200,11 @@ impl<S: RoundsTag, H: Wait + Drop, Q: Wait + Clock> NodeContext<'_, S, H, Q> {
                 };
             };
             self.close_lost_log(&mut writes, observer);
+            turns.note(&request.message);
             let (seat, failed) = self.answer_one(dialing, &mut writes, request, current);
             current = seat;
             faults = faults.saturating_add(u64::from(failed));
-            if self.ends_with_log(&mut writes, observer) {
+            if self.ends_after(&mut turns, &mut writes, &mut current, observer) {
                 return ControlEnd {
                     seat: current,
                     faults,

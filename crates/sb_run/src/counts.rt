@@ -15,6 +15,7 @@ pub(crate) struct Counts {
     /// When the node started; none if the clock could not be read.
     started: Option<Instant>,
     sessions: AtomicU64,
+    purges: AtomicU64,
     /// The number of the cause by which the log takes no more writes, 0 if it takes them.
     log_cause: AtomicU64,
     /// How many sessions that others dialed ended with a fault.
@@ -44,6 +45,7 @@ impl Counts {
         Counts {
             started: Instant::now(clock).ok(),
             sessions: AtomicU64::new(0),
+            purges: AtomicU64::new(0),
             log_cause: AtomicU64::new(0),
             session_faults: AtomicU64::new(0),
             last_session_fault: AtomicU64::new(0),
@@ -78,6 +80,16 @@ impl Counts {
     /// How many connections of peers there were.
     pub(crate) fn sessions(&self) -> u64 {
         self.sessions.load(Ordering::SeqCst)
+    }
+
+    /// The own table was purged, and the log with it.
+    pub(crate) fn add_purge(&self) {
+        self.purges.fetch_add(1, Ordering::SeqCst);
+    }
+
+    /// How many times that was.
+    pub(crate) fn purges(&self) -> u64 {
+        self.purges.load(Ordering::SeqCst)
     }
 
     /// A worker is free, and waits for something to do.

@@ -131,6 +131,7 @@ mod peer_reader;
 mod peer_state;
 mod peers;
 mod pool;
+mod purging;
 mod pushing;
 mod reporting;
 mod rounds;

@@ -68,6 +68,7 @@ impl<S: RoundsTag, H: Wait + Drop, Q: Wait + Clock> NodeContext<'_, S, H, Q> {
                     workers: self.directory.settings().workers(),
                     busy_workers: self.counts.busy_workers(),
                     troubles: self.counts.troubles(uptime),
+                    purges: self.counts.purges(),
                     keys,
                     log_cause: self.counts.log_cause(),
                     conflict,

@@ -25,6 +25,8 @@ pub struct Status<'a> {
     pub busy_workers: u64,
     /// What it suffered.
     pub troubles: Troubles,
+    /// How many times it purged its own table.
+    pub purges: u64,
     /// How many keys its own table has, removed ones counted.
     pub keys: usize,
     /// Why its log takes no writes; none if it takes them.

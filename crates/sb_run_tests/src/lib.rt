@@ -23,6 +23,8 @@ mod peers;
 #[cfg(test)]
 mod pooling;
 #[cfg(test)]
+mod purging;
+#[cfg(test)]
 mod pushing;
 #[cfg(test)]
 mod running;
