@@ -228,7 +228,7 @@ fn purge_and_close<S: DirectoryTag, R: Wait + Abort>(
     (floors, keys, close_twice(rt, directory, seats, kept))
 }
 
-/// A purge is an event of the seat that makes it. One that is not due is none.
+/// A purge is an event of the seat that makes it. If it is not due, nothing is counted.
 #[test]
 fn a_purge_is_counted(rt: HostRuntime) {
     let alloc = rt.alloc();

@@ -19,14 +19,14 @@ use std::marker::Brand;
 use std::net::{Net, TcpListener, TcpStream};
 use std::sync::ledger::Blank;
 
-/// Where a node listens, and whom it dials: the paths of Unix sockets.
+/// The paths of Unix sockets: those at which a node listens, and those that it dials.
 #[derive(Clone, Copy, Debug)]
 pub struct Paths<'a> {
-    /// Where its peers connect.
+    /// The path to which its peers connect.
     pub sock: &'a str,
     /// Where its clients connect, which write its rows and ask for rows of any owner.
     pub control: &'a str,
-    /// Where its peers listen.
+    /// The paths at which its peers listen.
     pub peers: &'a [&'a str],
 }
 
