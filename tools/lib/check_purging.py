@@ -2,6 +2,7 @@
 import time
 
 from check_metrics import awaits
+from check_troubles import refuses_a_write
 from nodes import SECONDS, Difference, exchange, put, run, version_of, want, weight
 
 REMOVED = b"\x00"
@@ -96,4 +97,18 @@ def full_table(check):
         check.stop()
 
 
-PARTS = (keys_given_back, keys_of_one_run, full_table)
+def closed_log(check):
+    """A node whose log is closed does not purge its own table either."""
+    folder = check.folder()
+    node = check.node("a", "--purge-removals", "64", "--pause", "50", "--metrics", str(folder / "a.prom"), folder=folder).start()
+    node.put("kept", 7)
+    for at in range(64):
+        come_and_go(node, f"k{at}", at)
+    # (it counts its removals behind each eighth write, and 129 writes came)
+    node.log.unlink()
+    for _ in range(16):
+        refuses_a_write(node, 15)
+    awaits(folder / "a.prom", "a", {("attrdir_log_open",): 0, ("attrdir_removals",): 64, ("attrdir_purges_total",): 0})
+
+
+PARTS = (keys_given_back, keys_of_one_run, full_table, closed_log)

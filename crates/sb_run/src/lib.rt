@@ -65,6 +65,8 @@
 //! - A request or session may take too long, because its time never begins, or because it goes on once its time is
 //!   over. The tests of `sb_run` and `tools/check-node` refuse it.
 //! - A log that failed while the node runs does not end a node that must exit. Tests and `tools/check-node` refuse it.
+//! - A running node purges too seldom or never, or does not count or report it. `tools/check-node` refuses it.
+//! - A node purges its own table although its log is closed. `tools/check-node` refuses it.
 //! - A node never asks whether the file of its log is lost, or goes on writing to it. Tests and `tools/check-node`
 //!   refuse it.
 //! - `run_closed_node` opens with another table than it was given. No clause promises what a node shows. Tests refuse

@@ -63,7 +63,7 @@ impl PurgeTurns {
 
 impl<S: RoundsTag, H: Wait + Drop, Q: Wait> NodeContext<'_, S, H, Q> {
     /// Purges the own table and the log if that is due after a request, and reports it to the observer. Either way what was owed may
-    /// be handed in. If the log failed, that is noted as after a write.
+    /// be handed in. If the log failed, that is noted as after a write. With a closed log nothing is done.
     pub(crate) fn purge_after<L: WriteLog, O: Observer>(
         &self,
         turns: &mut PurgeTurns,
@@ -78,7 +78,7 @@ impl<S: RoundsTag, H: Wait + Drop, Q: Wait> NodeContext<'_, S, H, Q> {
         ensures closes { (L.seen writes.old.log).is_open ≡ true → (L.seen writes.new.log).is_open ≡ false → writes.new.has_failed ≡ true }
     {
         let is_full = self.directory.keys(self.rt, seat) >= KEYS_MOST;
-        if !turns.is_next(is_full) {
+        if writes.cause().is_some() || !turns.is_next(is_full) {
             return;
         }
         if let Ok(Some(floor)) = writes.purge(self.rt, self.directory, seat, turns.least) {
