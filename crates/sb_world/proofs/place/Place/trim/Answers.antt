@@ -31,13 +31,13 @@ returns-in-Err g c =
     )
 
 -- the log refuses it
-pub returns-in-Err-2 : goal.returns-in-Err-2
-returns-in-Err-2 g c =
-    let fault = c.in-Err-2.fault in
+pub returns-in-Err-purge : goal.returns-in-Err-purge
+returns-in-Err-purge g c =
+    let fault = c.in-Err-purge.fault in
     let floor = c.args.floor in
     let log = g.L.WriteLog.seen c.purge-2.new.self in
-    let taken = subst (λ (p : Place). c.purge.result ≡ purge_answer p.core.node floor) c.self.view_is c.purge.ensures.answer in
-    let purges = subst (λ (p : Place). Purges p.log floor (Err fault) log) c.self.view_is c.in-Err-2.ensures.purges in (
+    let taken = subst (λ (p : Place). Ok tt ≡ purge_answer p.core.node floor) c.self.view_is c.in_default.ensures.answer in
+    let purges = subst (λ (p : Place). Purges p.log floor (Err fault) log) c.self.view_is c.in-Err-purge.ensures.purges in (
       goes (Purged floor ∷ []),
       trim_asked c.args.self.now floor tt (Err fault) log _ taken purges (λ i. record {
         answer = Err fault;
@@ -45,7 +45,7 @@ returns-in-Err-2 g c =
         place = record {
           me = (c.self.view_is i).me;
           log = log;
-          core = (c.purge.ensures.ok ∙ ap (λ (p : Place). with_node p.core (node_after_event p.core.node (Purged floor))) c.self.view_is) i;
+          core = (c.in_default.ensures.ok ∙ ap (λ (p : Place). with_node p.core (node_after_event p.core.node (Purged floor))) c.self.view_is) i;
           waiting = (c.self.view_is i).waiting;
           is_up = (c.self.view_is i).is_up;
         };
@@ -58,8 +58,8 @@ pub returns : goal.returns
 returns g c =
     let floor = c.args.floor in
     let log = g.L.WriteLog.seen c.purge-2.new.self in
-    let taken = subst (λ (p : Place). c.purge.result ≡ purge_answer p.core.node floor) c.self.view_is c.purge.ensures.answer in
-    let purges = subst (λ (p : Place). Purges p.log floor (Ok tt) log) c.self.view_is c.purge-2.ensures.purges in (
+    let taken = subst (λ (p : Place). Ok tt ≡ purge_answer p.core.node floor) c.self.view_is c.in_default.ensures.answer in
+    let purges = subst (λ (p : Place). Purges p.log floor (Ok tt) log) c.self.view_is c.in_default-purge.ensures.purges in (
       goes (Purged floor ∷ []),
       trim_asked c.args.self.now floor tt (Ok tt) log _ taken purges (λ i. record {
         answer = Ok (answers.Trimmed floor);
@@ -67,7 +67,7 @@ returns g c =
         place = record {
           me = (c.self.view_is i).me;
           log = log;
-          core = (c.purge.ensures.ok ∙ ap (λ (p : Place). with_node p.core (node_after_event p.core.node (Purged floor))) c.self.view_is) i;
+          core = (c.in_default.ensures.ok ∙ ap (λ (p : Place). with_node p.core (node_after_event p.core.node (Purged floor))) c.self.view_is) i;
           waiting = (c.self.view_is i).waiting;
           is_up = (c.self.view_is i).is_up;
         };
