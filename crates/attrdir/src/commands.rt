@@ -420,7 +420,7 @@ const PURGE_REMOVALS: Part = Part {
     name: "purge-removals",
     kind: Kind::NumberOr(Range::Any, "1024"),
     value: "N",
-    help: "If the log has N tombstones or more at the start, the node drops them all first, 0 for never",
+    help: "With N tombstones or more the node drops them, all when it starts and the older half while it runs, 0 for never",
 };
 
 /// It is the time of UTC. For systems without a journal that adds it.
@@ -527,6 +527,7 @@ fn pace_of(given: &ArgMatches<'_>) -> Pace {
         request: REQUEST.number(given),
         max_reads: MAX_READS.number_if_any(given).unwrap_or(u64::MAX),
         on_log_fault,
+        purge_removals: PURGE_REMOVALS.number(given),
     }
 }
 

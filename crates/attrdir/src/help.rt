@@ -31,6 +31,7 @@ Each other line is a command, and prints its answer:
   crash N K VALUE kept|lost       node N goes down after the commit of a write, or before it
   restart N                       node N starts again with what its log has
   purge N F                       the log of node N drops its tombstones up to the version F, and node N goes down: `purged F`
+  trim N F                        node N drops the tombstones up to the version F, and its log too; it stays up: `trimmed F`
   give A B V                      node A sends node B what it wrote above the version V, as far as a frame has room
   offer N O V                     node N sends what it holds of owner O above the version V: `frame I`
   connect N C, close C            a connection with the number C begins at node N, and its Hello is sent; the connection ends

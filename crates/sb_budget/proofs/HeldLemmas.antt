@@ -50,17 +50,17 @@ looked_up (e ∷ es) owner = go (cases_Bool (eq_by_cmp text_cmp owner e.0)) (loo
 nothing_above : (owner : List ℕ) (n : ℕ) → items_of owner nothing.shown n ≡ []
 nothing_above owner n = cond-false _ _ _ (le-ltb n 0 (omega arith))
 
-pub available_of_owner : (reaches : List ℕ → Bool) (known : List ℕ → Table → ℕ) (owners : FinMap text_cmp Holder) (owner : List ℕ) → reaches owner ≡ true →
-    of_owner owner (available reaches known (entries owners)) ≡ items_of owner (holder_of owners owner).shown (known owner (holder_of owners owner).shown)
-available_of_owner reaches known owners owner reached = go (looked_up (entries owners) owner)
+pub available_of_owner : (reaches : List ℕ → Bool) (shown_as : List ℕ → Table → Table) (known : List ℕ → Table → ℕ) → ((q : List ℕ) → shown_as q nothing.shown ≡ nothing.shown) → (owners : FinMap text_cmp Holder) (owner : List ℕ) → reaches owner ≡ true →
+    of_owner owner (available reaches shown_as known (entries owners)) ≡ items_of owner (shown_as owner (holder_of owners owner).shown) (known owner (holder_of owners owner).shown)
+available_of_owner reaches shown_as known still owners owner reached = go (looked_up (entries owners) owner)
   where
     go : (((h : Holder) × (find text_cmp owner (entries owners) ≡ Some h) × Stands (entries owners) (owner, h)) ⊎ ((find text_cmp owner (entries owners) ≡ None) × (is_named owner (entries owners) ≡ false))) →
-        of_owner owner (available reaches known (entries owners)) ≡ items_of owner (holder_of owners owner).shown (known owner (holder_of owners owner).shown)
+        of_owner owner (available reaches shown_as known (entries owners)) ≡ items_of owner (shown_as owner (holder_of owners owner).shown) (known owner (holder_of owners owner).shown)
     go (inl found) =
         let held : holder_of owners owner ≡ found.0 = ap (λ (o : Option Holder). unwrap_or o nothing) (get-entries owners owner ∙ found.1) in
-        available_of reaches known (entries owners) (owner, found.0) (named_once (entries owners) (entries_sorted owners)) found.2 reached
-        ∙ ap (λ (h : Holder). items_of owner h.shown (known owner h.shown)) (sym held)
+        available_of reaches shown_as known (entries owners) (owner, found.0) (named_once (entries owners) (entries_sorted owners)) found.2 reached
+        ∙ ap (λ (h : Holder). items_of owner (shown_as owner h.shown) (known owner h.shown)) (sym held)
     go (inr missing) =
         let none : holder_of owners owner ≡ nothing = ap (λ (o : Option Holder). unwrap_or o nothing) (get-entries owners owner ∙ missing.0) in
-        unnamed reaches known (entries owners) owner missing.1
-        ∙ sym (nothing_above owner (known owner nothing.shown)) ∙ ap (λ (h : Holder). items_of owner h.shown (known owner h.shown)) (sym none)
+        unnamed reaches shown_as known (entries owners) owner missing.1
+        ∙ sym (nothing_above owner (known owner nothing.shown)) ∙ ap (λ (t : Table). items_of owner t (known owner nothing.shown)) (sym (still owner)) ∙ ap (λ (h : Holder). items_of owner (shown_as owner h.shown) (known owner h.shown)) (sym none)

@@ -125,52 +125,52 @@ named [] p s = absurd s
 named (q ∷ ps) p (inl e) = or_left _ _ (text_same q.0 p.0 (ap (λ (r : List ℕ × Holder). r.0) e))
 named (q ∷ ps) p (inr s) = or_right _ _ (named ps p s)
 
-module _ (covers : List ℕ → Bool) (number : List ℕ → Table → ℕ) where
+module _ (covers : List ℕ → Bool) (offered : List ℕ → Table → Table) (number : List ℕ → Table → ℕ) where
   offered_of : List ℕ × Holder → List Item
-  offered_of p = if covers p.0 then items_of p.0 p.1.shown (number p.0 p.1.shown) else []
+  offered_of p = if covers p.0 then items_of p.0 (offered p.0 p.1.shown) (number p.0 p.1.shown) else []
 
   other_offer : (p : List ℕ × Holder) (q : List ℕ) → pointwise nat_eq p.0 q ≡ false → of_owner q (offered_of p) ≡ []
   unfolding offered_of
-  other_offer p q other = cond_both (covers p.0) _ [] (λ items. of_owner q items ≡ []) (λ _. of_another p.0 p.1.shown (number p.0 p.1.shown) q other) (λ _. refl)
+  other_offer p q other = cond_both (covers p.0) _ [] (λ items. of_owner q items ≡ []) (λ _. of_another p.0 (offered p.0 p.1.shown) (number p.0 p.1.shown) q other) (λ _. refl)
 
-  pub unnamed : (ps : List (List ℕ × Holder)) (q : List ℕ) → is_named q ps ≡ false → of_owner q (available covers number ps) ≡ []
+  pub unnamed : (ps : List (List ℕ × Holder)) (q : List ℕ) → is_named q ps ≡ false → of_owner q (available covers offered number ps) ≡ []
   unfolding offered_of
   unnamed [] q h = refl
   unnamed (p ∷ ps) q h =
       let parts = or_parts (pointwise nat_eq p.0 q) (is_named q ps) h in
-      filter-append (λ item. pointwise nat_eq item.owner q) (offered_of p) (available covers number ps)
+      filter-append (λ item. pointwise nat_eq item.owner q) (offered_of p) (available covers offered number ps)
       ∙ ap₂ (λ a b. a ++ b) (other_offer p q parts.0) (unnamed ps q parts.1)
 
   uncovered_offer : (p : List ℕ × Holder) (q : List ℕ) → covers q ≡ false → of_owner q (offered_of p) ≡ []
   unfolding offered_of
   uncovered_offer p q none =
       cond_both (covers p.0) _ [] (λ items. of_owner q items ≡ [])
-      (λ covered. of_another p.0 p.1.shown (number p.0 p.1.shown) q (false_from_ne_true _ (λ t. true≢false (sym covered ∙ ap covers (same_text p.0 q t) ∙ none))))
+      (λ covered. of_another p.0 (offered p.0 p.1.shown) (number p.0 p.1.shown) q (false_from_ne_true _ (λ t. true≢false (sym covered ∙ ap covers (same_text p.0 q t) ∙ none))))
       (λ _. refl)
 
-  pub uncovered : (ps : List (List ℕ × Holder)) (q : List ℕ) → covers q ≡ false → of_owner q (available covers number ps) ≡ []
+  pub uncovered : (ps : List (List ℕ × Holder)) (q : List ℕ) → covers q ≡ false → of_owner q (available covers offered number ps) ≡ []
   unfolding offered_of
   uncovered [] q none = refl
   uncovered (p ∷ ps) q none =
-      filter-append (λ item. pointwise nat_eq item.owner q) (offered_of p) (available covers number ps)
+      filter-append (λ item. pointwise nat_eq item.owner q) (offered_of p) (available covers offered number ps)
       ∙ ap₂ (λ a b. a ++ b) (uncovered_offer p q none) (uncovered ps q none)
 
-  own_offer : (p : List ℕ × Holder) → covers p.0 ≡ true → of_owner p.0 (offered_of p) ≡ items_of p.0 p.1.shown (number p.0 p.1.shown)
+  own_offer : (p : List ℕ × Holder) → covers p.0 ≡ true → of_owner p.0 (offered_of p) ≡ items_of p.0 (offered p.0 p.1.shown) (number p.0 p.1.shown)
   unfolding offered_of
-  own_offer p c = rw c (of_its_owner p.0 p.1.shown (number p.0 p.1.shown))
+  own_offer p c = rw c (of_its_owner p.0 (offered p.0 p.1.shown) (number p.0 p.1.shown))
 
-  pub available_of : (ps : List (List ℕ × Holder)) (p : List ℕ × Holder) → are_named_once ps ≡ true → Stands ps p → covers p.0 ≡ true → of_owner p.0 (available covers number ps) ≡ items_of p.0 p.1.shown (number p.0 p.1.shown)
+  pub available_of : (ps : List (List ℕ × Holder)) (p : List ℕ × Holder) → are_named_once ps ≡ true → Stands ps p → covers p.0 ≡ true → of_owner p.0 (available covers offered number ps) ≡ items_of p.0 (offered p.0 p.1.shown) (number p.0 p.1.shown)
   unfolding offered_of
   available_of [] p d s c = absurd s
   available_of (q ∷ ps) p d (inl e) c =
       let alone : is_named q.0 ps ≡ false = not-true _ (and_parts _ _ d).0 in
       let covered : covers q.0 ≡ true = ap (λ (r : List ℕ × Holder). covers r.0) e ∙ c in
-      subst (λ (r : List ℕ × Holder). of_owner r.0 (available covers number (q ∷ ps)) ≡ items_of r.0 r.1.shown (number r.0 r.1.shown)) e
-      (filter-append (λ item. pointwise nat_eq item.owner q.0) (offered_of q) (available covers number ps)
+      subst (λ (r : List ℕ × Holder). of_owner r.0 (available covers offered number (q ∷ ps)) ≡ items_of r.0 (offered r.0 r.1.shown) (number r.0 r.1.shown)) e
+      (filter-append (λ item. pointwise nat_eq item.owner q.0) (offered_of q) (available covers offered number ps)
       ∙ ap₂ (λ a b. a ++ b) (own_offer q covered) (unnamed ps q.0 alone)
       ∙ append-nil _)
   available_of (q ∷ ps) p d (inr s) c =
       let alone : is_named q.0 ps ≡ false = not-true _ (and_parts _ _ d).0 in
       let other : pointwise nat_eq q.0 p.0 ≡ false = false_from_ne_true _ (λ t. false≢true (sym alone ∙ rw (same_text q.0 p.0 t) (named ps p s))) in
-      filter-append (λ item. pointwise nat_eq item.owner p.0) (offered_of q) (available covers number ps)
+      filter-append (λ item. pointwise nat_eq item.owner p.0) (offered_of q) (available covers offered number ps)
       ∙ ap₂ (λ a b. a ++ b) (other_offer q p.0 other) (available_of ps p (and_parts _ _ d).1 s c)

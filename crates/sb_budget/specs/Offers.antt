@@ -47,7 +47,7 @@ abbrev pub are_named_once : List (List ℕ × Holder) → Bool
 are_named_once [] = true
 are_named_once (p ∷ ps) = not (is_named p.0 ps) && are_named_once ps
 
--- what is offered of all owners that are covered, each above its number
-abbrev pub available : (List ℕ → Bool) → (List ℕ → Table → ℕ) → List (List ℕ × Holder) → List Item
-available covers number [] = []
-available covers number (p ∷ ps) = (if covers p.0 then items_of p.0 p.1.shown (number p.0 p.1.shown) else []) ++ available covers number ps
+-- what is offered of all owners that are covered: of each its offered table, above its number
+abbrev pub available : (List ℕ → Bool) → (List ℕ → Table → Table) → (List ℕ → Table → ℕ) → List (List ℕ × Holder) → List Item
+available covers offered number [] = []
+available covers offered number (p ∷ ps) = (if covers p.0 then items_of p.0 (offered p.0 p.1.shown) (number p.0 p.1.shown) else []) ++ available covers offered number ps

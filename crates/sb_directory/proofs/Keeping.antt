@@ -9,9 +9,10 @@ use Rattle.sb_types.specs.Limits.{is_entry, is_delta}
 use Rattle.sb_types.specs.Records.{Entry, Block}
 use Rattle.sb_types.proofs.Texts.{text_same}
 use Rattle.sb_holdings.specs.declared.ends.BlockEnd.{BlockEnd}
-use Rattle.sb_holdings.specs.Held.{Held, shown_of, written}
+use Rattle.sb_holdings.specs.Held.{Held, shown_of, written, purged_own}
 use Rattle.sb_holdings.specs.Plain.{IsHoldings, next_version, own_answer}
 use Rattle.sb_holdings.specs.Nodes.{Node, NodeEvent, Wrote, node_after_event, replay_node}
+use Rattle.sb_holdings.specs.Nodes as node_events
 use Rattle.sb_holdings.specs.Treats.{Treats, took_each}
 use Rattle.sb_holdings.proofs.Changed.{entry-next}
 use Rattle.sb_holdings.proofs.Nodes.{replay_node-append}
@@ -21,7 +22,7 @@ use Rattle.sb_watch.specs.Records.{Hub}
 use Rattle.sb_watch.specs.Hubs.{AllNotes}
 use Rattle.sb_watch.proofs.KeptNotes.{weaker_keeps}
 use Rattle.sb_views.specs.declared.event.Event.{Event}
-use Rattle.sb_views.specs.declared.event.Event.TheVariants.{TookOwn, Applied}
+use Rattle.sb_views.specs.declared.event.Event.TheVariants.{TookOwn, Applied, Purged}
 use Rattle.sb_views.specs.declared.change.Change.{Change}
 use Rattle.sb_views.specs.declared.change.Change.TheVariants.{Enter}
 use Rattle.sb_views.specs.Changes.{table_with_all}
@@ -31,10 +32,11 @@ use Rattle.sb_views.specs.Publishing.{Views}
 use Rattle.sb_views.proofs.Prefixes.{prefix_self, prefix_trans}
 use Rattle.sb_views.proofs.Growing.{grown-on, own-grown, delta-grown}
 use Rattle.sb_views.proofs.Leading.{own-leads}
+use Rattle.sb_views.proofs.Purged.{purged-grown}
 use Rattle.sb_directory.specs.Lacking.{LackingOwners, since_of, with_owner, HasOwners, AreSince}
 use Rattle.sb_directory.specs.Notes.{note_of, with_notes, entered_of, versions_of, is_held}
-use Rattle.sb_directory.specs.ViewedNodes.{ViewedNode, IsViewedNode, after_own, after_delta, with_published, with_hub}
-use Rattle.sb_directory.proofs.Lacking.{add-has, added-since, own-since, delta-since}
+use Rattle.sb_directory.specs.ViewedNodes.{ViewedNode, IsViewedNode, after_own, after_purge, after_delta, with_published, with_hub}
+use Rattle.sb_directory.proofs.Lacking.{add-has, added-since, own-since, purge-since, delta-since}
 use Rattle.sb_directory.proofs.Noting.{noted-held, since-held}
 
 -- ---- the history
@@ -42,6 +44,10 @@ use Rattle.sb_directory.proofs.Noting.{noted-held, since-held}
 pub node-own : (opening : Node) (history : List Event) (e : Entry) → node_after opening (history ++ TookOwn e ∷ []) ≡ node_after_event (node_after opening history) (Wrote e)
 node-own opening history e =
     ap (replay_node opening) (flat_map-append node_events_of history (TookOwn e ∷ [])) ∙ replay_node-append opening (flat_map node_events_of history) (Wrote e ∷ [])
+
+pub node-purge : (opening : Node) (history : List Event) (floor : ℕ) → node_after opening (history ++ Purged floor ∷ []) ≡ node_after_event (node_after opening history) (node_events.Purged floor)
+node-purge opening history floor =
+    ap (replay_node opening) (flat_map-append node_events_of history (Purged floor ∷ [])) ∙ replay_node-append opening (flat_map node_events_of history) (node_events.Purged floor ∷ [])
 
 pub node-delta : (opening : Node) (history : List Event) (blocks : List Block) (ends : List BlockEnd)
     → node_after opening (history ++ Applied blocks ends ∷ []) ≡ replay_node (node_after opening history) (took_each blocks ends)
@@ -124,6 +130,25 @@ module _ (opening : Node) (queued : List Event) (lacking : LackingOwners) (old :
         → IsViewedNode opening queued lacking (record { core = core; hub = hub; history = history; published = published })
     own-there core history hub published taken longer seen =
         subst (IsViewedNode opening queued lacking) (λ i. record { core = sym taken i; hub = sym seen i; history = sym longer i; published = published }) (own-locked published)
+
+  module _ (floor : ℕ) (has : contains_key lacking old.core.node.held.me ≡ true) where
+    pub purge-locked : (published : List Event) → IsViewedNode opening queued lacking (after_purge old floor published)
+    purge-locked published =
+        let grown = purged-grown old.core.node.held floor holds in
+        record {
+          node = ap (λ (n : Node). node_after_event n (node_events.Purged floor)) is.node ∙ sym (node-purge opening old.history floor);
+          begins = begins-longer queued old.history (Purged floor) is.begins;
+          grown = grown-on (node_after opening queued).held old.core.node.held (purged_own old.core.node.held floor) is.grown grown;
+          since = purge-since lacking (node_after opening queued).held old.core.node.held floor has is.since;
+          notes = notes-raised old.core.node.held (purged_own old.core.node.held floor) old.hub grown is.notes;
+        }
+
+    -- so it is wherever the core and the history are these
+    pub purge-there : (core : Core) (history : List Event) (published : List Event) → core ≡ with_node old.core (node_after_event old.core.node (node_events.Purged floor))
+        → history ≡ old.history ++ Purged floor ∷ []
+        → IsViewedNode opening queued lacking (record { core = core; hub = old.hub; history = history; published = published })
+    purge-there core history published purged longer =
+        subst (IsViewedNode opening queued lacking) (λ i. record { core = sym purged i; hub = old.hub; history = sym longer i; published = published }) (purge-locked published)
 
   module _ (blocks : List Block) (ends : List BlockEnd) (delta : is_delta blocks ≡ true) (treats : Treats old.core.node blocks ends)
       (after : IsHoldings (replay_node old.core.node (took_each blocks ends)).held) (has : HasOwners lacking blocks) where

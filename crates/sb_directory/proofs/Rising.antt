@@ -1,5 +1,5 @@
 -- Of no owner does what is held fall, whatever happens to the node.
-use Rattle.std.proofs.Common.{◌≡◌, ℕ, zero, suc, ◌≤◌, ◌<◌, ◌+◌, Bool, true, false, cond, List, [], ◌∷◌, length, take, flat_map, Option, Some, None, unwrap_or, inl, inr, refl, sym, ap, subst, ◌∙◌, arith, nat_eq, nat_lt, nat_le, nat_cmp, eqb-true, leb-true, ltb-true}
+use Rattle.std.proofs.Common.{◌≡◌, ℕ, zero, suc, ◌≤◌, ◌<◌, ◌+◌, Bool, true, false, cond, ◌&&◌, List, [], ◌∷◌, length, take, flat_map, Option, Some, None, unwrap_or, inl, inr, refl, sym, ap, subst, ◌∙◌, arith, nat_eq, nat_lt, nat_le, nat_cmp, eqb-true, leb-true, ltb-true}
 use Rattle.std.proofs.lemmas.Bool.{and_parts, cond_both}
 use Rattle.std.proofs.lemmas.Cmp.{nat_list_cmp_total}
 use Rattle.std.proofs.lemmas.Grind.{flat_map-append}
@@ -14,12 +14,12 @@ use Rattle.sb_table.specs.Plain.{with_entry}
 use Rattle.sb_holdings.specs.declared.ends.BlockEnd.{BlockEnd}
 use Rattle.sb_holdings.specs.declared.ends.BlockEnd.TheVariants.{Own, OwnAhead, Gap, Stale, OwnersFull, Taken, TooManyKeys, NoMemory}
 use Rattle.sb_holdings.specs.Blocks.{part_above, front}
-use Rattle.sb_holdings.specs.Shown.{joins_shown, shown_with, stage_beyond, own}
-use Rattle.sb_table.specs.Floors.{swapped}
+use Rattle.sb_holdings.specs.Shown.{joins_shown, shown_with, stage_beyond, own, own_purged}
+use Rattle.sb_table.specs.Floors.{raised, swapped}
 use Rattle.sb_holdings.specs.Stages.{new_stage, goes_on, begins, stage_for, stage_with, staged_all, staged_front, staged_refused}
 use Rattle.sb_holdings.specs.Taken.{routed, holder_after_block}
 use Rattle.sb_holdings.specs.Held.{Held, nothing, holder_of, shown_of, with_owner, held_after_taking}
-use Rattle.sb_holdings.specs.Nodes.{Node, NodeEvent, Wrote, Took, held_by, node_after_event, replay_node}
+use Rattle.sb_holdings.specs.Nodes.{Node, NodeEvent, Wrote, Took, Purged, held_by, node_after_event, replay_node}
 use Rattle.sb_holdings.proofs.Nodes.{Put, put_with, same_test, replay_node-append}
 use Rattle.sb_views.specs.declared.event.Event.{Event}
 use Rattle.sb_views.specs.Histories.{node_events_of, node_after}
@@ -106,6 +106,11 @@ own-rises h e =
     cond_both (nat_eq e.version (h.shown.held + 1)) (record { shown = with_entry h.shown e; stage = stage_beyond e.version h.stage }) h (λ k. h.shown.held ≤ k.shown.held)
     (λ next. omega (arith, eqb-true e.version (h.shown.held + 1) next)) (λ _. omega arith)
 
+purge-rises : (h : Holder) (floor : ℕ) → h.shown.held ≤ (own_purged floor h).shown.held
+purge-rises h floor =
+    cond_both (nat_lt h.shown.floor floor && nat_le floor h.shown.held) (record { shown = raised h.shown.held floor h.shown; stage = h.stage }) h (λ k. h.shown.held ≤ k.shown.held)
+    (λ _. omega arith) (λ _. omega arith)
+
 -- ---- all owners
 
 module _ (owners : FinMap (slice_cmp nat_cmp) Holder) (owner : List ℕ) (h : Holder) where
@@ -143,6 +148,9 @@ event-rises node (Took b OwnersFull) q = omega arith
 event-rises node (Took b (Taken n)) q = taken-rises node b (Taken n) q
 event-rises node (Took b (TooManyKeys n)) q = taken-rises node b (TooManyKeys n) q
 event-rises node (Took b (NoMemory n)) q = taken-rises node b (NoMemory n) q
+event-rises node (Purged floor) q =
+    let k = own_purged floor (held_by node node.held.me) in
+    put-rises node.held.owners (insert node.held.owners node.held.me k) node.held.me k (put-owner node.held.owners node.held.me k) (purge-rises (held_by node node.held.me) floor) q
 
 replay-rises : (node : Node) (events : List NodeEvent) (q : List ℕ) → (held_by node q).shown.held ≤ (held_by (replay_node node events) q).shown.held
 replay-rises node [] q = omega arith

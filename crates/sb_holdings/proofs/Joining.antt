@@ -1,13 +1,14 @@
 -- What a block and an own write do to the shown table.
-use Rattle.std.proofs.Common.{◌≡◌, ℕ, ◌+◌, ◌<◌, ◌≤◌, max, List, [], ◌∷◌, inl, inr, ⊎_elim, refl, ap, subst, Option, Some, None, IfSome, nat_lt, nat_eq, arith, ltb-true, eqb-true, lt-ltb}
-use Rattle.std.proofs.lemmas.Bool.{and_from, cond_both}
+use Rattle.std.proofs.Common.{◌≡◌, ℕ, ◌+◌, ◌<◌, ◌≤◌, max, List, [], ◌∷◌, inl, inr, ⊎_elim, refl, ap, subst, Option, Some, None, IfSome, ◌&&◌, ◌||◌, nat_lt, nat_le, nat_eq, arith, ltb-true, eqb-true, lt-ltb}
+use Rattle.std.proofs.lemmas.Bool.{and_from, and_parts, cond_both, leb-true}
 use Rattle.sb_types.proofs.Live.{live-above, live-entered, live-live}
 use Rattle.sb_types.specs.declared.entry.Write.{Write}
 use Rattle.sb_types.specs.Records.{Entry, Stage, Block, Holder}
-use Rattle.sb_types.specs.Runs.{live, entered, IsRun}
+use Rattle.sb_types.specs.Runs.{is_set, live, entered, IsRun}
 use Rattle.sb_types.specs.Writes.{Written, Tells, HoldsStage, Honest, IsHolder}
 use Rattle.sb_table.specs.Plain.{with_entry}
-use Rattle.sb_holdings.specs.Shown.{stage_beyond, shown_with, own}
+use Rattle.sb_table.specs.Floors.{raised}
+use Rattle.sb_holdings.specs.Shown.{stage_beyond, shown_with, own, own_purged}
 use Rattle.sb_types.proofs.Standing.{of_live, of_entered}
 use Rattle.sb_table.proofs.Order.{run_after, run_order, run_kept, run_entered}
 use Rattle.sb_holdings.proofs.Telling.{tells_live, tells_raised, tells_raised_below, tells_entered, one_write, within_writes}
@@ -89,3 +90,19 @@ own_step writes h e i = cond_both (nat_eq e.version (h.shown.held + 1)) _ h (Ste
             stage = beyond_holds writes e.version h.stage t.stage;
           };
         }
+
+pub purge_step : (writes : List Write) (h : Holder) (floor : ℕ) → IsHolder h → Step writes (Unit {0}) h (own_purged floor h)
+purge_step writes h floor i =
+    cond_both (nat_lt h.shown.floor floor && nat_le floor h.shown.held) (record { shown = raised h.shown.held floor h.shown; stage = h.stage }) h (Step writes (Unit {0}) h)
+    (λ is. let parts = and_parts (nat_lt h.shown.floor floor) (nat_le floor h.shown.held) is in higher (ltb-true h.shown.floor floor parts.0) (leb-true floor h.shown.held parts.1))
+    (λ _. unchanged i)
+  where
+    higher : h.shown.floor < floor → floor ≤ h.shown.held → Step writes (Unit {0}) h (record { shown = raised h.shown.held floor h.shown; stage = h.stage })
+    higher l m = record {
+      is = record {
+        shown = record { run = run_kept (λ e. is_set e.slot || nat_lt floor e.version) i.shown.run; floor = m; live = live-live floor h.shown.entries };
+        stage = i.stage;
+      };
+      onward = record { held = omega arith; each = λ e s. inl (of_live floor h.shown.entries e s) };
+      holds = λ _ t. record { shown = tells_live (tells_raised floor (omega (arith, l)) m i.shown.run t.shown); stage = t.stage };
+    }

@@ -13,10 +13,10 @@ use Rattle.sb_types.specs.Writes.{Honest, IsHolder}
 use Rattle.sb_holdings.specs.declared.ends.BlockEnd.{BlockEnd}
 use Rattle.sb_holdings.specs.declared.ends.BlockEnd.TheVariants.{Own, OwnAhead, Gap, Stale, OwnersFull, Taken, TooManyKeys, NoMemory}
 use Rattle.sb_holdings.specs.Held.{Held, nothing, is_nothing, holder_of, with_holder, held_after_taking}
-use Rattle.sb_holdings.specs.Nodes.{Node, held_by, NodeEvent, Wrote, Took, node_after_event, replay_node, IsNodeEvent, TrueAt, AreNodeEvents, AllTrueAt, IsNode}
+use Rattle.sb_holdings.specs.Nodes.{Node, held_by, NodeEvent, Wrote, Took, Purged, node_after_event, replay_node, IsNodeEvent, TrueAt, AreNodeEvents, AllTrueAt, IsNode}
 use Rattle.sb_types.proofs.Texts.{same_text}
 use Rattle.sb_holdings.proofs.Steps.{Step, unchanged, two_steps}
-use Rattle.sb_holdings.proofs.Joining.{own_step}
+use Rattle.sb_holdings.proofs.Joining.{own_step, purge_step}
 use Rattle.sb_holdings.proofs.Treating.{treat_step}
 
 -- ---- the map of owners
@@ -91,6 +91,7 @@ module _ (writes : List ℕ → List Write) (node : Node) (is : IsNode node) whe
   happens_at_step (Took b (Taken n)) i q = taken_step b (Taken n) i q
   happens_at_step (Took b (TooManyKeys n)) i q = taken_step b (TooManyKeys n) i q
   happens_at_step (Took b (NoMemory n)) i q = taken_step b (NoMemory n) i q
+  happens_at_step (Purged floor) i q = put_step writes node.held.owners _ node.held.me _ _ (inserted node.held.owners node.held.me _) is (purge_step (writes node.held.me) (held_by node node.held.me) floor (is node.held.me)) q
 
 same_me_taken : (held : Held) (b : Block) (end : BlockEnd) → (held_after_taking held b end).me ≡ held.me
 same_me_taken held b end = cond_both (pointwise nat_eq b.owner held.me) held _ (λ (h : Held). h.me ≡ held.me) (λ _. refl) (λ _. refl)
@@ -105,6 +106,7 @@ same_me node (Took b OwnersFull) = refl
 same_me node (Took b (Taken n)) = same_me_taken node.held b (Taken n)
 same_me node (Took b (TooManyKeys n)) = same_me_taken node.held b (TooManyKeys n)
 same_me node (Took b (NoMemory n)) = same_me_taken node.held b (NoMemory n)
+same_me node (Purged floor) = refl
 
 pub replay_node-append : (node : Node) (events more : List NodeEvent) → replay_node node (events ++ more) ≡ replay_node (replay_node node events) more
 replay_node-append node [] more = refl

@@ -6,7 +6,7 @@ use Rattle.std.specs.FinMap.{FinMap, get, insert, remove}
 use Rattle.sb_types.specs.Records.{Entry, Table, Block, Holder}
 use Rattle.sb_holdings.specs.declared.ends.BlockEnd.{BlockEnd}
 use Rattle.sb_holdings.specs.declared.ends.BlockEnd.TheVariants.{Own, OwnAhead, Gap, Stale, OwnersFull, Taken, TooManyKeys, NoMemory}
-use Rattle.sb_holdings.specs.Shown.{own}
+use Rattle.sb_holdings.specs.Shown.{own, own_purged}
 use Rattle.sb_holdings.specs.Taken.{holder_after_block}
 
 -- the node's own name, and what it holds of each owner
@@ -37,6 +37,10 @@ with_owner held owner h = record { me = held.me; owners = with_holder held.owner
 -- after the node's own write; the map always has the own name
 abbrev pub written : Held → Entry → Held
 written held e = record { me = held.me; owners = insert held.owners held.me (own (holder_of held.owners held.me) e) }
+
+-- after the node's own table was purged up to this floor
+abbrev pub purged_own : Held → ℕ → Held
+purged_own held floor = record { me = held.me; owners = insert held.owners held.me (own_purged floor (holder_of held.owners held.me)) }
 
 -- no block of the node's own name is taken
 abbrev pub held_after_taking : Held → Block → BlockEnd → Held

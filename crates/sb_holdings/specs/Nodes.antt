@@ -6,7 +6,7 @@ use Rattle.sb_types.specs.Runs.{Stands, IsBlock}
 use Rattle.sb_types.specs.Writes.{Written, Honest, IsHolder, HolderHolds}
 use Rattle.sb_holdings.specs.declared.ends.BlockEnd.{BlockEnd}
 use Rattle.sb_holdings.specs.declared.ends.BlockEnd.TheVariants.{Own, OwnAhead, Gap, Stale, OwnersFull, Taken, TooManyKeys, NoMemory}
-use Rattle.sb_holdings.specs.Held.{Held, holder_of, written, held_after_block}
+use Rattle.sb_holdings.specs.Held.{Held, holder_of, written, purged_own, held_after_block}
 use Rattle.sb_holdings.specs.Plain.{alone, held_of}
 use Rattle.sb_holdings.specs.Progress.{Later}
 
@@ -41,14 +41,16 @@ conflict_after known (NoMemory n) = known
 abbrev pub node_after_block : Node → Block → BlockEnd → Node
 node_after_block node b end = record { held = held_after_block node.held b end; conflict = conflict_after node.conflict end }
 
--- the node wrote, or it took a block that ended this way
+-- the node wrote, or it took a block that ended this way, or its own table was purged up to a floor
 pub data NodeEvent : Type 0 where
   Wrote : Entry → NodeEvent
   Took : Block → BlockEnd → NodeEvent
+  Purged : ℕ → NodeEvent
 
 abbrev pub node_after_event : Node → NodeEvent → Node
 node_after_event node (Wrote e) = record { held = written node.held e; conflict = node.conflict }
 node_after_event node (Took b end) = node_after_block node b end
+node_after_event node (Purged floor) = record { held = purged_own node.held floor; conflict = node.conflict }
 
 abbrev pub replay_node : Node → List NodeEvent → Node
 replay_node node [] = node
@@ -57,11 +59,13 @@ replay_node node (event ∷ events) = replay_node (node_after_event node event) 
 abbrev pub IsNodeEvent : NodeEvent → Type 0
 IsNodeEvent (Wrote e) = Unit {0}
 IsNodeEvent (Took b end) = IsBlock b
+IsNodeEvent (Purged floor) = Unit {0}
 
--- the node's own committed write, or an honest block
+-- the node's own committed write, or an honest block; a purge needs nothing
 abbrev pub TrueAt : (List ℕ → List Write) → List ℕ → NodeEvent → Type 0
 TrueAt writes me (Wrote e) = Written (writes me) e
 TrueAt writes me (Took b end) = Honest (writes b.owner) b
+TrueAt writes me (Purged floor) = Unit {0}
 
 abbrev pub AreNodeEvents : List NodeEvent → Type 0
 AreNodeEvents events = (event : NodeEvent) → Stands events event → IsNodeEvent event

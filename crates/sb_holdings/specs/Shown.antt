@@ -3,6 +3,7 @@ use Rattle.std.specs.Prelude.{ℕ, ◌+◌, max, Bool, ◌&&◌, nat_lt, nat_le,
 use Rattle.sb_types.specs.Records.{Entry, Table, Stage, Block, Holder}
 use Rattle.sb_types.specs.Runs.{entered, live}
 use Rattle.sb_table.specs.Plain.{with_entry}
+use Rattle.sb_table.specs.Floors.{raised}
 
 -- the block's floor and its beginning are at or below the held version, and the block reaches above it
 abbrev pub joins_shown : Table → Block → Bool
@@ -24,3 +25,8 @@ shown_with h b = record { shown = joined h.shown b; stage = stage_beyond b.upto 
 -- the owner's own write, if it is the next one; another write changes nothing
 abbrev pub own : Holder → Entry → Holder
 own h e = if nat_eq e.version (h.shown.held + 1) then record { shown = with_entry h.shown e; stage = stage_beyond e.version h.stage } else h
+
+-- the own table once its tombstones up to the floor are gone; a floor that is not above the present one, or is above the
+-- held version, changes nothing
+abbrev pub own_purged : ℕ → Holder → Holder
+own_purged floor h = if nat_lt h.shown.floor floor && nat_le floor h.shown.held then record { shown = raised h.shown.held floor h.shown; stage = h.stage } else h

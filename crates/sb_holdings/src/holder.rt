@@ -6,7 +6,7 @@ ghost use Rattle.sb_table.specs.Plain.{is_full_for, with_entry};
 ghost use Rattle.sb_table.specs.Floors.{IsKeptTable, IsKeptStage, raised, stage_with_entry};
 ghost use Rattle.sb_holdings.specs.Held.{nothing, is_nothing};
 ghost use Rattle.sb_holdings.specs.Plain.{alone, with_entries, IsKeptHolder};
-ghost use Rattle.sb_holdings.specs.Shown.{stage_beyond};
+ghost use Rattle.sb_holdings.specs.Shown.{stage_beyond, own_purged};
 ghost use Rattle.sb_holdings.specs.Stages.{new_stage, stage_for};
 ghost use Rattle.sb_holdings.specs.Taken.{holder_after_block};
 ghost use Rattle.sb_holdings.specs.Ends.{Enters, entered_count};
@@ -88,6 +88,18 @@ impl Holder {
         ensures kept { IsKeptHolder self.new }
     {
         self.shown.push(entry)
+    }
+
+    /// Drops the tombstones (markers of removed keys) up to a version of the shown table, which becomes its floor. If
+    /// that is not above the present floor, or is above the held version, nothing changes. It takes no memory.
+    pub(crate) fn purge(&mut self, floor: u64)
+        ensures purged { self.new ≡ own_purged floor self.old }
+        ensures kept { IsKeptHolder self.new }
+    {
+        let (lowest, held) = (self.shown.floor(), self.shown.upto());
+        if lowest < floor && floor <= held {
+            self.shown.raise(held, floor);
+        }
     }
 
     /// Returns whether nothing is held, not even a version.

@@ -11,7 +11,7 @@ ghost use Rattle.sb_types.specs.declared.limits.TheConstants.{OWNERS_MOST};
 ghost use Rattle.sb_types.specs.Faults.{Gives};
 ghost use Rattle.sb_types.specs.Runs.{IsRun};
 ghost use Rattle.sb_table.specs.Plain.{is_full_for};
-ghost use Rattle.sb_holdings.specs.Held.{holder_of, shown_of, nothing, with_owner, written, held_after_block};
+ghost use Rattle.sb_holdings.specs.Held.{holder_of, shown_of, nothing, with_owner, written, purged_own, held_after_block};
 ghost use Rattle.sb_holdings.specs.Plain.{IsHoldings, alone, held_of, own_answer, table_of, holders_from, tables_from};
 ghost use Rattle.sb_holdings.specs.Taken.{holder_after_block};
 ghost use Rattle.sb_holdings.specs.Ends.{Fits};
@@ -191,6 +191,15 @@ impl Holdings {
             return Err(Fault::TableFull);
         }
         self.enter_own(entry)
+    }
+
+    /// Drops the tombstones (markers of removed keys) up to a version of the own table, which becomes its purge floor.
+    /// If that is not above the present floor, or is above the held version, nothing changes. It takes no memory.
+    pub fn purge_own(&mut self, floor: u64)
+        ensures purged { self.new ≡ purged_own self.old floor }
+        ensures holdings { IsHoldings self.new }
+    {
+        self.holders.get_mut(&self.me).unwrap().purge(floor);
     }
 
     /// Takes a block of another owner, and returns how it ended. It copies the entries one by one.

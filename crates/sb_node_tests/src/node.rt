@@ -452,7 +452,7 @@ type Read = (bool, u64, usize, u64, u64);
 fn read_digest(rt: &impl Abort, core: &NodeCore, from: Option<Name>, want: bool) -> Read {
     let (a, b) = (name(rt, b"a"), name(rt, b"b"));
     let digest = got(rt, core.digest(from, want));
-    let held = (digest.number(&a, 0), digest.number(&b, 0));
+    let held = (digest.start(&a, 0, 0).after, digest.start(&b, 0, 0).after);
     (
         digest.want(),
         digest.encoded_length(),

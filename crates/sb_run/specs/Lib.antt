@@ -1,4 +1,5 @@
 pub mod OwnWriting
+pub mod OwnPurging
 pub mod OneMessage
 pub mod Control
 pub mod Gates

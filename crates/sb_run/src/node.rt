@@ -61,6 +61,8 @@ pub struct Pace {
     pub max_reads: u64,
     /// What it does once its log has failed.
     pub on_log_fault: OnLogFault,
+    /// With how many removed keys it purges its own table while it runs, 64 if this is fewer; 0 for never.
+    pub purge_removals: u64,
 }
 
 /// What a node is to do: its settings, its sockets and its pace.
@@ -79,7 +81,7 @@ pub struct Ran {
     /// How many connections ended with a fault, rounds in which the peer could not be reached and connections that could
     /// not be accepted among them.
     pub faults: u64,
-    /// How many events its history has: writes of its own, and deltas of its peers.
+    /// How many events its history has: writes of its own, deltas of its peers, and purges of its own table.
     pub events: u64,
 }
 

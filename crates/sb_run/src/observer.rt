@@ -64,6 +64,9 @@ pub trait Observer {
         None
     }
 
+    /// The node's own table and its log were purged up to this version while the node runs.
+    fn table_purged(&self, _floor: u64) {}
+
     /// Whether it wants to know how the node is.
     fn wants_status(&self) -> bool {
         false

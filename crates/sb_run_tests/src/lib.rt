@@ -23,6 +23,8 @@ mod peers;
 #[cfg(test)]
 mod pooling;
 #[cfg(test)]
+mod purging;
+#[cfg(test)]
 mod running;
 #[cfg(test)]
 mod side_by_side;

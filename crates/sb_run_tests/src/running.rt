@@ -47,6 +47,7 @@ pub(crate) fn pace(rounds: u64, idle: u64) -> Pace {
         request: 0,
         max_reads: 99,
         on_log_fault: OnLogFault::Serve,
+        purge_removals: 0,
     }
 }
 

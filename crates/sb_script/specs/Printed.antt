@@ -11,7 +11,7 @@ use Rattle.sb_world.specs.declared.event.Item.TheVariants.{Ended, Replied}
 use Rattle.sb_world.specs.declared.event.Event.{Event}
 use Rattle.sb_world.specs.declared.event.Event.TheVariants.{Read}
 use Rattle.sb_world.specs.declared.event.Answer.{Answer}
-use Rattle.sb_world.specs.declared.event.Answer.TheVariants.{Nothing, Committed, Took, Crashed, Purged, Restarted, Sent, Shut, Lined, Delivered, Shown, Number}
+use Rattle.sb_world.specs.declared.event.Answer.TheVariants.{Nothing, Committed, Took, Crashed, Purged, Trimmed, Restarted, Sent, Shut, Lined, Delivered, Shown, Number}
 
 abbrev pub line : List ℕ → List ℕ
 line text = text ++ 10 ∷ []
@@ -69,6 +69,7 @@ answer_lines event (Committed version) = counted (codes "committed ") version
 answer_lines event (Took version) = counted (codes "took ") version
 answer_lines event Crashed = line (codes "crashed")
 answer_lines event (Purged floor) = counted (codes "purged ") floor
+answer_lines event (Trimmed floor) = counted (codes "trimmed ") floor
 answer_lines event (Restarted version) = counted (codes "restarted ") version
 answer_lines event (Sent number) = counted (codes "frame ") number
 answer_lines event Shut = line (codes "closed")

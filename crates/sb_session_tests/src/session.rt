@@ -79,7 +79,7 @@ impl Node {
     fn lacking(&self, theirs: &Digest) -> Result<Delta, Fault> {
         let mut blocks = Vec::new(self.alloc);
         for (owner, table) in self.holdings.tables_from(None) {
-            let number = theirs.number(owner, table.floor());
+            let number = theirs.start(owner, table.floor(), table.upto()).after;
             if !theirs.covers(owner) || table.upto() <= number {
                 continue;
             }

@@ -67,6 +67,7 @@ given_or other (answers.Committed version) = other
 given_or other (answers.Took version) = other
 given_or other answers.Crashed = other
 given_or other (answers.Purged floor) = other
+given_or other (answers.Trimmed floor) = other
 given_or other (answers.Restarted version) = other
 given_or other (answers.Sent number) = other
 given_or other (answers.Delivered items fault) = other

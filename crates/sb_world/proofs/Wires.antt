@@ -15,7 +15,7 @@ use Rattle.sb_frames.specs.Frames.{frame}
 use Rattle.sb_frames.specs.Streams.{Stream, open_with, TakesNext, Hands}
 use Rattle.sb_session.specs.Sessions.{Session, hello_of}
 use Rattle.sb_world.specs.declared.event.Event.{Event}
-use Rattle.sb_world.specs.declared.event.Event.TheVariants.{Commit, Take, CrashInCommit, Purge, Restart, Connect, Close, Line, Piece, Ask, Offer, Read, Upto}
+use Rattle.sb_world.specs.declared.event.Event.TheVariants.{Commit, Take, CrashInCommit, Purge, Trim, Restart, Connect, Close, Line, Piece, Ask, Offer, Read, Upto}
 use Rattle.sb_world.specs.Connections.{Connection, connection_at, with_connection, without_connection, of_others}
 use Rattle.sb_world.specs.Connecting.{begun, new_connection, Connects, Closes, lined, LinesUp, in_session, Asked, AsksOn, fed, listener, heard_by, connections_after, Delivers, Pieces}
 use Rattle.sb_world.specs.Events.{answers_to, Acts, ActsWhere, Does}
@@ -382,6 +382,7 @@ module _ (sent : List (List ℕ)) (conns : List Connection) (wires : ℕ → Wir
     acts_wires (Take me) turn new acts = alone turn.frames new wires (λ n. refl) acts.1
     acts_wires (CrashInCommit me key slot is_kept) turn new acts = some_left turn.place.is_up turn.frames new p.me acts.1
     acts_wires (Purge me floor) turn new acts = some_left turn.place.is_up turn.frames new p.me acts.1
+    acts_wires (Trim me floor) turn new acts = alone turn.frames new wires (λ n. refl) acts.1
     acts_wires (Restart me) turn new acts = fewer turn.frames new p.me acts.1
     acts_wires (Connect me number) turn new acts = connects_wires (connection_at conns number) number refl turn new acts
     acts_wires (Close number) turn new acts = closes_wires (connection_at conns number) number turn new acts

@@ -17,7 +17,7 @@ use Rattle.sb_codec.specs.declared.message.Message.{Message}
 use Rattle.sb_frames.specs.Streams.{Stream, open_with, shut, Splits}
 use Rattle.sb_node.specs.Calls.{Call, TookOwn, Applied}
 use Rattle.sb_world.specs.declared.event.Event.{Event}
-use Rattle.sb_world.specs.declared.event.Event.TheVariants.{Purge, Restart, Piece, Read}
+use Rattle.sb_world.specs.declared.event.Event.TheVariants.{Purge, Trim, Restart, Piece, Read}
 use Rattle.sb_world.specs.declared.event.Answer.{Answer}
 use Rattle.sb_world.specs.declared.event.Answer.TheVariants as answers
 use Rattle.sb_world.specs.declared.event.Item.{Item}
@@ -200,6 +200,12 @@ PurgeIsDone event answer new =
     (me : List ℕ) (floor told : ℕ) → event ≡ Purge me floor → answer ≡ Ok (answers.Purged told) →
     (told ≡ floor) × IsSomeAnd (place_at new.now.places me) (λ p. (p.is_up ≡ false) × (p.log.is_open ≡ true) × (floor ≤ p.log.content.floor))
 
+-- a trim that is answered leaves the node up and its log open, and both with that floor or a higher one
+abbrev pub TrimIsDone : Event → Result Answer Fault → State → Type 0
+TrimIsDone event answer new =
+    (me : List ℕ) (floor told : ℕ) → event ≡ Trim me floor → answer ≡ Ok (answers.Trimmed told) →
+    (told ≡ floor) × IsSomeAnd (place_at new.now.places me) (λ p. (p.is_up ≡ true) × (p.log.is_open ≡ true) × (floor ≤ p.log.content.floor) × (floor ≤ (shown_of p.core.node.held p.core.node.held.me).floor))
+
 -- a restart that is answered opens the node with the content of its log
 abbrev pub RestartIsOfLog : Event → Result Answer Fault → State → Type 0
 RestartIsOfLog event answer new =
@@ -214,6 +220,7 @@ FloorsStay old new =
 
 pub record KeepsPurged (old : State) (event : Event) (answer : Result Answer Fault) (new : State) : Type 0 where
   pub done : PurgeIsDone event answer new
+  pub trimmed : TrimIsDone event answer new
   pub opened : RestartIsOfLog event answer new
   pub stays : FloorsStay old new
 

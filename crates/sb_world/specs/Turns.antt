@@ -9,7 +9,8 @@ use Rattle.sb_types.specs.Faults.{Gives}
 use Rattle.sb_types.specs.Limits.{is_delta}
 use Rattle.sb_types.specs.Records.{Table, Block}
 use Rattle.sb_holdings.specs.Held.{Held}
-use Rattle.sb_holdings.specs.Nodes.{NodeEvent, Wrote, opened_node, node_after_event}
+use Rattle.sb_holdings.specs.Nodes.{NodeEvent, Wrote, Purged, opened_node, node_after_event}
+use Rattle.sb_node.specs.Purging.{purge_answer}
 use Rattle.sb_holdings.specs.Plain.{tables_from}
 use Rattle.sb_digest.specs.Digests.{Pair, Digest, digest_of, staged_pair}
 use Rattle.sb_codec.specs.declared.message.Message.{Message}
@@ -127,6 +128,29 @@ purge_turn p floor (Err fault) log = record {
 -- the log is asked to drop its tombstones up to a floor
 abbrev pub Purges : Place → ℕ → Turn → Type 0
 Purges p floor turn = (result : Result (Unit {0}) Fault) × (log : Log) × LogPurges p.log floor result log × (turn ≡ purge_turn p floor result log)
+
+-- ---- a purge of a node that stays up
+
+abbrev pub trim_answer : ℕ → Result (Unit {0}) Fault → Result Answer Fault
+trim_answer floor (Ok done) = Ok (answers.Trimmed floor)
+trim_answer floor (Err fault) = Err fault
+
+-- the node's own table is purged, and the log gave this answer; the node stays up
+abbrev pub trim_turn : Place → ℕ → Result (Unit {0}) Fault → Log → Turn
+trim_turn p floor result log = record {
+  answer = trim_answer floor result;
+  effect = goes (Purged floor ∷ []);
+  place = record { me = p.me; log = log; core = with_node p.core (node_after_event p.core.node (Purged floor)); waiting = p.waiting; is_up = p.is_up };
+  frames = [];
+}
+
+-- if the node refuses the floor, nothing changes; if not, the log is asked to drop its tombstones up to it as well
+abbrev pub TrimEnds : Result (Unit {0}) Fault → Place → ℕ → Turn → Type 0
+TrimEnds (Err fault) p floor turn = turn ≡ still p (Err fault)
+TrimEnds (Ok done) p floor turn = (result : Result (Unit {0}) Fault) × (log : Log) × LogPurges p.log floor result log × (turn ≡ trim_turn p floor result log)
+
+abbrev pub Trims : Place → ℕ → Turn → Type 0
+Trims p floor turn = TrimEnds (purge_answer p.core.node floor) p floor turn
 
 -- ---- an own write enters
 

@@ -75,6 +75,7 @@ pub(crate) fn node_of(connections: &[Connection], event: &Event) -> Option<Name>
         | Event::Take(me)
         | Event::CrashInCommit(me, _, _, _)
         | Event::Purge(me, _)
+        | Event::Trim(me, _)
         | Event::Restart(me)
         | Event::Connect(me, _)
         | Event::Offer(me, _, _)

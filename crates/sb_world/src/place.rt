@@ -10,7 +10,7 @@ ghost use Rattle.sb_node.specs.Answers.{IsDelta, IsAnswer};
 ghost use Rattle.sb_types.specs.Faults.{Gives};
 ghost use Rattle.sb_types.specs.Runs.{shown_at};
 ghost use Rattle.sb_holdings.specs.Held.{shown_of};
-ghost use Rattle.sb_world.specs.Turns.{Effect, rests, Commits, Crashes, Purges, TakesFirst, Restarts};
+ghost use Rattle.sb_world.specs.Turns.{Effect, rests, Commits, Crashes, Purges, Trims, TakesFirst, Restarts};
 ghost use Rattle.sb_world.specs.Turns as spec;
 ghost use Rattle.sb_world.specs.declared.event.Answer.TheVariants as answers;
 
@@ -125,6 +125,20 @@ impl<L: WriteLog> Place<L> {
             }
             Err(fault) => Err(fault),
         }
+    }
+
+    /// Purges the node's own table up to a floor, and asks the log to drop its tombstones up to there. `FloorTooHigh` if
+    /// the node does not hold so far, with nothing changed; then the faults of `WriteLog::purge`, with the table purged.
+    pub(crate) fn trim(&mut self, floor: u64) -> Result<Answer, Fault>
+        ensures { (effect : Effect) × Trims self.old floor (record { answer = result; effect = effect; place = self.new; frames = [] }) }
+    {
+        if let Err(fault) = self.core.purge(floor) {
+            return Err(fault);
+        }
+        if let Err(fault) = self.log.purge(floor) {
+            return Err(fault);
+        }
+        Ok(Answer::Trimmed(floor))
     }
 
     /// Enters the oldest write that waits. `Nothing` if no write waits. The faults of `NodeCore::take_own`, and then
