@@ -304,6 +304,46 @@ Examples:
   $ attrdir get --control a.ctl --owner b --format json
   {\"key\":\"web/addr\",\"kind\":\"addr\",\"owner\":\"b\",\"value\":\"10.0.0.2:80\",\"version\":1}";
 
+pub(crate) const STATUS: &str =
+    "A node is ready if it is caught up, its log takes writes, and it saw no other node write under its name. It is caught up once each of its peers
+has had a round that ended since it started: with all exchanges, or with a fault if the peer does not answer. It stays so.
+
+With --format text it prints a line `WORD VALUE` for each of these:
+  ready         yes or no
+  node, cluster, release
+  uptime        how many milliseconds ago it started
+  caught_up     yes or no
+  log_fault     why its log takes no writes, none if it takes them
+  conflict      the version that another node wrote under its name, or none
+  version       its last version
+  keys          keys of its own, removed ones counted
+  removals      how many of these are removed
+  owners        owners that it holds, itself counted
+  peers         how many peers it dials
+  rounds        rounds that it made, and round_faults: how many of these had a fault
+  sessions      connections of peers that it took
+  workers, workers_busy, all_workers_busy, session_faults, last_session_fault, other_versions, turned_away, full_writes
+                its workers, and what it suffered since it started
+Then comes a line `peer STATE PATH` for each peer. STATE is answers, not_dialed, unreachable, silent, unreadable, hung_up, broken_off, ended_early
+or fault_N. With --format json it prints the same as one JSON object. In place of the number of peers that has the peers.
+
+A fault ends the command. Standard error has `fault N`, its text, and what to do:
+  1       no memory
+  10-14   what answers is not a control socket
+  16      no node could be reached, or it was silent for 60 s, or it ended the connection
+  17      the request or the answer cannot be written
+  28      the node ended before it answered, or it is of release 0.2.0, which does not know the question
+  29      the answer takes more than 65,536 reads
+
+The exit status is 0 if the node is ready, 1 if it is not, 2 after a wrong command line, and 3 after a fault.
+
+Example:
+  $ attrdir status --control a.ctl --wait 10000 | head -n 4
+  ready yes
+  node a
+  cluster c
+  release 0.2.0";
+
 pub(crate) const OWNERS: &str =
     "It asks the node as another node would, under a name of its own, and writes nothing there. Each line has an owner and the version up to
 which the node holds its writes, in ascending owner. So a script can see whether a node has heard of a write: `set` prints its version.

@@ -12,7 +12,8 @@ use Rattle.sb_types.specs.declared.format.TheConstants.{TAG_REMOVED}
 use Rattle.sb_digest.specs.Digests.{Pair, Digest}
 use Rattle.sb_codec.specs.declared.message.hello.Hello.{Hello}
 use Rattle.sb_codec.specs.declared.message.ask.Ask.{Ask}
-use Rattle.sb_codec.specs.Records.{Row, Rows}
+use Rattle.sb_codec.specs.declared.message.node_identity.NodeIdentity.{NodeIdentity}
+use Rattle.sb_codec.specs.Records.{Row, Rows, Figure, Peer, NodeStatus}
 
 -- a number of the width, high byte first
 unfoldable pub number : Width → ℕ → List ℕ
@@ -85,3 +86,15 @@ row r = text r.owner ++ (text r.key ++ (number w64 r.version ++ value r.value))
 
 unfoldable pub page : Rows → List ℕ
 page r = flag r.more ++ list row r.rows
+
+unfoldable pub identity : NodeIdentity → List ℕ
+identity i = text i.node ++ (text i.cluster ++ text i.release)
+
+unfoldable pub figure : Figure → List ℕ
+figure f = f.number ∷ number w64 f.value
+
+unfoldable pub peer : Peer → List ℕ
+peer p = text p.path ++ (p.state ∷ number w64 p.round)
+
+unfoldable pub status : NodeStatus → List ℕ
+status s = flag s.more ++ (identity s.identity ++ (list figure s.figures ++ list peer s.peers))

@@ -79,6 +79,8 @@ pub(crate) fn payload_length(message: &Message) -> u64
         Message::Put(write) => put_length(write),
         Message::Done(_) => BYTE_LENGTH + NUMBER_LENGTH,
         Message::Refused(_) => BYTE_LENGTH + BYTE_LENGTH,
+        Message::AskStatus(_) => BYTE_LENGTH + NUMBER_LENGTH,
+        Message::NodeStatus(status) => status.encoded_length(),
     }
 }
 

@@ -74,6 +74,8 @@ Answers seen opening budget old owed before (kinds.Bye x) new owes after reply =
 Answers seen opening budget old owed before (kinds.Rows x) new owes after reply = (new ≡ old) × (owes ≡ owed) × (after ≡ before) × IsUnknown reply
 Answers seen opening budget old owed before (kinds.Done x) new owes after reply = (new ≡ old) × (owes ≡ owed) × (after ≡ before) × IsUnknown reply
 Answers seen opening budget old owed before (kinds.Refused x) new owes after reply = (new ≡ old) × (owes ≡ owed) × (after ≡ before) × IsUnknown reply
+Answers seen opening budget old owed before (kinds.AskStatus x) new owes after reply = (new ≡ old) × (owes ≡ owed) × (after ≡ before) × IsUnknown reply
+Answers seen opening budget old owed before (kinds.NodeStatus x) new owes after reply = (new ≡ old) × (owes ≡ owed) × (after ≡ before) × IsUnknown reply
 
 -- this request is answered; or it failed, and nothing changes
 abbrev pub AnswersTo : {L : Type 0} → (L → Log) → Node → ℕ → L → Option Committed → Seat → Message → L → Option Committed → Seat → Bool → Type 0

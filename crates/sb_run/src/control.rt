@@ -20,8 +20,8 @@ use sb_frames::{Connection, send};
 use sb_log::WriteLog;
 use sb_query::answer;
 use sb_types::{
-    Fault, KIND_BYE, KIND_DELTA, KIND_DIGEST, KIND_DONE, KIND_HELLO, KIND_REFUSED, KIND_ROWS, Key,
-    Settings, Slot,
+    Fault, KIND_ASK_STATUS, KIND_BYE, KIND_DELTA, KIND_DIGEST, KIND_DONE, KIND_HELLO,
+    KIND_NODE_STATUS, KIND_REFUSED, KIND_ROWS, Key, Settings, Slot,
 };
 use sb_views::NodeTag;
 use std::alloc::Global;
@@ -131,6 +131,8 @@ fn reply_to<L: WriteLog, S: DirectoryTag, H: Wait + Drop, Q: Wait>(
         Message::Rows(_) => (seat, refused_by(Fault::UnknownKind(KIND_ROWS))),
         Message::Done(_) => (seat, refused_by(Fault::UnknownKind(KIND_DONE))),
         Message::Refused(_) => (seat, refused_by(Fault::UnknownKind(KIND_REFUSED))),
+        Message::AskStatus(_) => (seat, refused_by(Fault::UnknownKind(KIND_ASK_STATUS))),
+        Message::NodeStatus(_) => (seat, refused_by(Fault::UnknownKind(KIND_NODE_STATUS))),
     }
 }
 

@@ -137,6 +137,8 @@ fn add_message(words: &mut String, message: &Message) -> Result<(), Fault> {
         Message::Put(_) => add(words, "put\n"),
         Message::Done(_) => add(words, "done\n"),
         Message::Refused(_) => add(words, "refused\n"),
+        Message::AskStatus(_) => add(words, "ask status\n"),
+        Message::NodeStatus(_) => add(words, "node status\n"),
     }
 }
 

@@ -84,7 +84,7 @@ fn has_addr_bytes(text: &[u8]) -> bool
     text.iter().all(|byte| test_addr_byte(*byte))
 }
 
-fn test_utf8(text: &[u8]) -> bool
+pub(crate) fn test_utf8(text: &[u8]) -> bool
     ensures { result ≡ is_utf8 text.now }
 {
     str::from_utf8(text).is_ok()
