@@ -96,6 +96,13 @@ fn hear_push(rt: &impl Abort, listener: &UnixListener) -> (UnixStream, [u8; PUSH
     (dialed, heard)
 }
 
+/// Whether this is the Hello of a, the delta with its first write, and the Bye.
+fn is_push(heard: &[u8; PUSH]) -> bool {
+    let (hello, rest) = heard.split_at(12);
+    let (delta, bye) = rest.split_at(56);
+    hello == HELLO_A && delta == DELTA_A.as_slice() && bye == BYE
+}
+
 /// Pushes a delta to the node as c, and hears until the node hangs up.
 fn push_as_c<R: Net + Abort>(rt: &R, sock: &str, delta: &[u8]) {
     let stream = reach(rt, sock);
@@ -152,9 +159,11 @@ fn a_push_brings_a_write_and_nothing_else(rt: HostRuntime) {
         || hear_and_end(&rt, alloc, &listener, "push.control"),
     );
     got(&rt, fs::remove_file(&rt, "push.b"));
-    same(&rt, &&heard[..12], &HELLO_A);
-    same(&rt, &&heard[12..68], &&DELTA_A[..]);
-    same(&rt, &&heard[68..], &BYE);
+    holds(
+        &rt,
+        "it is the Hello, one delta and the Bye",
+        is_push(&heard),
+    );
     holds(&rt, "nobody dials again", is_alone);
     let ran = got(&rt, ran);
     same(&rt, &(ran.rounds, ran.faults), &(2, 0));
