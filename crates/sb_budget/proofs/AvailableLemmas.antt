@@ -89,7 +89,7 @@ module _ (reaches : List ℕ → Bool) (shown_as : List ℕ → Table → Table)
 
   -- as items
 
-  items_all : (ps : List (List ℕ × Holder)) → items_of_all (all_parts (each_shown ps)) ≡ offers.available reaches shown_as known ps
+  items_all : (ps : List (List ℕ × Holder)) → items_of_all (all_parts (each_shown ps)) ≡ offers.available_items reaches shown_as known ps
   items_all [] = refl
   items_all (p ∷ ps) =
       map-append _ (part_at (p.0, p.1.shown)) (all_parts (each_shown ps))

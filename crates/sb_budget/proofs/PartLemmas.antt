@@ -8,7 +8,7 @@ use Rattle.std.proofs.lemmas.Bool.{and_parts, ltb-true, lt-ltb, cond-true}
 use Rattle.std.proofs.lemmas.List.Elements.{All-nil, All-cons}
 use Rattle.std.proofs.lemmas.List.Kept.{AllPairs-cons}
 use Rattle.sb_types.specs.Records.{Entry, Table}
-use Rattle.sb_types.specs.Runs.{Stands, above, are_ascending, IsRun}
+use Rattle.sb_types.specs.Runs.{Stands, newer_entries, are_ascending, IsRun}
 use Rattle.sb_table.proofs.Order.{ascending_kept}
 use Rattle.sb_budget.specs.declared.offered.Offered.{Offered}
 use Rattle.sb_budget.specs.Available.{ranked_item, ranked_from, ranked_of}
@@ -18,7 +18,7 @@ use Rattle.sb_budget.proofs.RankLemmas.{of_three}
 use Rattle.sb_budget.proofs.AvailableLemmas.{all_parts}
 
 -- a version is above 0
-pub above_zero : (before : ℕ) (es : List Entry) → are_ascending before es ≡ true → above 0 es ≡ es
+pub above_zero : (before : ℕ) (es : List Entry) → are_ascending before es ≡ true → newer_entries 0 es ≡ es
 above_zero before [] up = refl
 above_zero before (e ∷ es) up =
     let p = and_parts (nat_lt before e.version) (are_ascending e.version es) up in

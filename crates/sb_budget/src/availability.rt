@@ -1,6 +1,6 @@
 //! What a node has to offer in answer to a digest.
 ghost use Rattle.std.specs.Prelude.{◌≡◌, ◌++◌, [], length, OnOk, IfOk, IfErr};
-ghost use Rattle.sb_types.specs.Runs.{above};
+ghost use Rattle.sb_types.specs.Runs.{newer_entries};
 ghost use Rattle.sb_budget.specs.Available.{available_for, ranked_from, ranked_these, ranked_of, AreRanked};
 ghost use Rattle.sb_budget.specs.Cut.{items_of_all, CanCut};
 ghost use Rattle.sb_budget.specs.Orders.{IsOffer};
@@ -38,8 +38,8 @@ fn offer_entries(
     number: u64,
     count: u64,
 ) -> Result<(), Fault>
-    requires { count ≡ length (above number table.now.entries) }
-    ensures offered { OnOk result (offered.new.items ≡ offered.old.items ++ ranked_from 0 owner table.now number count (above number table.now.entries)) }
+    requires { count ≡ length (newer_entries number table.now.entries) }
+    ensures offered { OnOk result (offered.new.items ≡ offered.old.items ++ ranked_from 0 owner table.now number count (newer_entries number table.now.entries)) }
     ensures memory { IfErr result (λ fault. fault ≡ Fault.NoMemory) }
 {
     let (floor, upto) = (table.floor(), table.upto());

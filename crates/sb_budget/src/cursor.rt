@@ -1,7 +1,7 @@
 //! What is offered of each owner, one item after another, without a copy.
 ghost use Rattle.std.specs.Prelude.{◌≡◌, ◌∷◌, All, IfOk, IfErr};
 ghost use Rattle.std.specs.Option.{option_copied, option_map};
-ghost use Rattle.sb_types.specs.Runs.{above};
+ghost use Rattle.sb_types.specs.Runs.{newer_entries};
 ghost use Rattle.sb_budget.specs.Available.{ranked_of};
 ghost use Rattle.sb_budget.specs.Cursors.{first_place};
 ghost use Rattle.sb_budget.specs.Making.{head_of};
@@ -27,7 +27,7 @@ struct Place<'a> {
 impl<'a> Place<'a> {
     /// Returns the place at the first entry of a table above a version, if there is one.
     fn first(table: &OfferedTable<'a>, after: u64) -> Option<Place<'a>>
-        ensures { option_map (λ p. record { rank = p.rank; entry = p.entry.now; later = p.later }) result ≡ first_place (above after table.now.entries) }
+        ensures { option_map (λ p. record { rank = p.rank; entry = p.entry.now; later = p.later }) result ≡ first_place (newer_entries after table.now.entries) }
     {
         let mut later = table.after(after);
         let entry = later.next()?;
@@ -54,7 +54,7 @@ pub struct Cursor<'a> {
 impl<'a> Model for Cursor<'a> {
     ghost use Rattle.std.specs.Prelude.{◌≡◌, ◌<◌, ◌^◌, length};
     ghost use Rattle.std.specs.Option.{option_map};
-    ghost use Rattle.sb_types.specs.Runs.{above};
+    ghost use Rattle.sb_types.specs.Runs.{newer_entries};
     ghost use Rattle.sb_budget.specs.Parts.{Part};
     ghost use Rattle.sb_budget.specs.Cursors.{part_at, IsPlace};
 
@@ -62,7 +62,7 @@ impl<'a> Model for Cursor<'a> {
 
     ghost view = { λ c. part_at c.owner.now c.table c.after (option_map (λ p. record { rank = p.rank; entry = p.entry.now; later = p.later }) c.place) };
 
-    ghost invariant = { λ c. IsPlace c.table c.after (option_map (λ p. record { rank = p.rank; entry = p.entry.now; later = p.later }) c.place) × (length (above c.after c.table.entries) < 2 ^ 63) };
+    ghost invariant = { λ c. IsPlace c.table c.after (option_map (λ p. record { rank = p.rank; entry = p.entry.now; later = p.later }) c.place) × (length (newer_entries c.after c.table.entries) < 2 ^ 63) };
 }
 
 impl<'a> Cursor<'a> {

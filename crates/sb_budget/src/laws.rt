@@ -8,7 +8,7 @@ ghost use Rattle.sb_types.specs.Writes.{Holds, Honest};
 ghost use Rattle.sb_holdings.specs.Held.{Held, shown_of};
 ghost use Rattle.sb_digest.specs.Digests.{Digest, covers, held_in};
 ghost use Rattle.sb_budget.specs.Available.{number_for, offered_table, available_for};
-ghost use Rattle.sb_budget.specs.Offers.{Item, of_owner, items_of, block_of, is_named, are_named_once, available};
+ghost use Rattle.sb_budget.specs.Offers.{Item, of_owner, items_of, block_of, is_named, are_named_once, available_items};
 ghost use Rattle.sb_budget.specs.Cut.{IsCut};
 
 /// If a table holds what its owner wrote, each block of a prefix of what is offered of it is honest.
@@ -25,11 +25,11 @@ pub fn offers_are_honest()
 pub fn available_by_owner()
     ensures covered { (covers : List ℕ → Bool) (offered : List ℕ → Table → Table) (number : List ℕ → Table → ℕ) (owners : List (List ℕ × Holder)) (p : List ℕ × Holder) →
         are_named_once owners ≡ true → Stands owners p → covers p.0 ≡ true →
-        of_owner p.0 (available covers offered number owners) ≡ items_of p.0 (offered p.0 p.1.shown) (number p.0 p.1.shown) }
+        of_owner p.0 (available_items covers offered number owners) ≡ items_of p.0 (offered p.0 p.1.shown) (number p.0 p.1.shown) }
     ensures others { (covers : List ℕ → Bool) (offered : List ℕ → Table → Table) (number : List ℕ → Table → ℕ) (owners : List (List ℕ × Holder)) (owner : List ℕ) →
-        covers owner ≡ false → of_owner owner (available covers offered number owners) ≡ [] }
+        covers owner ≡ false → of_owner owner (available_items covers offered number owners) ≡ [] }
     ensures unknown { (covers : List ℕ → Bool) (offered : List ℕ → Table → Table) (number : List ℕ → Table → ℕ) (owners : List (List ℕ × Holder)) (owner : List ℕ) →
-        is_named owner owners ≡ false → of_owner owner (available covers offered number owners) ≡ [] }
+        is_named owner owners ≡ false → of_owner owner (available_items covers offered number owners) ≡ [] }
 {}
 
 /// Suppose a table holds an owner's writes, and the owner's items are what the table has above a number. Then the

@@ -1,8 +1,8 @@
 //! A table as it is offered to one peer.
 ghost use Rattle.std.specs.Prelude.{◌≡◌, ◌≤◌, ◌<◌, ◌^◌, ◌||◌, [], ◌∷◌, MatchOption, length, nat_lt};
 ghost use Rattle.std.specs.Iterator.{YieldsFirstRef, item_count};
-ghost use Rattle.sb_types.specs.Runs.{above, is_set, live};
-ghost use Rattle.sb_table.specs.Floors.{IsKeptTable, raised};
+ghost use Rattle.sb_types.specs.Runs.{newer_entries, is_set, live_entries};
+ghost use Rattle.sb_table.specs.Floors.{IsKeptTable, table_at_floor};
 ghost use Rattle.sb_budget.specs.Available.{number_for, offered_table};
 
 use sb_digest::Digest;
@@ -30,20 +30,20 @@ pub(crate) struct LiveEntries<'a> {
 
 impl<'a> Model for LiveEntries<'a> {
     ghost use Rattle.std.specs.Prelude.{List, length, ◌<◌, ◌^◌};
-    ghost use Rattle.sb_types.specs.Runs.{live};
+    ghost use Rattle.sb_types.specs.Runs.{live_entries};
     ghost use Rattle.sb_types.specs.Records as records;
 
     ghost Value = { List records.Entry };
 
-    ghost view = { λ it. live it.floor it.entries };
+    ghost view = { λ it. live_entries it.floor it.entries };
 
-    ghost invariant = { λ it. length (live it.floor it.entries) < 2 ^ 63 };
+    ghost invariant = { λ it. length (live_entries it.floor it.entries) < 2 ^ 63 };
 }
 
 impl<'a> LiveEntries<'a> {
     fn new(entries: After<'a>, floor: u64) -> LiveEntries<'a>
-        requires { length (live floor entries) < 2 ^ 63 }
-        ensures { result ≡ live floor entries.entry }
+        requires { length (live_entries floor entries) < 2 ^ 63 }
+        ensures { result ≡ live_entries floor entries.entry }
     {
         LiveEntries { entries, floor }
     }
@@ -52,7 +52,7 @@ impl<'a> LiveEntries<'a> {
 /// Takes the entries up to the first one that is live, and returns that one.
 #[tactic(auto, using(crate::proofs::OfferedLemmas::first_gone, crate::proofs::OfferedLemmas::first_stays))]
 fn next_live<'a>(entries: &mut After<'a>, floor: u64) -> Option<&'a Entry>
-    ensures { MatchOption result ((live floor entries.old ≡ []) × (live floor entries.new ≡ [])) (λ entry. live floor entries.old ≡ entry.now ∷ live floor entries.new) }
+    ensures { MatchOption result ((live_entries floor entries.old ≡ []) × (live_entries floor entries.new ≡ [])) (λ entry. live_entries floor entries.old ≡ entry.now ∷ live_entries floor entries.new) }
 {
     while let Some(entry) = entries.next() {
         if is_live(entry, floor) {
@@ -87,11 +87,11 @@ pub(crate) struct OfferedTable<'a> {
 impl<'a> Model for OfferedTable<'a> {
     ghost use Rattle.std.specs.Prelude.{◌≤◌};
     ghost use Rattle.sb_types.specs.Records as records;
-    ghost use Rattle.sb_table.specs.Floors.{raised};
+    ghost use Rattle.sb_table.specs.Floors.{table_at_floor};
 
     ghost Value = { records.Table };
 
-    ghost view = { λ t. raised t.table.now.held t.floor t.table.now };
+    ghost view = { λ t. table_at_floor t.table.now.held t.floor t.table.now };
 
     ghost invariant = { λ t. (t.table.now.floor ≤ t.floor) × (t.floor ≤ t.table.now.held) };
 }
@@ -101,7 +101,7 @@ impl<'a> OfferedTable<'a> {
     fn new(table: &'a Table, floor: u64) -> OfferedTable<'a>
         requires least { table.now.floor ≤ floor }
         requires most { floor ≤ table.now.held }
-        ensures { result ≡ raised table.now.held floor table.now }
+        ensures { result ≡ table_at_floor table.now.held floor table.now }
     {
         OfferedTable { table, floor }
     }
@@ -145,7 +145,7 @@ impl<'a> OfferedTable<'a> {
 
     /// Returns the entries above a version, in ascending version. It takes no memory.
     pub(crate) fn after(&self, version: u64) -> LiveEntries<'a>
-        ensures entries { result ≡ above version self.now.entries }
+        ensures entries { result ≡ newer_entries version self.now.entries }
     {
         LiveEntries::new(self.table.after(version), self.floor)
     }
@@ -154,7 +154,7 @@ impl<'a> OfferedTable<'a> {
     /// that is offered under its own floor.
     #[tactic(auto, using(crate::proofs::OfferedLemmas::all_live))]
     pub(crate) fn count_after(&self, version: u64) -> u64
-        ensures count { result ≡ length (above version self.now.entries) }
+        ensures count { result ≡ length (newer_entries version self.now.entries) }
     {
         if version == 0 && self.floor == self.table.floor() {
             self.table.len() as u64

@@ -19,7 +19,7 @@ use Rattle.sb_codec.specs.declared.message.node_identity.NodeIdentity.{NodeIdent
 use Rattle.sb_codec.specs.declared.message.hello.Hello.{Hello}
 use Rattle.sb_codec.specs.Limits.{is_hello, is_reason, is_optional, is_place, is_ask, is_row, are_rows_above, are_page_rows, is_page, is_write, is_version, is_fault_number, is_count, is_identity, is_figure, is_peer, are_figures_above, are_status_parts, is_status}
 use Rattle.sb_codec.specs.Fields.{number_field}
-use Rattle.sb_codec.specs.Spelling.{number, text, optional, hello, pair, digest, place, ask, row, page, write, identity, figure, peer, status}
+use Rattle.sb_codec.specs.Spelling.{number, text, optional_text, hello, pair, digest, place, ask, row, page, write, identity, figure, peer, status}
 use Rattle.sb_codec.specs.Reading.{hello_of_parts, hello_field, bye_field, write_of_parts, write_field, done_field, refused_field, unless_empty, is_empty_or, optional_field, pair_of_parts, pair_field, digest_of_parts, digest_field, prefix_field, are_alike, place_of, place_field, ask_of, ask_field, is_written, row_of_parts, row_field, are_page_parts, page_of, page_field, ask_status_field, short_text_field, identity_of_parts, identity_field, figure_of_parts, figure_field, peer_of_parts, peer_field, status_of_parts, status_field}
 use Rattle.sb_codec.proofs.Taken.{Takes, wide64, fits_takes, made_takes, then_takes, where_takes, byte_takes, number_takes, text_takes, list_takes}
 use Rattle.sb_codec.proofs.Again.{Again, made_again, then_again, where_again, byte_again, number_again, text_again, list_again}
@@ -74,15 +74,15 @@ refused_again fault fits = where_again is_fault_number fits (byte_again fault)
 
 -- ---- what may be none
 
-optional_fits : (test : List ℕ → Bool) (t : List ℕ) → is_empty_or test t ≡ true → (is_optional test (unless_empty t) ≡ true) × (optional (unless_empty t) ≡ text t)
+optional_fits : (test : List ℕ → Bool) (t : List ℕ) → is_empty_or test t ≡ true → (is_optional test (unless_empty t) ≡ true) × (optional_text (unless_empty t) ≡ text t)
 optional_fits test [] fits = (refl, refl)
 optional_fits test (byte ∷ bytes) fits = (fits, refl)
 
-pub optional_takes : (test : List ℕ → Bool) → Takes (λ t. is_optional test t ≡ true) optional (optional_field test)
+pub optional_takes : (test : List ℕ → Bool) → Takes (λ t. is_optional test t ≡ true) optional_text (optional_field test)
 unfolding optional_field
 optional_takes test = made_takes unless_empty (where_takes text_takes) (λ t fits. optional_fits test t fits.1)
 
-pub optional_again : (test : List ℕ → Bool) → test [] ≡ false → (t : Option (List ℕ)) → is_optional test t ≡ true → Again (optional_field test) (optional t) t
+pub optional_again : (test : List ℕ → Bool) → test [] ≡ false → (t : Option (List ℕ)) → is_optional test t ≡ true → Again (optional_field test) (optional_text t) t
 unfolding optional_field
 optional_again test some None fits = made_again unless_empty (where_again (is_empty_or test) refl (text_again []))
 optional_again test some (Some []) fits = absurd cc
@@ -112,7 +112,7 @@ bound_from : (b : Option (List ℕ)) → is_optional is_name b ≡ true → is_b
 bound_from None fits = refl
 bound_from (Some t) fits = fits
 
-bound_again : (b : Option (List ℕ)) → is_bound b ≡ true → Again (optional_field is_name) (optional b) b
+bound_again : (b : Option (List ℕ)) → is_bound b ≡ true → Again (optional_field is_name) (optional_text b) b
 bound_again None fits = optional_again is_name refl None refl
 bound_again (Some t) fits = optional_again is_name refl (Some t) fits
 
@@ -154,7 +154,7 @@ unfolding prefix_field
 prefix_again t fits = where_again is_prefix fits (text_again t)
 
 place_fits : (owner key : Option (List ℕ)) → is_optional is_name owner ≡ true → is_optional is_key key ≡ true → are_alike (owner, key) ≡ true
-    → (is_optional is_place (place_of (owner, key)) ≡ true) × (place (place_of (owner, key)) ≡ optional owner ++ optional key)
+    → (is_optional is_place (place_of (owner, key)) ≡ true) × (place (place_of (owner, key)) ≡ optional_text owner ++ optional_text key)
 place_fits None None name key alike = (refl, refl)
 place_fits None (Some k) name key alike = absurd cc
 place_fits (Some o) None name key alike = absurd cc

@@ -11,7 +11,7 @@ use Rattle.sb_types.specs.Faults.{Gives}
 use Rattle.sb_codec.specs.declared.message.Message.{Message}
 use Rattle.sb_codec.specs.declared.message.Message.TheVariants.{Hello, Digest, Delta, Bye, Ask, Rows, Put, Done, Refused, AskStatus, NodeStatus}
 use Rattle.sb_types.specs.declared.format.TheConstants.{KIND_HELLO, KIND_DIGEST, KIND_DELTA, KIND_BYE, KIND_ASK, KIND_ROWS, KIND_PUT, KIND_DONE, KIND_REFUSED, KIND_ASK_STATUS, KIND_NODE_STATUS}
-use Rattle.sb_codec.specs.Fields.{AreBytes, byte_field, case_field, whole}
+use Rattle.sb_codec.specs.Fields.{AreBytes, byte_field, case_field, whole_value}
 use Rattle.sb_codec.specs.Messages.{spelling, is_message, Spells, IsSole, is_kind, fault_of, message_cases, message_field, reading}
 use Rattle.sb_codec.proofs.Taken.{Takes, tagged_takes, made_case}
 use Rattle.sb_codec.proofs.Again.{Again, made_again, tagged_again}
@@ -82,7 +82,7 @@ is_spelled payload m fits bytes = record { limits = fits; most = rw bytes (spell
 pub is_found : (payload : List ℕ) (m : Message) → AreBytes payload → reading payload ≡ Ok m → Spells payload m
 unfolding reading
 is_found payload m are e =
-    let read = nothing_behind (message_field payload) m (ok_some (whole message_field payload) (fault_of payload) m e) in
+    let read = nothing_behind (message_field payload) m (ok_some (whole_value message_field payload) (fault_of payload) m e) in
     let found = message_takes.parts payload m [] are read in
     let bytes : payload ≡ spelling m = found.1 ∙ append-nil (spelling m) in
     is_spelled payload m found.0 bytes

@@ -26,7 +26,7 @@ use Rattle.sb_codec.specs.Limits.{is_optional, is_place}
 use Rattle.sb_types.specs.Limits.{is_slot}
 use Rattle.sb_codec.specs.declared.message.Message.{Message}
 use Rattle.sb_codec.specs.declared.message.Message.TheVariants.{Hello, Digest, Delta, Bye, Ask, Rows, Put, Done, Refused, AskStatus, NodeStatus}
-use Rattle.sb_codec.specs.Spelling.{number, text, list, content, value, slot, entry, block, optional, hello, pair, digest, place, ask, row, page, write, identity, figure, peer, status}
+use Rattle.sb_codec.specs.Spelling.{number, text, list, content, value, slot, entry, block, optional_text, hello, pair, digest, place, ask, row, page, write, identity, figure, peer, status}
 use Rattle.sb_codec.specs.Messages.{spelling, is_message}
 use Rattle.sb_codec.proofs.Parts.{between_parts, delta_parts}
 use Rattle.sb_codec.proofs.Bodies.{digest_within, page_within, status_within}
@@ -80,7 +80,7 @@ block-length b =
       length-list entry entry_length entry-length b.entries,
     )
 
-optional-length : (t : Option (List ℕ)) → length (optional t) ≡ bound_length t
+optional-length : (t : Option (List ℕ)) → length (optional_text t) ≡ bound_length t
 optional-length None = refl
 optional-length (Some t) = omega arith
 
@@ -101,7 +101,7 @@ digest-length : (d : digests.Digest) → 1 + length (digest d) ≡ digest_length
 unfolding digest
 digest-length d =
     omega
-    (arith, length-append (optional d.from) (optional d.until ++ list pair d.pairs), length-append (optional d.until) (list pair d.pairs), optional-length d.from, optional-length d.until, length-list pair pair_length pair-length d.pairs)
+    (arith, length-append (optional_text d.from) (optional_text d.until ++ list pair d.pairs), length-append (optional_text d.until) (list pair d.pairs), optional-length d.from, optional-length d.until, length-list pair pair_length pair-length d.pairs)
 
 row-length : (r : records.Row) → length (row r) ≡ row_length r
 unfolding row
@@ -151,9 +151,9 @@ pub delta-spelled : (blocks : List Block) → length (spelling (Delta blocks)) �
 unfolding spelling
 delta-spelled blocks = omega (arith, length-list block block_length block-length blocks)
 
-pub ask-spelled : (a : asks.Ask) → length (spelling (Ask a)) ≡ 2 + length (optional a.owner) + length a.prefix + length (place a.after)
+pub ask-spelled : (a : asks.Ask) → length (spelling (Ask a)) ≡ 2 + length (optional_text a.owner) + length a.prefix + length (place a.after)
 unfolding spelling ask
-ask-spelled a = omega (arith, length-append (optional a.owner) (text a.prefix ++ place a.after), length-append (text a.prefix) (place a.after))
+ask-spelled a = omega (arith, length-append (optional_text a.owner) (text a.prefix ++ place a.after), length-append (text a.prefix) (place a.after))
 
 pub page-spelled : (p : records.Rows) → length (spelling (Rows p)) ≡ rows_length p.rows
 unfolding spelling
@@ -182,7 +182,7 @@ slot-most (Set v) fits = omega (arith, length_most v fits)
 prefix-most : (t : List ℕ) → is_prefix t ≡ true → length t ≤ 64
 prefix-most t fits = leb-true (length t) KEY_MOST (and_parts (nat_le (length t) KEY_MOST) (list_all is_key_byte t) fits).0
 
-optional-most : (t : Option (List ℕ)) → is_optional is_name t ≡ true → length (optional t) ≤ 33
+optional-most : (t : Option (List ℕ)) → is_optional is_name t ≡ true → length (optional_text t) ≤ 33
 optional-most None fits = omega arith
 optional-most (Some t) fits = omega (arith, name-most t fits)
 

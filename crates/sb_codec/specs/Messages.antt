@@ -12,7 +12,7 @@ use Rattle.sb_codec.specs.Limits.{is_hello, is_reason, is_ask, is_page, is_write
 use Rattle.std.specs.Int.{w64}
 use Rattle.sb_types.specs.Text.{is_between}
 use Rattle.sb_codec.specs.Spelling.{number, list, block, hello, digest, ask, page, write, status}
-use Rattle.sb_codec.specs.Fields.{Field, made_field, tagged_field, whole}
+use Rattle.sb_codec.specs.Fields.{Field, made_field, tagged_field, whole_value}
 use Rattle.sb_codec.specs.Reading.{delta_field, hello_field, digest_field, bye_field, ask_field, page_field, write_field, done_field, refused_field, ask_status_field, status_field}
 
 -- the kind, and the body
@@ -90,4 +90,4 @@ message_field = tagged_field message_cases
 
 -- the message that all of the payload spells, or the fault
 unfoldable pub reading : List ℕ → Result Message Fault
-reading payload = ok_or (whole message_field payload) (fault_of payload)
+reading payload = ok_or (whole_value message_field payload) (fault_of payload)

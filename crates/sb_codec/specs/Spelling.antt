@@ -63,15 +63,15 @@ unfoldable pub write : Write → List ℕ
 write w = text w.key ++ slot w.slot
 
 -- a text; or the empty text, if there is none
-abbrev pub optional : Option (List ℕ) → List ℕ
-optional None = text []
-optional (Some bytes) = text bytes
+abbrev pub optional_text : Option (List ℕ) → List ℕ
+optional_text None = text []
+optional_text (Some bytes) = text bytes
 
 unfoldable pub pair : Pair → List ℕ
 pair p = text p.owner ++ (number w64 p.held ++ (number w64 p.floor ++ number w64 p.progress))
 
 unfoldable pub digest : Digest → List ℕ
-digest d = flag d.want ++ (optional d.from ++ (optional d.until ++ list pair d.pairs))
+digest d = flag d.want ++ (optional_text d.from ++ (optional_text d.until ++ list pair d.pairs))
 
 -- an owner and a key; or two empty texts, if there are none
 abbrev pub place : Option (List ℕ × List ℕ) → List ℕ
@@ -79,7 +79,7 @@ place None = text [] ++ text []
 place (Some p) = text p.0 ++ text p.1
 
 unfoldable pub ask : Ask → List ℕ
-ask a = optional a.owner ++ (text a.prefix ++ place a.after)
+ask a = optional_text a.owner ++ (text a.prefix ++ place a.after)
 
 unfoldable pub row : Row → List ℕ
 row r = text r.owner ++ (text r.key ++ (number w64 r.version ++ value r.value))

@@ -3,7 +3,7 @@
 ghost use Rattle.std.specs.Prelude.{◌≡◌, ◌↔◌, ℕ, true, IfOk, IfErr, Ok, Err};
 ghost use Rattle.sb_types.specs.Faults.{Gives};
 ghost use Rattle.sb_codec.specs.declared.message.Message.{Message};
-ghost use Rattle.sb_codec.specs.Fields.{whole};
+ghost use Rattle.sb_codec.specs.Fields.{whole_value};
 ghost use Rattle.sb_codec.specs.Messages.{Spells, IsSole, TakesMemory, is_kept_in_memory, is_kind, fault_of, message_field, reading};
 ghost use Rattle.sb_codec.specs.Refusal.{ReadsWhole};
 
@@ -69,7 +69,7 @@ fn fault(payload: &[u8]) -> Fault
 }
 
 fn read_whole(alloc: Global, payload: &[u8]) -> Result<Message, Refusal>
-    ensures read { ReadsWhole (whole message_field payload.now) result }
+    ensures read { ReadsWhole (whole_value message_field payload.now) result }
     ensures memory { IfErr result (λ refusal. refusal ≡ Refusal.Memory → TakesMemory payload.now) }
 {
     let mut fields = Fields::new(payload);

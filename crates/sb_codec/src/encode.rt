@@ -3,7 +3,7 @@
 ghost use Rattle.std.specs.Prelude.{◌≡◌, ◌∷◌, ◌++◌, true, IfOk, IfErr, OnOk, OnErr};
 ghost use Rattle.sb_types.specs.Text.{is_name};
 ghost use Rattle.sb_codec.specs.Limits.{is_optional};
-ghost use Rattle.sb_codec.specs.Spelling.{flag, list, optional, pair, figure, peer};
+ghost use Rattle.sb_codec.specs.Spelling.{flag, list, optional_text, pair, figure, peer};
 ghost use Rattle.sb_codec.specs.Messages.{Spells, IsSole, spelling, is_message};
 ghost use Rattle.sb_codec.specs.Standing.{StandsFirst};
 
@@ -44,7 +44,7 @@ fn write_flagged(out: &mut Vec<u8>, kind: u8, set: bool) -> Result<(), AllocErro
 /// Writes the names between which the digest's range is.
 #[tactic(auto, using(crate::proofs::Standings::stands_on))]
 fn write_range(out: &mut Vec<u8>, from: Option<Name>, until: Option<Name>) -> Result<(), AllocError>
-    ensures written { OnOk result (out.new.items ≡ out.old.items ++ (optional from ++ optional until)) }
+    ensures written { OnOk result (out.new.items ≡ out.old.items ++ (optional_text from ++ optional_text until)) }
     ensures stands { StandsFirst out.old.items out.new.items }
     ensures names { OnOk result ((is_optional is_name from ≡ true) × (is_optional is_name until ≡ true)) }
 {
@@ -93,7 +93,7 @@ fn write_bye(out: &mut Vec<u8>, bye: &Bye) -> Result<(), AllocError>
 /// Writes the kind of a message, and the name after it, if there is one.
 #[tactic(auto, using(crate::proofs::Standings::stands_on))]
 fn write_named(out: &mut Vec<u8>, kind: u8, name: Option<Name>) -> Result<(), AllocError>
-    ensures written { OnOk result (out.new.items ≡ out.old.items ++ kind ∷ optional name) }
+    ensures written { OnOk result (out.new.items ≡ out.old.items ++ kind ∷ optional_text name) }
     ensures stands { StandsFirst out.old.items out.new.items }
     ensures name { OnOk result (is_optional is_name name ≡ true) }
 {

@@ -8,7 +8,7 @@ ghost use Rattle.sb_types.specs.Kinds.{Fits, shown};
 ghost use Rattle.sb_types.specs.Limits.{is_slot};
 ghost use Rattle.sb_codec.specs.Limits.{is_optional, is_place};
 ghost use Rattle.sb_codec.specs.Standing.{StandsFirst};
-ghost use Rattle.sb_codec.specs.Spelling.{number, text, long_text, list, flag, content, value, slot, entry, block, optional, pair, place, row, identity, figure, peer};
+ghost use Rattle.sb_codec.specs.Spelling.{number, text, long_text, list, flag, content, value, slot, entry, block, optional_text, pair, place, row, identity, figure, peer};
 
 use crate::list_item::ListItem;
 use crate::message::{Figure, NodeIdentity, PeerStatus, Row};
@@ -161,7 +161,7 @@ pub(crate) fn write_list<T: ListItem>(out: &mut Vec<u8>, items: &[T]) -> Result<
 }
 
 pub(crate) fn write_optional_name(out: &mut Vec<u8>, name: Option<Name>) -> Result<(), AllocError>
-    ensures written { OnOk result (out.new.items ≡ out.old.items ++ optional name) }
+    ensures written { OnOk result (out.new.items ≡ out.old.items ++ optional_text name) }
     ensures stands { StandsFirst out.old.items out.new.items }
     ensures name { is_optional is_name name ≡ true }
 {

@@ -15,7 +15,7 @@ use Rattle.std.proofs.lemmas.Cmp.{nat_list_cmp_total, nat_list_eq_equiv}
 use Rattle.std.proofs.lemmas.Map.Keys.{Less-from_sorted, sorted_tail}
 use Rattle.sb_types.specs.Records.{Holder}
 use Rattle.sb_types.specs.Limits.{text_lt}
-use Rattle.sb_holdings.specs.Held.{Held, nothing, holder_of}
+use Rattle.sb_holdings.specs.Held.{Held, empty_holder, holder_of}
 use Rattle.sb_holdings.specs.Plain.{is_from}
 use Rattle.sb_digest.specs.Digests.{Pair, Digest, is_below, covers, pair_at, held_in, number_by, number_in, floor_by, floor_in}
 use Rattle.sb_digest.specs.Lengths.{digest_frame_length}
@@ -95,10 +95,10 @@ cut_keeps owner [] (suc count) rises below = refl
 cut_keeps owner (p ∷ ps) zero rises below = sym (missing owner (p ∷ ps) (λ k d l. past_end owner p ps k d below rises l))
 cut_keeps owner (p ∷ ps) (suc count) rises below = ap (λ o. cond (pointwise nat_eq p.owner owner) (Some p) o) (cut_keeps owner ps count (sorted_tail by_owner p ps rises) below)
 
-number_of_nothing : (owner : List ℕ) (floor held : ℕ) → number_by floor held None ≡ number_by floor held (Some (pair_of (owner, nothing)))
+number_of_nothing : (owner : List ℕ) (floor held : ℕ) → number_by floor held None ≡ number_by floor held (Some (pair_of (owner, empty_holder)))
 number_of_nothing owner floor held = grind (arith, nat_tests)
 
-floor_of_nothing : (owner : List ℕ) (floor held : ℕ) → floor_by floor held None ≡ floor_by floor held (Some (pair_of (owner, nothing)))
+floor_of_nothing : (owner : List ℕ) (floor held : ℕ) → floor_by floor held None ≡ floor_by floor held (Some (pair_of (owner, empty_holder)))
 floor_of_nothing owner floor held = grind (arith, nat_tests)
 
 -- a sender's floor is never lowered, and never raised above what it holds
@@ -129,7 +129,7 @@ module _ (held : Held) (budget : ℕ) (want : Bool) (from : Option (List ℕ)) (
       ap (λ (e : Digest). pair_at owner e.pairs) longest.front ∙ cut_keeps owner ps longest.count rises parts.1 ∙ found_passed (is_from from) owner parts.0 (entries held.owners)
       ∙ ap (found_pair owner) (sym (get-entries held.owners owner))
 
-  version-found : (o : Option Holder) → version_of (found_pair owner o) ≡ (unwrap_or o nothing).shown.held
+  version-found : (o : Option Holder) → version_of (found_pair owner o) ≡ (unwrap_or o empty_holder).shown.held
   version-found None = refl
   version-found (Some h) = refl
 
@@ -137,14 +137,14 @@ module _ (held : Held) (budget : ℕ) (want : Bool) (from : Option (List ℕ)) (
   number-held = ap version_of pair-held ∙ version-found (get held.owners owner)
 
   -- of an owner that is not held the whole table is offered, as where nothing is said of it
-  by-found : (floor upto : ℕ) (o : Option Holder) → number_by floor upto (found_pair owner o) ≡ number_by floor upto (Some (pair_of (owner, unwrap_or o nothing)))
+  by-found : (floor upto : ℕ) (o : Option Holder) → number_by floor upto (found_pair owner o) ≡ number_by floor upto (Some (pair_of (owner, unwrap_or o empty_holder)))
   by-found floor upto None = number_of_nothing owner floor upto
   by-found floor upto (Some h) = refl
 
   pub number-above : (floor upto : ℕ) → number_in d owner floor upto ≡ number_by floor upto (Some (pair_of (owner, holder_of held.owners owner)))
   number-above floor upto = ap (number_by floor upto) pair-held ∙ by-found floor upto (get held.owners owner)
 
-  under-found : (floor upto : ℕ) (o : Option Holder) → floor_by floor upto (found_pair owner o) ≡ floor_by floor upto (Some (pair_of (owner, unwrap_or o nothing)))
+  under-found : (floor upto : ℕ) (o : Option Holder) → floor_by floor upto (found_pair owner o) ≡ floor_by floor upto (Some (pair_of (owner, unwrap_or o empty_holder)))
   under-found floor upto None = floor_of_nothing owner floor upto
   under-found floor upto (Some h) = refl
 

@@ -9,7 +9,7 @@ use Rattle.sb_types.specs.Limits.{is_entry, is_delta}
 use Rattle.sb_types.specs.Records.{Entry, Block}
 use Rattle.sb_types.proofs.Texts.{text_same}
 use Rattle.sb_holdings.specs.declared.ends.BlockEnd.{BlockEnd}
-use Rattle.sb_holdings.specs.Held.{Held, shown_of, written, purged_own}
+use Rattle.sb_holdings.specs.Held.{Held, shown_of, held_after_write, purged_own}
 use Rattle.sb_holdings.specs.Plain.{IsHoldings, next_version, own_answer}
 use Rattle.sb_holdings.specs.Nodes.{Node, NodeEvent, Wrote, node_after_event, replay_node}
 use Rattle.sb_holdings.specs.Nodes as node_events
@@ -99,13 +99,13 @@ pub own-turn : (held : Held) (e : Entry) → own_answer held e ≡ Ok tt → e.v
 own-turn held e answer =
     turn-case e (next_version (shown_of held held.me).held) (e.version == next_version (shown_of held held.me).held) _ refl answer
 
-own-held : (held : Held) (e : Entry) → e.version ≡ (shown_of held held.me).held + 1 → (shown_of (written held e) held.me).held ≡ e.version
+own-held : (held : Held) (e : Entry) → e.version ≡ (shown_of held held.me).held + 1 → (shown_of (held_after_write held e) held.me).held ≡ e.version
 own-held held e next =
     sym (own-leads held e next held.me).held
     ∙ ap (λ (b : Bool). (table_with_all (shown_of held held.me) (map (λ (p : List ℕ × Change). p.1) (cond b ((held.me, Enter e) ∷ []) []))).held) (text_same held.me held.me refl)
 
-own-noted : (held : Held) (e : Entry) → e.version ≡ (shown_of held held.me).held + 1 → is_held (written held e) (note_of (held.me, e)) ≡ true
-own-noted held e next = le-leb e.version (shown_of (written held e) held.me).held (omega (arith, own-held held e next))
+own-noted : (held : Held) (e : Entry) → e.version ≡ (shown_of held held.me).held + 1 → is_held (held_after_write held e) (note_of (held.me, e)) ≡ true
+own-noted held e next = le-leb e.version (shown_of (held_after_write held e) held.me).held (omega (arith, own-held held e next))
 
 module _ (opening : Node) (queued : List Event) (lacking : LackingOwners) (old : ViewedNode) (is : IsViewedNode opening queued lacking old) (holds : IsHoldings old.core.node.held) where
   module _ (e : Entry) (turn : own_answer old.core.node.held e ≡ Ok tt) (entry : is_entry e ≡ true) (few : (shown_of old.core.node.held old.core.node.held.me).held < 2 ^ 64)
@@ -117,10 +117,10 @@ module _ (opening : Node) (queued : List Event) (lacking : LackingOwners) (old :
     own-locked published = record {
       node = ap (λ (n : Node). node_after_event n (Wrote e)) is.node ∙ sym (node-own opening old.history e);
       begins = begins-longer queued old.history (TookOwn e) is.begins;
-      grown = grown-on (node_after opening queued).held old.core.node.held (written old.core.node.held e) is.grown (own-grown old.core.node.held e holds);
+      grown = grown-on (node_after opening queued).held old.core.node.held (held_after_write old.core.node.held e) is.grown (own-grown old.core.node.held e holds);
       since = own-since lacking (node_after opening queued).held old.core.node.held e has is.since;
-      notes = noted-held (written old.core.node.held e) old.hub ((old.core.node.held.me, e) ∷ [])
-          (notes-raised old.core.node.held (written old.core.node.held e) old.hub (own-grown old.core.node.held e holds) is.notes)
+      notes = noted-held (held_after_write old.core.node.held e) old.hub ((old.core.node.held.me, e) ∷ [])
+          (notes-raised old.core.node.held (held_after_write old.core.node.held e) old.hub (own-grown old.core.node.held e holds) is.notes)
           (own-noted old.core.node.held e next, tt);
     }
 

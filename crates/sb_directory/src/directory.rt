@@ -287,14 +287,14 @@ impl<S: DirectoryTag, R: Wait + Drop> Directory<S, R> {
     }
 
     /// How many keys the node's own table has, removed ones counted. It is the seat's last call.
-    pub fn keys<Q: Wait>(&self, rt: &Q, seat: &mut ReaderSeat<S>) -> usize
+    pub fn key_count<Q: Wait>(&self, rt: &Q, seat: &mut ReaderSeat<S>) -> usize
         ensures answer { result ≡ own_keys (node_after S.opening seat.new.last_call) }
         ensures begins { spec.Begins seat.new.last_call seat.old }
         ensures seat { seat.new ≡ spec.with_last_call seat.old seat.new.last_call }
     {
         let mut node = self.node.lock(rt);
         node.note_call(seat);
-        node.core().keys()
+        node.core().key_count()
     }
 
     /// Adds a watch with room for 1 to 1,024 notes, and gives its id, by which any seat may poll it. `BadSetting` if the room is

@@ -184,7 +184,7 @@ impl<S: DirectoryTag, H: Wait + Drop> Desk<S, H> {
             Call::Poll(place) => self.poll(rt, place),
             Call::Refresh => shown(self.node.refresh(rt), Answer::Shown),
             Call::Conflict => Answer::Conflict(self.node.conflict(rt)),
-            Call::Keys => Answer::Keys(self.node.keys(rt)),
+            Call::Keys => Answer::Keys(self.node.key_count(rt)),
             Call::Read => self.read(rt),
             Call::Rows => Answer::Rows(self.node.read(rt).2[1]),
             Call::OwnRows => Answer::Rows(self.node.read(rt).2[0]),

@@ -147,9 +147,9 @@ impl<S: DirectoryTag, H: Wait + Drop> Seated<S, H> {
         self.directory.conflict(rt, seat)
     }
 
-    pub(crate) fn keys<Q: Wait + Abort>(&mut self, rt: &Q) -> usize {
+    pub(crate) fn key_count<Q: Wait + Abort>(&mut self, rt: &Q) -> usize {
         let seat = there(rt, self.seat.as_mut());
-        self.directory.keys(rt, seat)
+        self.directory.key_count(rt, seat)
     }
 
     pub(crate) fn watch<Q: Wait + Abort>(

@@ -162,7 +162,7 @@ fn write_and_close<S: DirectoryTag, R: Wait + Abort>(
     let (directory, mut seats) = got(rt, made);
     let mut kept = there(rt, seats.pop());
     let version = write(rt, alloc, &directory, &mut kept);
-    let keys = directory.keys(rt, &mut kept);
+    let keys = directory.key_count(rt, &mut kept);
     (version, keys, close_twice(rt, directory, seats, kept))
 }
 
@@ -223,7 +223,7 @@ fn purge_and_close<S: DirectoryTag, R: Wait + Abort>(
     enter(rt, &directory, &mut kept, &removed);
     let first = purge(rt, &directory, &mut other);
     let floors = [first, purge(rt, &directory, &mut other)];
-    let keys = directory.keys(rt, &mut kept);
+    let keys = directory.key_count(rt, &mut kept);
     got(rt, seats.push(other));
     (floors, keys, close_twice(rt, directory, seats, kept))
 }

@@ -12,7 +12,7 @@ use Rattle.sb_types.specs.Records.{Stage, Block, Holder}
 use Rattle.sb_types.specs.Writes.{Honest, IsHolder}
 use Rattle.sb_holdings.specs.declared.ends.BlockEnd.{BlockEnd}
 use Rattle.sb_holdings.specs.declared.ends.BlockEnd.TheVariants.{Own, OwnAhead, Gap, Stale, OwnersFull, Taken, TooManyKeys, NoMemory}
-use Rattle.sb_holdings.specs.Held.{Held, nothing, is_nothing, holder_of, with_holder, held_after_taking}
+use Rattle.sb_holdings.specs.Held.{Held, empty_holder, is_nothing, holder_of, with_holder, held_after_taking}
 use Rattle.sb_holdings.specs.Nodes.{Node, held_by, NodeEvent, Wrote, Took, Purged, node_after_event, replay_node, IsNodeEvent, TrueAt, AreNodeEvents, AllTrueAt, IsNode}
 use Rattle.sb_types.proofs.Texts.{same_text}
 use Rattle.sb_holdings.proofs.Steps.{Step, unchanged, two_steps}
@@ -25,7 +25,7 @@ no_stage : (o : Option Stage) → is_none o ≡ true → None ≡ o
 no_stage None e = refl
 no_stage (Some s) e = absurd (false≢true e)
 
-pub is_nothing_is : (h : Holder) → is_nothing h ≡ true → nothing ≡ h
+pub is_nothing_is : (h : Holder) → is_nothing h ≡ true → empty_holder ≡ h
 is_nothing_is h e =
     let a = and_parts _ _ e in
     let b = and_parts _ _ a.1 in
@@ -37,11 +37,11 @@ is_nothing_is h e =
     λ i. record { shown = record { held = held i; floor = floor i; entries = entries i }; stage = stage i }
 
 module _ (owners : FinMap (slice_cmp nat_cmp) Holder) (owner : List ℕ) (h : Holder) where
-  found : (b : Bool) (o : Option Holder) → nothing ≡ h → unwrap_or (cond b None o) nothing ≡ cond b h (unwrap_or o nothing)
+  found : (b : Bool) (o : Option Holder) → empty_holder ≡ h → unwrap_or (cond b None o) empty_holder ≡ cond b h (unwrap_or o empty_holder)
   found true o e = e
   found false o e = refl
 
-  put : (b : Bool) (o : Option Holder) → unwrap_or (cond b (Some h) o) nothing ≡ cond b h (unwrap_or o nothing)
+  put : (b : Bool) (o : Option Holder) → unwrap_or (cond b (Some h) o) empty_holder ≡ cond b h (unwrap_or o empty_holder)
   put true o = refl
   put false o = refl
 

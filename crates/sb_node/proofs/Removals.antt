@@ -11,7 +11,7 @@ use Rattle.sb_types.proofs.Standing.{of_kept}
 use Rattle.sb_table.specs.Floors.{IsKeptTable}
 use Rattle.sb_table.proofs.Merging.{length-filter_le}
 use Rattle.sb_table.proofs.Order.{run_upto}
-use Rattle.sb_holdings.specs.Held.{nothing, shown_of}
+use Rattle.sb_holdings.specs.Held.{empty_holder, shown_of}
 use Rattle.sb_holdings.specs.Nodes.{Node}
 use Rattle.sb_node.specs.Purging.{removals, removals_in, FULL_REMOVALS, is_purge_due, due_floor, purge_answer}
 
@@ -68,5 +68,5 @@ due_allowed least node floor run due =
     cond-false _ _ _ (le-ltb t.held floor (due_within least t floor run due))
 
 -- of an owner that is not held nothing is due
-pub due_nothing : (least : ℕ) → due_floor least nothing.shown ≡ None
+pub due_nothing : (least : ℕ) → due_floor least empty_holder.shown ≡ None
 due_nothing least = cond_both (is_purge_due least 0 0) _ None (λ (o : Option ℕ). o ≡ None) (λ _. refl) (λ _. refl)

@@ -126,7 +126,7 @@ impl NodeCore {
 
     /// Returns how many keys the node's own table has, those with tombstones (markers of removed keys) included. It
     /// takes no memory.
-    pub fn keys(&self) -> usize
+    pub fn key_count(&self) -> usize
         ensures count { result ≡ own_keys self.now.node }
         ensures holdings { IsHoldings self.now.node.held }
     {

@@ -27,7 +27,7 @@ fn remove(rt: &impl Abort, core: &mut NodeCore, log: &mut PlainLog, text: &[u8])
 /// How many keys its own table has, how far it holds it, and its floor.
 fn own(core: &NodeCore) -> (usize, u64, u64) {
     let me = core.name();
-    (core.keys(), core.upto(me), core.holdings().floor(me))
+    (core.key_count(), core.upto(me), core.holdings().floor(me))
 }
 
 /// The version of the write under a key of its own.

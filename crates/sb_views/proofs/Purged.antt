@@ -8,11 +8,11 @@ use Rattle.std.specs.FinMap.{get, get-insert}
 use Rattle.sb_types.specs.declared.entry.Slot.{Slot}
 use Rattle.sb_types.specs.declared.entry.Slot.TheVariants.{Set, Removed}
 use Rattle.sb_types.specs.Records.{Entry, Table, Holder}
-use Rattle.sb_types.specs.Runs.{has_key, are_distinct, is_set, live, entry_at, shown_slot, shown_by_entry, shown_at}
+use Rattle.sb_types.specs.Runs.{has_key, are_distinct, is_set, live_entries, entry_at, shown_slot, shown_by_entry, shown_at}
 use Rattle.sb_types.specs.Writes.{IsHolder}
 use Rattle.sb_types.proofs.Texts.{same_text}
-use Rattle.sb_table.specs.Floors.{raised}
-use Rattle.sb_holdings.specs.Held.{Held, nothing, holder_of, shown_of, purged_own}
+use Rattle.sb_table.specs.Floors.{table_at_floor}
+use Rattle.sb_holdings.specs.Held.{Held, empty_holder, holder_of, shown_of, purged_own}
 use Rattle.sb_holdings.specs.Plain.{IsHoldings}
 use Rattle.sb_holdings.specs.Shown.{own_purged}
 use Rattle.sb_holdings.proofs.Changed.{IsHolder-held}
@@ -28,30 +28,30 @@ removed-shown version (Set value) is = absurd (true≢false is)
 removed-shown version Removed is = refl
 
 -- no entry of a key is left where there was none
-none-live : (floor : ℕ) (key : List ℕ) (es : List Entry) → has_key key es ≡ false → entry_at key (live floor es) ≡ None
+none-live : (floor : ℕ) (key : List ℕ) (es : List Entry) → has_key key es ≡ false → entry_at key (live_entries floor es) ≡ None
 none-live floor key [] none = refl
 none-live floor key (e ∷ es) none =
     let parts = or_parts (pointwise nat_eq e.key key) (has_key key es) none in
-    cond_both (is_set e.slot || nat_lt floor e.version) (e ∷ live floor es) (live floor es) (λ (xs : List Entry). entry_at key xs ≡ None)
-    (λ _. cond-false (pointwise nat_eq e.key key) (Some e) (entry_at key (live floor es)) parts.0 ∙ none-live floor key es parts.1)
+    cond_both (is_set e.slot || nat_lt floor e.version) (e ∷ live_entries floor es) (live_entries floor es) (λ (xs : List Entry). entry_at key xs ≡ None)
+    (λ _. cond-false (pointwise nat_eq e.key key) (Some e) (entry_at key (live_entries floor es)) parts.0 ∙ none-live floor key es parts.1)
     (λ _. none-live floor key es parts.1)
 
 -- the first entry is that of the key, or is not
-row-first : (floor : ℕ) (key : List ℕ) (e : Entry) (es : List Entry) → not (has_key e.key es) ≡ true → shown_at key (live floor es) ≡ shown_at key es
-    → ((pointwise nat_eq e.key key ≡ true) ⊎ (pointwise nat_eq e.key key ≡ false)) → shown_at key (live floor (e ∷ es)) ≡ shown_at key (e ∷ es)
+row-first : (floor : ℕ) (key : List ℕ) (e : Entry) (es : List Entry) → not (has_key e.key es) ≡ true → shown_at key (live_entries floor es) ≡ shown_at key es
+    → ((pointwise nat_eq e.key key ≡ true) ⊎ (pointwise nat_eq e.key key ≡ false)) → shown_at key (live_entries floor (e ∷ es)) ≡ shown_at key (e ∷ es)
 row-first floor key e es once rest (inl same) =
     let here : (xs : List Entry) → shown_at key (e ∷ xs) ≡ shown_slot e.version e.slot = λ xs. ap shown_by_entry (cond-true (pointwise nat_eq e.key key) (Some e) (entry_at key xs) same) in
     let alone : has_key key es ≡ false = ap (λ (k : List ℕ). has_key k es) (sym (same_text e.key key same)) ∙ not-true (has_key e.key es) once in
-    cond_both (is_set e.slot || nat_lt floor e.version) (e ∷ live floor es) (live floor es) (λ (xs : List Entry). shown_at key xs ≡ shown_at key (e ∷ es))
-    (λ _. here (live floor es) ∙ sym (here es))
+    cond_both (is_set e.slot || nat_lt floor e.version) (e ∷ live_entries floor es) (live_entries floor es) (λ (xs : List Entry). shown_at key xs ≡ shown_at key (e ∷ es))
+    (λ _. here (live_entries floor es) ∙ sym (here es))
     (λ dead. ap shown_by_entry (none-live floor key es alone) ∙ sym (here es ∙ removed-shown e.version e.slot (or_parts (is_set e.slot) (nat_lt floor e.version) dead).0))
 row-first floor key e es once rest (inr other) =
     let later : (xs : List Entry) → shown_at key (e ∷ xs) ≡ shown_at key xs = λ xs. ap shown_by_entry (cond-false (pointwise nat_eq e.key key) (Some e) (entry_at key xs) other) in
-    cond_both (is_set e.slot || nat_lt floor e.version) (e ∷ live floor es) (live floor es) (λ (xs : List Entry). shown_at key xs ≡ shown_at key (e ∷ es))
-    (λ _. later (live floor es) ∙ rest ∙ sym (later es))
+    cond_both (is_set e.slot || nat_lt floor e.version) (e ∷ live_entries floor es) (live_entries floor es) (λ (xs : List Entry). shown_at key xs ≡ shown_at key (e ∷ es))
+    (λ _. later (live_entries floor es) ∙ rest ∙ sym (later es))
     (λ _. rest ∙ sym (later es))
 
-pub row-live : (floor : ℕ) (key : List ℕ) (es : List Entry) → are_distinct es ≡ true → shown_at key (live floor es) ≡ shown_at key es
+pub row-live : (floor : ℕ) (key : List ℕ) (es : List Entry) → are_distinct es ≡ true → shown_at key (live_entries floor es) ≡ shown_at key es
 row-live floor key [] distinct = refl
 row-live floor key (e ∷ es) distinct =
     let parts = and_parts (not (has_key e.key es)) (are_distinct es) distinct in
@@ -61,7 +61,7 @@ row-live floor key (e ∷ es) distinct =
 
 module _ (h : Holder) (floor : ℕ) where
   abbrev higher : Holder
-  higher = record { shown = raised h.shown.held floor h.shown; stage = h.stage }
+  higher = record { shown = table_at_floor h.shown.held floor h.shown; stage = h.stage }
 
   abbrev is_higher : Bool
   is_higher = nat_lt h.shown.floor floor && nat_le floor h.shown.held
@@ -86,14 +86,14 @@ module _ (held : Held) (floor : ℕ) where
   abbrev mine : Holder
   mine = holder_of held.owners held.me
 
-  shown-cond : (b : Bool) (o : Option Holder) → (unwrap_or (cond b (Some (own_purged floor mine)) o) nothing).shown ≡ cond b (own_purged floor mine).shown (unwrap_or o nothing).shown
+  shown-cond : (b : Bool) (o : Option Holder) → (unwrap_or (cond b (Some (own_purged floor mine)) o) empty_holder).shown ≡ cond b (own_purged floor mine).shown (unwrap_or o empty_holder).shown
   shown-cond true o = refl
   shown-cond false o = refl
 
   -- a purge changes no other owner
   shown-purged : (owner : List ℕ) → shown_of (purged_own held floor) owner ≡ cond (pointwise nat_eq held.me owner) (own_purged floor mine).shown (shown_of held owner)
   shown-purged owner =
-      ap (λ (o : Option Holder). (unwrap_or o nothing).shown) (get-insert nat_list_cmp_total held.owners held.me (own_purged floor mine) owner)
+      ap (λ (o : Option Holder). (unwrap_or o empty_holder).shown) (get-insert nat_list_cmp_total held.owners held.me (own_purged floor mine) owner)
       ∙ shown-cond (eq_by_cmp by_text owner held.me) (get held.owners owner)
       ∙ ap (λ (b : Bool). cond b (own_purged floor mine).shown (shown_of held owner)) (tied held.me owner)
 

@@ -4,7 +4,7 @@ ghost use Rattle.sb_types.specs.Limits.{is_delta};
 ghost use Rattle.sb_types.specs.Records as records;
 ghost use Rattle.sb_types.specs.Runs.{shown_at};
 ghost use Rattle.sb_holdings.specs.declared.ends.BlockEnd.{BlockEnd};
-ghost use Rattle.sb_holdings.specs.Held.{Held, shown_of, written, purged_own};
+ghost use Rattle.sb_holdings.specs.Held.{Held, shown_of, held_after_write, purged_own};
 ghost use Rattle.sb_holdings.specs.Nodes.{Node, replay_node};
 ghost use Rattle.sb_holdings.specs.Plain.{IsHoldings};
 ghost use Rattle.sb_holdings.specs.Treats.{Treats, took_each};
@@ -25,7 +25,7 @@ pub fn views_show_what_is_held()
 
 /// A node's own write leads on by itself: with it entered, the tables are those after the write.
 pub fn own_writes_lead()
-    ensures { (held : Held) (e : records.Entry) → e.version ≡ (shown_of held held.me).held + 1 → Leads held (written held e) ((held.me, changes.Enter e) ∷ []) }
+    ensures { (held : Held) (e : records.Entry) → e.version ≡ (shown_of held held.me).held + 1 → Leads held (held_after_write held e) ((held.me, changes.Enter e) ∷ []) }
 {}
 
 /// Rows come in ascending order: each stands behind those before it, by owner and then by key.
@@ -39,7 +39,7 @@ pub fn rows_ascend()
 /// owner now has above the earlier version.
 pub fn tables_grow()
     ensures none { (held : Held) → IsHoldings held → AreGrown held held }
-    ensures own { (held : Held) (e : records.Entry) → IsHoldings held → AreGrown held (written held e) }
+    ensures own { (held : Held) (e : records.Entry) → IsHoldings held → AreGrown held (held_after_write held e) }
     ensures purged { (held : Held) (floor : ℕ) → IsHoldings held → AreGrown held (purged_own held floor) }
     ensures delta { (node : Node) (blocks : List records.Block) (ends : List BlockEnd) →
         IsHoldings node.held → is_delta blocks ≡ true → Treats node blocks ends → AreGrown node.held (replay_node node (took_each blocks ends)).held }

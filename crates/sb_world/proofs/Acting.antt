@@ -42,10 +42,10 @@ use Rattle.sb_world.specs.declared.event.Event.{Event}
 use Rattle.sb_world.specs.declared.event.Event.TheVariants.{Commit, Take, CrashInCommit, Purge, Trim, Restart, Connect, Close, Line, Piece, Ask, Offer, Read, Upto}
 use Rattle.sb_world.specs.declared.event.Answer.{Answer}
 use Rattle.sb_world.specs.Places.{Place, frame_at}
-use Rattle.sb_world.specs.Turns.{Effect, rests, logs, goes, listens, opens, Turn, still, with_core, write_of, IsLogged, commit_turn, crash_turn, purge_turn, trim_turn, TrimEnds, waiting_after, Crashes, TakesFirst, take_turn, RestartEnds, reopened_turn, refused_turn, sent_turn}
+use Rattle.sb_world.specs.Turns.{Effect, rests, logs, goes, listens, opens, Turn, idle_turn, with_core, write_of, IsLogged, commit_turn, crash_turn, purge_turn, trim_turn, TrimEnds, waiting_after, Crashes, TakesFirst, take_turn, RestartEnds, reopened_turn, refused_turn, sent_turn}
 use Rattle.sb_world.specs.Connections.{Connection, connection_at, with_connection, without_connection, of_others}
 use Rattle.sb_world.specs.Hearing.{Tells, calls_in, events_in}
-use Rattle.sb_world.specs.Connecting.{Stays, begun, new_connection, Connects, Closes, lined, LinesUp, in_session, Asked, AsksOn, fed, listener, heard_by, connections_after, piece_turn, Delivers, Pieces}
+use Rattle.sb_world.specs.Connecting.{Stays, session_at, new_connection, Connects, Closes, connection_with_bytes, LinesUp, in_session, Asked, AsksOn, stream_with_piece, listener, heard_by, connections_after, piece_turn, Delivers, Pieces}
 use Rattle.sb_world.specs.Events.{Acts, ActsWhere, Does, answers_to}
 use Rattle.sb_world.specs.Lines.{IsLine, IsTrueConnection}
 use Rattle.sb_world.specs.States.{Past, put_at, writes_after, past_after}
@@ -65,7 +65,7 @@ pub record Same (p : Place) (turn : Turn) : Type 0 where
   pub sure : IsSure p.log → IsSure turn.place.log
   pub log : LogStays p.log turn.place.log
 
-still_same : (p : Place) (answer : Result Answer Fault) → Same p (still p answer)
+still_same : (p : Place) (answer : Result Answer Fault) → Same p (idle_turn p answer)
 still_same p answer = record { me = refl; clean = λ e. e; sure = λ s. s; log = same_stays p.log p.log refl }
 
 turned_same : (p : Place) (turn : Turn) (other : Turn) → turn ≡ other → Same p other → Same p turn
@@ -113,7 +113,7 @@ core_same p core answer effect frames = record { me = refl; clean = λ e. e; sur
 
 connects_same : (found : Option Connection) (p : Place) (number : ℕ) (conns : List Connection) (sent : List (List ℕ)) (turn : Turn) (new : List Connection) → Connects found p number conns sent turn new → Same p turn
 connects_same (Some c) p number conns sent turn new stays = stays_same p conns _ turn new stays
-connects_same None p number conns sent turn new acts = ⊎_elim (stays_same p conns _ turn new) (λ is. turned_same p turn (sent_turn p sent (hello_of (begun p))) is.2 (record { me = refl; clean = λ e. e; sure = λ s. s; log = same_stays p.log p.log refl })) acts
+connects_same None p number conns sent turn new acts = ⊎_elim (stays_same p conns _ turn new) (λ is. turned_same p turn (sent_turn p sent (hello_of (session_at p))) is.2 (record { me = refl; clean = λ e. e; sure = λ s. s; log = same_stays p.log p.log refl })) acts
 
 closes_same : (found : Option Connection) (p : Place) (number : ℕ) (conns : List Connection) (turn : Turn) (new : List Connection) → Closes found p number conns turn new → Same p turn
 closes_same None p number conns turn new stays = stays_same p conns _ turn new stays
@@ -202,7 +202,7 @@ module _ (writes : List ℕ → List Write) (past : Past) (settings : Settings) 
   still_place : IsTruePlace (after rests) past settings p
   still_place = relogged writes (after rests) (grows rests) past settings p t p.log p.waiting p.is_up t.owner (same_content p.log rests refl t.content) (waiting_on writes (after rests) (grows rests) past settings p t)
 
-  still_kept : (answer : Result Answer Fault) → Kept (still p answer)
+  still_kept : (answer : Result Answer Fault) → Kept (idle_turn p answer)
   still_kept answer = record { place = λ clean. still_place; frames = λ bytes stands. absurd stands }
 
   turned_kept : (turn other : Turn) → turn ≡ other → Kept other → Kept turn
@@ -446,7 +446,7 @@ module _ (writes : List ℕ → List Write) (past : Past) (settings : Settings) 
     turned_all turn other new is all = subst (λ (x : Turn). AllKept x new) (sym is) all
 
     stays_kept : (answer : Result Answer Fault) (turn : Turn) (new : List Connection) → Stays p conns answer turn new → AllKept turn new
-    stays_kept answer turn new stays = turned_all turn (still p answer) new stays.0 (record { kept = still_kept answer; each = same_conns (still p answer) new stays.1 })
+    stays_kept answer turn new stays = turned_all turn (idle_turn p answer) new stays.0 (record { kept = still_kept answer; each = same_conns (idle_turn p answer) new stays.1 })
 
     -- what stands where another took a connection's place, or one went
     of_with : (cs : List Connection) (number : ℕ) (d c : Connection) → Stands (with_connection cs number d) c → (d ≡ c) ⊎ Stands cs c
@@ -486,18 +486,18 @@ module _ (writes : List ℕ → List Write) (past : Past) (settings : Settings) 
     connects_kept (Some c) number turn new stays = stays_kept _ turn new stays
     connects_kept None number turn new acts =
         ⊎_elim (stays_kept _ turn new)
-        (λ is. turned_all turn (sent_turn p sent (hello_of (begun p))) new is.2 (record {
-          kept = sent_kept (hello_of (begun p)) is.0 tt (let fits = is.1 in let same = budget in omega (arith, fits, same));
-          each = λ c stands. ⊎_elim (grown_conns (frame (hello_of (begun p)) ∷ []) c) (one c)
+        (λ is. turned_all turn (sent_turn p sent (hello_of (session_at p))) new is.2 (record {
+          kept = sent_kept (hello_of (session_at p)) is.0 tt (let fits = is.1 in let same = budget in omega (arith, fits, same));
+          each = λ c stands. ⊎_elim (grown_conns (frame (hello_of (session_at p)) ∷ []) c) (one c)
               (either conns (new_connection p number ∷ []) c (subst (λ (cs : List Connection). Stands cs c) is.3 stands));
         }))
         acts
       where
-        fresh : IsTrueConnection (sent ++ frame (hello_of (begun p)) ∷ []) (new_connection p number)
-        fresh = record { held = []; stands = refl; line = line_empty (sent ++ frame (hello_of (begun p)) ∷ []) }
+        fresh : IsTrueConnection (sent ++ frame (hello_of (session_at p)) ∷ []) (new_connection p number)
+        fresh = record { held = []; stands = refl; line = line_empty (sent ++ frame (hello_of (session_at p)) ∷ []) }
 
-        one : (c : Connection) → Stands (new_connection p number ∷ []) c → IsTrueConnection (sent ++ frame (hello_of (begun p)) ∷ []) c
-        one c (inl same) = subst (IsTrueConnection (sent ++ frame (hello_of (begun p)) ∷ [])) same fresh
+        one : (c : Connection) → Stands (new_connection p number ∷ []) c → IsTrueConnection (sent ++ frame (hello_of (session_at p)) ∷ []) c
+        one c (inl same) = subst (IsTrueConnection (sent ++ frame (hello_of (session_at p)) ∷ [])) same fresh
         one c (inr stands) = absurd stands
 
     closes_kept : (found : Option Connection) (number : ℕ) (turn : Turn) (new : List Connection) → Closes found p number conns turn new → AllKept turn new
@@ -513,15 +513,15 @@ module _ (writes : List ℕ → List Write) (past : Past) (settings : Settings) 
         ⊎_elim (stays_kept _ turn new)
         (λ is. turned_all turn _ new is.0 (record {
           kept = still_kept _;
-          each = λ d stands. with_one [] number (lined c bytes) longer d (subst (λ (cs : List Connection). Stands cs d) is.1 stands);
+          each = λ d stands. with_one [] number (connection_with_bytes c bytes) longer d (subst (λ (cs : List Connection). Stands cs d) is.1 stands);
         }))
         acts
       where
         old : IsTrueConnection sent c
         old = true_conns c (found_connection conns number c at_number)
 
-        longer : IsTrueConnection (sent ++ []) (lined c bytes)
-        longer = connection_later sent [] (lined c bytes)
+        longer : IsTrueConnection (sent ++ []) (connection_with_bytes c bytes)
+        longer = connection_later sent [] (connection_with_bytes c bytes)
             (record { held = old.held; stands = old.stands; line = line_joined sent old.held c.left bytes old.line (frame_stands sent index bytes at_index) })
 
     asked_kept : (result : Result Message Fault) (c : Connection) (session : Session) (number : ℕ) → connection_at conns number ≡ Some c → Asks Steps c.session p.core result session p.core → (turn : Turn) (new : List Connection) →
@@ -565,7 +565,7 @@ module _ (writes : List ℕ → List Write) (past : Past) (settings : Settings) 
         is = t.is;
         holds = t.holds;
         held = old.held ++ piece;
-        stands = ap (λ (s : Stream). fed s piece) old.stands;
+        stands = ap (λ (s : Stream). stream_with_piece s piece) old.stands;
         line = line_fed sent old.held piece left_over (subst (IsLine sent old.held) (sym (take-append-drop count c.left)) old.line);
       }
 

@@ -12,7 +12,7 @@ use Rattle.sb_log.specs.Puts.{Purges as LogPurges}
 use Rattle.sb_node.specs.Cores.{committed_answer}
 use Rattle.sb_node.specs.Purging.{purge_answer}
 use Rattle.sb_world.specs.Places.{Place}
-use Rattle.sb_world.specs.Turns.{Effect, rests, logs, write_of, IsLogged, Turn, still, TakesFirst, take_turn, TrimEnds, Trims, trim_turn}
+use Rattle.sb_world.specs.Turns.{Effect, rests, logs, write_of, IsLogged, Turn, idle_turn, TakesFirst, take_turn, TrimEnds, Trims, trim_turn}
 
 pub logged : (key : List ℕ) (slot : Slot) (put : Result Committed Fault) → (effect : Effect) × IsLogged key slot put effect
 logged key slot (Ok c) = (logs (write_of key slot), refl)
@@ -28,7 +28,7 @@ oldest_first [] c e = absurd (cc)
 oldest_first (x ∷ xs) c e = ap (λ (o : Option Committed). unwrap_or o x ∷ xs) (sym e)
 
 -- a floor that the node refuses
-pub trim_refused : (p : Place) (floor : ℕ) (fault : Fault) (turn : Turn) → Err fault ≡ purge_answer p.core.node floor → turn ≡ still p (Err fault) → Trims p floor turn
+pub trim_refused : (p : Place) (floor : ℕ) (fault : Fault) (turn : Turn) → Err fault ≡ purge_answer p.core.node floor → turn ≡ idle_turn p (Err fault) → Trims p floor turn
 trim_refused p floor fault turn is same = subst (λ (a : Result (Unit {0}) Fault). TrimEnds a p floor turn) is same
 
 -- and one that it takes, after which the log gave this answer

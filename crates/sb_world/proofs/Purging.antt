@@ -9,16 +9,16 @@ use Rattle.sb_types.specs.declared.entry.Write.{Write}
 use Rattle.sb_types.specs.declared.fault.Fault.{Fault}
 use Rattle.sb_types.specs.declared.fault.Fault.TheVariants.{NoMemory, Closed, FloorTooHigh}
 use Rattle.sb_types.specs.Records.{Entry, Table, Holder}
-use Rattle.sb_types.specs.Runs.{Stands, is_set, live}
+use Rattle.sb_types.specs.Runs.{Stands, is_set, live_entries}
 use Rattle.sb_types.proofs.Standing.{of_kept}
 use Rattle.sb_types.proofs.Texts.{same_text}
-use Rattle.sb_table.specs.Floors.{raised}
-use Rattle.sb_holdings.specs.Held.{Held, nothing, holder_of, shown_of, purged_own}
+use Rattle.sb_table.specs.Floors.{table_at_floor}
+use Rattle.sb_holdings.specs.Held.{Held, empty_holder, holder_of, shown_of, purged_own}
 use Rattle.sb_holdings.specs.Shown.{own_purged}
 use Rattle.sb_holdings.specs.Nodes.{opened_node}
 use Rattle.sb_holdings.proofs.Content.{content_is}
 use Rattle.sb_log.specs.Records.{Log}
-use Rattle.sb_log.specs.Puts.{Purges, Loads, purged}
+use Rattle.sb_log.specs.Puts.{Purges, Loads, content_after_purge}
 use Rattle.sb_node.specs.Purging.{purge_answer}
 use Rattle.sb_world.specs.declared.event.Event.{Event}
 use Rattle.sb_world.specs.declared.event.Event.TheVariants.{Purge, Trim, Restart}
@@ -50,7 +50,7 @@ removed_not_read old event answer new moves t u me owner key version is_event re
 
 -- ---- no removal up to a floor stands
 
-live_purged : (t : Table) → live t.floor t.entries ≡ t.entries → IsPurged t
+live_purged : (t : Table) → live_entries t.floor t.entries ≡ t.entries → IsPurged t
 live_purged t same e stands gone =
     let kept = of_kept (λ (x : Entry). is_set x.slot || nat_lt t.floor x.version) t.entries e (subst (λ (es : List Entry). Stands es e) (sym same) stands) in
     ⊎_elim
@@ -59,7 +59,7 @@ live_purged t same e stands gone =
     (or_cases (is_set e.slot) (nat_lt t.floor e.version) kept.1)
 
 content_live : (ws : List Write) (t : Table) → IsContentOf ws t → IsPurged t
-content_live ws t is = live_purged t (subst (λ (c : Table). live c.floor c.entries ≡ c.entries) (sym is.content) (content_is ws t.floor is.floor).live)
+content_live ws t is = live_purged t (subst (λ (c : Table). live_entries c.floor c.entries ≡ c.entries) (sym is.content) (content_is ws t.floor is.floor).live)
 
 pub state_purged : (s : State) → IsTrueState s → ArePurged s
 state_purged s t name = some_map _ _ (place_at s.now.places name)
@@ -82,7 +82,7 @@ answer_unless above = cond above (Err FloorTooHigh) (Ok tt)
 -- a purge of the own table reaches the floor, where that is held
 floor_of_holder : (h : Holder) (floor : ℕ) → floor ≤ h.shown.held → floor ≤ (own_purged floor h).shown.floor
 floor_of_holder h floor low =
-    cond_both (nat_lt h.shown.floor floor && nat_le floor h.shown.held) (record { shown = raised h.shown.held floor h.shown; stage = h.stage }) h (λ (k : Holder). floor ≤ k.shown.floor)
+    cond_both (nat_lt h.shown.floor floor && nat_le floor h.shown.held) (record { shown = table_at_floor h.shown.held floor h.shown; stage = h.stage }) h (λ (k : Holder). floor ≤ k.shown.floor)
     (λ _. omega arith)
     (λ no. ⊎_elim
     (λ higher. absurd (true≢false (sym (and_from (nat_lt h.shown.floor floor) (nat_le floor h.shown.held) higher (le-leb floor h.shown.held low)) ∙ no)))
@@ -91,7 +91,7 @@ floor_of_holder h floor low =
 
 holder_put : (owners : FinMap (slice_cmp nat_cmp) Holder) (me : List ℕ) (h : Holder) → holder_of (insert owners me h) me ≡ h
 holder_put owners me h =
-    ap (λ (o : Option Holder). unwrap_or o nothing)
+    ap (λ (o : Option Holder). unwrap_or o empty_holder)
     (get-insert nat_list_cmp_total owners me h me ∙ ap (λ (b : Bool). cond b (Some h) (get owners me)) (ap is_eq (tied_itself nat_list_cmp_total me)))
 
 floor_of_held : (held : Held) (floor : ℕ) → floor ≤ (shown_of held held.me).held → floor ≤ (shown_of (purged_own held floor) held.me).floor
@@ -123,7 +123,7 @@ module _ (old : Seen) (me : List ℕ) (effect : Effect) where
         let same : told_purged told ≡ told_purged floor = ap (λ (x : Turn). x.answer) is in
         let logs : q.log ≡ log = ap (λ (x : Turn). x.place.log) is in
         let kept : log.is_clean ≡ true = subst (λ (l : Log). l.is_clean ≡ true) logs clean in
-        let content : log.content.floor ≡ (purged floor p.log.content).floor = ap (λ (t : Table). t.floor) (purges.done.content kept) in
+        let content : log.content.floor ≡ (content_after_purge floor p.log.content).floor = ap (λ (t : Table). t.floor) (purges.done.content kept) in
         let reached = (floor_reached p.log.content floor).0 in
         let high : floor ≤ log.content.floor = omega (arith, content, reached) in
         let done : IsDone q = (
@@ -162,7 +162,7 @@ module _ (old : Seen) (me : List ℕ) (effect : Effect) where
         let same : told_trimmed told ≡ told_trimmed floor = ap (λ (x : Turn). x.answer) is in
         let logs : q.log ≡ log = ap (λ (x : Turn). x.place.log) is in
         let kept : log.is_clean ≡ true = subst (λ (l : Log). l.is_clean ≡ true) logs clean in
-        let content : log.content.floor ≡ (purged floor p.log.content).floor = ap (λ (t : Table). t.floor) (purges.done.content kept) in
+        let content : log.content.floor ≡ (content_after_purge floor p.log.content).floor = ap (λ (t : Table). t.floor) (purges.done.content kept) in
         let reached = (floor_reached p.log.content floor).0 in
         let high : floor ≤ log.content.floor = omega (arith, content, reached) in
         let low = allowed_low p (nat_lt (shown_of p.core.node.held p.core.node.held.me).held floor) refl allowed in

@@ -24,7 +24,7 @@ use Rattle.sb_world.specs.declared.event.Item.{Item}
 use Rattle.sb_world.specs.Connections.{Connection, connection_at}
 use Rattle.sb_world.specs.Places.{Place, Seen, place_at, IsClean}
 use Rattle.sb_world.specs.Hearing.{Heard, Listener, Hears, Tells, calls_in}
-use Rattle.sb_world.specs.Connecting.{fed, listener, heard_by, connections_after}
+use Rattle.sb_world.specs.Connecting.{stream_with_piece, listener, heard_by, connections_after}
 use Rattle.sb_world.specs.Turns.{with_core}
 use Rattle.sb_world.specs.States.{State, Run, FitsWorld, last_of}
 
@@ -110,7 +110,7 @@ pub record TakesPiece (old : Seen) (number count : ℕ) (c : Connection) (p : Pl
   -- it hears each in its turn
   pub hears : Hears (listener p.core c count) heard mid
   -- if no fault is reported, these are all that have come whole
-  pub whole : fault ≡ None → HaveCome (fed c.stream (take count c.left)) (map (λ (h : Heard). h.message) heard) last.stream
+  pub whole : fault ≡ None → HaveCome (stream_with_piece c.stream (take count c.left)) (map (λ (h : Heard). h.message) heard) last.stream
   -- a fault is that of the next message, or memory was missing
   pub tells : Tells (length old.sent) heard mid last fault items frames
   -- the items and the fault are the answer, and the replies are sent

@@ -8,7 +8,7 @@ use Rattle.sb_world.specs.declared.event.Event.TheVariants.{Commit, Take, CrashI
 use Rattle.sb_world.specs.declared.event.Answer.TheVariants as answers
 use Rattle.sb_world.specs.Connections.{Connection, connection_at, of_others}
 use Rattle.sb_world.specs.Places.{Place, Seen, place_at, frame_at}
-use Rattle.sb_world.specs.Turns.{Turn, still, Commits, TakesFirst, Crashes, Purges, Trims, Restarts, Offers}
+use Rattle.sb_world.specs.Turns.{Turn, idle_turn, Commits, TakesFirst, Crashes, Purges, Trims, Restarts, Offers}
 use Rattle.sb_world.specs.Connecting.{Connects, Closes, LinesUp, AsksOn, Pieces}
 
 -- the node of a connection, if that exists
@@ -50,8 +50,8 @@ Acts (Piece number count) p conns sent turn new = Pieces (connection_at conns nu
 Acts (Ask number) p conns sent turn new = AsksOn (connection_at conns number) p number conns sent turn new
 Acts (Offer me owner after) p conns sent turn new = Offers p sent owner after turn × (new ≡ conns)
 Acts (Read me owner key) p conns sent turn new =
-    ((turn ≡ still p (Err NoMemory)) ⊎ (turn ≡ still p (Ok (answers.Shown (shown_at key (shown_of p.core.node.held owner).entries))))) × (new ≡ conns)
-Acts (Upto me owner) p conns sent turn new = (turn ≡ still p (Ok (answers.Number (shown_of p.core.node.held owner).held))) × (new ≡ conns)
+    ((turn ≡ idle_turn p (Err NoMemory)) ⊎ (turn ≡ idle_turn p (Ok (answers.Shown (shown_at key (shown_of p.core.node.held owner).entries))))) × (new ≡ conns)
+Acts (Upto me owner) p conns sent turn new = (turn ≡ idle_turn p (Ok (answers.Number (shown_of p.core.node.held owner).held))) × (new ≡ conns)
 
 -- a node that is down answers to a restart, and to nothing else
 abbrev pub answers_to : Event → Bool → Bool
@@ -72,7 +72,7 @@ answers_to (Upto me owner) is_up = is_up
 
 abbrev pub ActsWhere : Bool → Event → Place → List Connection → List (List ℕ) → Turn → List Connection → Type 0
 ActsWhere true event p conns sent turn new = Acts event p conns sent turn new
-ActsWhere false event p conns sent turn new = (turn ≡ still p (Err Closed)) × (new ≡ conns)
+ActsWhere false event p conns sent turn new = (turn ≡ idle_turn p (Err Closed)) × (new ≡ conns)
 
 abbrev pub Does : Event → Place → List Connection → List (List ℕ) → Turn → List Connection → Type 0
 Does event p conns sent turn new = ActsWhere (answers_to event p.is_up) event p conns sent turn new

@@ -182,8 +182,8 @@ impl<L: WriteLog> Place<L> {
     /// Makes the frame of what the node holds of an owner above a version, as far as its budget has room. `NoMemory`.
     pub(crate) fn offer(&self, alloc: Global, owner: &Name, after: u64) -> Result<Vec<u8>, Fault>
         ensures delta { IfOk result (λ bytes. (blocks : List records.Block) × (is_delta blocks ≡ true)
-            × IsDelta self.now.core.settings self.now.core.node.held (spec.asked self.now.core.node.held owner.now after) blocks
-            × IsAnswer self.now.core.settings.budget self.now.core.node.held (spec.asked self.now.core.node.held owner.now after) blocks
+            × IsDelta self.now.core.settings self.now.core.node.held (spec.offer_digest self.now.core.node.held owner.now after) blocks
+            × IsAnswer self.now.core.settings.budget self.now.core.node.held (spec.offer_digest self.now.core.node.held owner.now after) blocks
             × (bytes.items ≡ frame (messages.Delta blocks))) }
         ensures memory { IfErr result (λ fault. fault ≡ Fault.NoMemory) }
     {
