@@ -1,8 +1,8 @@
 //! Requests to a running node, over its control socket.
 ghost use Rattle.std.specs.Prelude.{◌≡◌, ◌<◌};
 
-use crate::counting::Output;
 use crate::failure::{Failure, FaultPlace, Obstacle};
+use crate::output::Output;
 use sb_codec::{Ask, Message, Rows};
 use sb_frames::{Connection, Steps};
 use sb_listing::print_json_rows;

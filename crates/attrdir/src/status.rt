@@ -3,8 +3,8 @@ ghost use Rattle.std.specs.Prelude.{◌≡◌};
 ghost use Rattle.attrdir.specs.Status as spec;
 
 use crate::asking::{RowFormat, answer_of, unanswered};
-use crate::counting::Output;
 use crate::failure::{Failure, FaultPlace};
+use crate::output::Output;
 use sb_codec::{AskStatus, Figure, FigureKind, Message, NodeStatus, PeerStatus};
 use sb_query::status_in;
 use sb_run::LogCause;

@@ -1,6 +1,6 @@
 -- How news is on its way to peers.
 use Rattle.std.specs.Prelude.{◌≡◌, ◌≢◌, ℕ, Bool, true, false, ◌||◌, nat_lt, List, Some, slice_get, IfSome}
-use Rattle.sb_run.specs.declared.delivery.Delivery.{Delivery}
+use Rattle.sb_run.specs.declared.schedule.Delivery.{Delivery}
 
 -- there is news for the peer
 abbrev pub with_news : Delivery → Delivery

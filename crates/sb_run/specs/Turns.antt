@@ -7,10 +7,10 @@ use Rattle.sb_session.specs.declared.talk.Ended.{Ended}
 use Rattle.sb_session.specs.declared.talk.Ended.TheVariants as endings
 use Rattle.sb_session.specs.declared.pushing.PushEnd.{PushEnd}
 use Rattle.sb_session.specs.declared.pushing.PushEnd.TheVariants.{AfterHello, BeforeHello}
-use Rattle.sb_run.specs.declared.peer_state.DownReason.{DownReason}
-use Rattle.sb_run.specs.declared.peer_state.DownReason.TheVariants.{Unreachable, Silent, ReadFailed, HungUp, BrokenOff, EndedEarly}
-use Rattle.sb_run.specs.declared.peer_state.PeerState.{PeerState}
-use Rattle.sb_run.specs.declared.peer_state.PeerState.TheVariants.{Never, Answers, Down, Failed}
+use Rattle.sb_run.specs.declared.peers.DownReason.{DownReason}
+use Rattle.sb_run.specs.declared.peers.DownReason.TheVariants.{Unreachable, Silent, ReadFailed, HungUp, BrokenOff, EndedEarly}
+use Rattle.sb_run.specs.declared.peers.PeerState.{PeerState}
+use Rattle.sb_run.specs.declared.peers.PeerState.TheVariants.{Never, Answers, Down, Failed}
 use Rattle.sb_run.specs.declared.peers.Peer.{Peer}
 
 -- how a peer is by a session that ended so, whether it was heard in it, and whether no byte came for too long

@@ -1,29 +1,31 @@
 //! What the threads that dial the peers of a node share: they make its rounds, in turn and for news.
 ghost use Rattle.std.specs.Prelude.{◌≡◌, vec_len, vec_capacity, IfErr};
+ghost use Rattle.crossbeam_channel.specs.Claims.{IsSeatAt};
+ghost use Rattle.crossbeam_channel.specs.Ends.{sends_on, receives_on};
 
 use crate::backlogs::{Backlogs, Lack};
 use crate::bell::Parkers;
-use crate::context::NodeContext;
 use crate::dialing::{OwnDigests, dial_peer, digests_of_all};
-use crate::moments::{has_come, moment_after};
 use crate::node::Pace;
 use crate::observer::Observer;
-use crate::peer_state::PeerState;
+use crate::peers::{Peer, PeerState};
 use crate::pushing::{News, push_peer};
-use crate::rounds::RoundsTag;
 use crate::schedule::{Cause, NewsStep, Schedule, SessionEnd};
-use crate::turns::Turns;
+use crate::threads::NodeContext;
 use core::mem::replace_with;
+use crossbeam_channel::protocol::{Free, Split};
+use crossbeam_channel::{Pass, RuledReceiver, RuledSender, bounded_with};
 use crossbeam_utils::sync::Parker;
 use sb_budget::Backlog;
-use sb_directory::ReaderSeat;
+use sb_directory::{DirectoryTag, ReaderSeat};
 use sb_types::Fault;
 use std::alloc::Global;
+use std::marker::{Brand, PhantomData};
 use std::net::{Net, TcpListener, TcpStream};
 use std::sync::{Mutex, Wait};
 use std::thread;
 use std::thread::Threads;
-use std::time::{Clock, Instant};
+use std::time::{Clock, Duration, Instant};
 
 /// How long a session takes, at least, whose peer is a slow one, in milliseconds.
 const SLOW_SESSION: u64 = 500;
@@ -389,5 +391,333 @@ impl<O: Observer + Sync> Dialing<'_, O> {
             );
         }
         seats
+    }
+}
+
+/// After how long the observer gets the status of the node again, in milliseconds.
+const STATUS_INTERVAL: u64 = 1_000;
+
+/// What the thread has alone that dials in turn.
+#[derive(Drop)]
+pub(crate) struct Turns<'a> {
+    /// It waits at it.
+    parker: Parker,
+    /// Whether it dials for news too, since there is no other thread for that.
+    is_alone: bool,
+    /// How the peers were in the last status.
+    peers: Vec<Peer<'a>>,
+    /// How many rounds had ended then.
+    reported: u64,
+    /// When the observer is to get the status of the node again; at once if this is none.
+    status_due: Option<Instant>,
+    /// Whether the observer knows that another node writes under this node's name.
+    is_conflict_reported: bool,
+    /// When the next round in turn is due. None if the clock can't be read.
+    due: Option<Instant>,
+    /// From when on a gap may hasten the next round in turn. None if none was hastened.
+    hastens_from: Option<Instant>,
+}
+
+impl<'a> Turns<'a> {
+    /// Dials the peers of this schedule, also for news if it is alone, and waits at this parker. `NoMemory`.
+    pub(crate) fn new(
+        alloc: Global,
+        schedule: &Schedule<'a>,
+        is_alone: bool,
+        parker: Parker,
+    ) -> Result<Turns<'a>, Fault>
+        ensures { IfErr result (λ fault. fault ≡ Fault.NoMemory) }
+    {
+        Ok(Turns {
+            parker,
+            is_alone,
+            peers: schedule.peers(alloc)?,
+            reported: 0,
+            status_due: None,
+            is_conflict_reported: false,
+            due: None,
+            hastens_from: None,
+        })
+    }
+
+    /// Whether the observer is to get the status of the node: a peer is otherwise than before, or a round has ended and the last
+    /// status is a second old.
+    fn is_status_due<O: Observer, Q: Wait + Clock>(
+        &self,
+        rt: &Q,
+        dialing: &Dialing<'a, O>,
+    ) -> bool {
+        let mut schedule = dialing.schedule().lock(rt);
+        let ended = schedule.counts().ended;
+        let has_changed = schedule.take_change();
+        let is_late = self.status_due.is_none() || has_come(rt, self.status_due);
+        has_changed || ended != self.reported && is_late
+    }
+
+    /// Reports the status of the node to the observer, if it wants to know and it is time.
+    fn tell_status<S: RoundsTag, H: Wait + Drop, Q: Wait + Clock, O: Observer>(
+        &mut self,
+        node: &NodeContext<S, H, Q>,
+        dialing: &Dialing<'a, O>,
+        seat: ReaderSeat<S>,
+    ) -> ReaderSeat<S> {
+        let observer = dialing.observer();
+        if !self.is_status_due(node.rt, dialing) || !observer.wants_status() {
+            return seat;
+        }
+        self.status_due = moment_after(node.rt, STATUS_INTERVAL);
+        let counts = dialing.schedule().lock(node.rt).report(&mut self.peers);
+        self.reported = counts.ended;
+        node.report_status(observer, counts, self.peers.as_slice(), seat)
+    }
+
+    /// Publishes what there was no memory to publish before, and reports to the observer, once, that another node writes under this
+    /// node's name.
+    fn refresh_and_report<S: RoundsTag, H: Wait + Drop, Q: Wait, O: Observer>(
+        &mut self,
+        node: &NodeContext<S, H, Q>,
+        observer: &O,
+        seat: &mut ReaderSeat<S>,
+    ) {
+        let _ = node.directory.refresh(node.rt, seat);
+        if self.is_conflict_reported {
+            return;
+        }
+        if let Some(version) = node.directory.conflict(node.rt, seat) {
+            self.is_conflict_reported = true;
+            observer.conflict(version);
+        }
+    }
+
+    /// Makes the round in turn that has begun, with the peer at this index if there are peers. The next is due after the pause.
+    fn make_round<S: RoundsTag, H: Wait + Drop, Q: Wait + Net + Clock, O: Observer>(
+        &mut self,
+        node: &NodeContext<S, H, Q>,
+        dialing: &Dialing<'a, O>,
+        seat: ReaderSeat<S>,
+        next: Option<usize>,
+    ) -> ReaderSeat<S> {
+        let mut current = seat;
+        // What is missing by now this round may bring.
+        let _ = node.bell.take_gap();
+        match next {
+            Some(index) => current = dialing.round(node, current, index, Cause::Turn),
+            None => {
+                dialing.schedule().lock(node.rt).count_round(false);
+                dialing.look_at_log(node);
+            }
+        }
+        current = self.tell_status(node, dialing, current);
+        self.refresh_and_report(node, dialing.observer(), &mut current);
+        self.due = moment_after(node.rt, node.pace.pause);
+        current
+    }
+
+    /// Waits until the next round in turn is due or the thread is woken, and no longer than until this moment, if it is one.
+    fn park<Q: Wait + Clock>(&self, rt: &Q, until: Option<Instant>) {
+        let moment = match (self.due, until) {
+            (Some(due), Some(until)) if due <= until => Some(due),
+            (due, None) => due,
+            (_, until) => until,
+        };
+        match moment {
+            Some(moment) => self.parker.park_deadline(rt, moment),
+            None => self.parker.park(rt),
+        }
+    }
+
+    /// Whether the next round in turn is made at once, since a peer sent writes after ones that are missing. That is so
+    /// once a pause at most, and only if there is a round left.
+    fn is_hastened<S: RoundsTag, H: Wait + Drop, Q: Wait + Clock, O: Observer>(
+        &mut self,
+        node: &NodeContext<S, H, Q>,
+        dialing: &Dialing<'a, O>,
+    ) -> bool {
+        if !node.bell.take_gap() || !dialing.schedule().lock(node.rt).has_round_left() {
+            return false;
+        }
+        if self.hastens_from.is_some() && !has_come(node.rt, self.hastens_from) {
+            return false;
+        }
+        self.hastens_from = moment_after(node.rt, node.pace.pause);
+        node.counts.add_hastened_round();
+        true
+    }
+
+    /// Waits until the next round in turn is due or hastened, or the node is to end. Meanwhile it reports to the observer what
+    /// the other threads met, and dials for news itself if it is alone.
+    fn wait_for_turn<S: RoundsTag, H: Wait + Drop, Q: Wait + Net + Clock, O: Observer>(
+        &mut self,
+        node: &NodeContext<S, H, Q>,
+        dialing: &Dialing<'a, O>,
+        seat: ReaderSeat<S>,
+    ) -> ReaderSeat<S> {
+        let mut current = seat;
+        for _ in node.rt.forever() {
+            if node.ending.is_raised()
+                || has_come(node.rt, self.due)
+                || self.is_hastened(node, dialing)
+            {
+                return current;
+            }
+            let step = if self.is_alone {
+                dialing.next_news(node)
+            } else {
+                NewsStep::Wait(None)
+            };
+            match step {
+                NewsStep::Dial(index) => {
+                    current = dialing.bring_news(node, current, index);
+                    current = self.tell_status(node, dialing, current);
+                }
+                NewsStep::Wait(until) => {
+                    current = self.tell_status(node, dialing, current);
+                    self.park(node.rt, until);
+                }
+            }
+        }
+        unreachable!()
+    }
+
+    /// Makes all rounds in turn of the node's pace, and waits until those for news have ended. None if the node is to end before.
+    pub(crate) fn dial_all<S: RoundsTag, H: Wait + Drop, Q: Wait + Net + Clock, O: Observer>(
+        self,
+        node: &NodeContext<S, H, Q>,
+        dialing: &Dialing<'a, O>,
+        seat: ReaderSeat<S>,
+    ) -> (ReaderSeat<S>, Option<Rounds<S>>) {
+        let mut turns = self;
+        let mut current = seat;
+        for _ in node.rt.forever() {
+            if node.ending.is_raised() {
+                return (current, None);
+            }
+            let begun = dialing.schedule().lock(node.rt).begin_turn();
+            match begun {
+                Some(next) => {
+                    current = turns.make_round(node, dialing, current, next);
+                    current = turns.wait_for_turn(node, dialing, current);
+                }
+                None => match dialing.faults_if_done(node) {
+                    Some(faults) => return (current, Some(Rounds::new(node.pace.rounds, faults))),
+                    None => turns.parker.park(node.rt),
+                },
+            }
+        }
+        unreachable!()
+    }
+}
+
+/// The moment so many milliseconds after this one. None if the clock can't be read.
+pub(crate) fn moment_after<Q: Clock>(clock: &Q, milliseconds: u64) -> Option<Instant> {
+    match Instant::now(clock) {
+        Ok(now) => now.checked_add(Duration::from_millis(milliseconds)),
+        Err(_) => None,
+    }
+}
+
+/// Whether a moment has come. If the clock can't be read, it has, since that is no reason to wait.
+pub(crate) fn is_past<Q: Clock>(clock: &Q, moment: Instant) -> bool {
+    match Instant::now(clock) {
+        Ok(now) => now >= moment,
+        Err(_) => true,
+    }
+}
+
+/// Whether there is such a moment, and it has come.
+pub(crate) fn has_come<Q: Clock>(clock: &Q, moment: Option<Instant>) -> bool {
+    moment.is_some_and(|moment| is_past(clock, moment))
+}
+
+/// A running node that also names, in proofs alone, how many rounds it is to make.
+pub(crate) trait RoundsTag: DirectoryTag {
+    ghost use Rattle.std.specs.Prelude.{ℕ};
+
+    ghost rounds: { ℕ };
+}
+
+impl RoundsTag for Brand {
+    ghost rounds = { 0 };
+}
+
+/// The rounds that were made, which are all.
+#[derive(Drop)]
+pub(crate) struct Rounds<S: RoundsTag> {
+    pub(crate) made: u64,
+    /// How many of them had a fault.
+    pub(crate) faults: u64,
+    of: PhantomData<S>,
+    ghost all: { made ≡ S.rounds },
+}
+
+impl<S: RoundsTag> Rounds<S> {
+    pub(crate) fn new(made: u64, faults: u64) -> Rounds<S>
+        requires { made ≡ S.rounds }
+    {
+        Rounds {
+            made,
+            faults,
+            of: PhantomData,
+        }
+    }
+}
+
+/// The end of the dialing thread.
+#[derive(Drop)]
+pub(crate) struct RoundsSender<S: RoundsTag> {
+    to: RuledSender<Rounds<S>, (), Free>,
+    pass: Pass<Rounds<S>, ()>,
+    ghost fits: { IsSeatAt (sends_on to) pass },
+}
+
+/// The end of the calling thread.
+#[derive(Drop)]
+pub(crate) struct RoundsReceiver<S: RoundsTag> {
+    from: RuledReceiver<Rounds<S>, (), Free>,
+    pass: Pass<Rounds<S>, ()>,
+    ghost fits: { IsSeatAt (receives_on from) pass },
+}
+
+/// Neither end knows anything.
+struct NothingKnown;
+
+impl Split<()> for NothingKnown {
+    ghost left = { λ v. v };
+
+    ghost right = { λ v. v };
+}
+
+/// A channel for one message. `NoMemory`.
+pub(crate) fn rounds_channel<S: RoundsTag>(
+    alloc: Global,
+) -> Result<(RoundsSender<S>, RoundsReceiver<S>), Fault>
+    ensures { IfErr result (λ fault. fault ≡ Fault.NoMemory) }
+{
+    let (to, from, mut pass) = bounded_with::<Rounds<S>, (), Free, Global>(alloc, 1)?;
+    let other = to.another::<NothingKnown>(&mut pass);
+    Ok((
+        RoundsSender { to, pass },
+        RoundsReceiver { from, pass: other },
+    ))
+}
+
+impl<S: RoundsTag> RoundsSender<S> {
+    /// Sends the rounds, at the end.
+    pub(crate) fn send<R: Wait>(self, rt: &R, rounds: Rounds<S>) {
+        let RoundsSender { to, mut pass } = self;
+        let _ = to.send_as::<Free, R>(rt, &mut pass, rounds);
+    }
+}
+
+impl<S: RoundsTag> RoundsReceiver<S> {
+    /// Waits until the rounds are sent. `NoMemory` if the other end is gone before.
+    pub(crate) fn receive<R: Wait>(self, rt: &R) -> Result<Rounds<S>, Fault>
+        ensures { IfErr result (λ fault. fault ≡ Fault.NoMemory) }
+    {
+        let RoundsReceiver { from, mut pass } = self;
+        match from.recv_as::<Free, R>(rt, &mut pass) {
+            Ok(rounds) => Ok(rounds),
+            Err(_) => Err(Fault::NoMemory),
+        }
     }
 }

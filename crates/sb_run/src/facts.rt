@@ -2,9 +2,8 @@
 ghost use Rattle.std.specs.Prelude.{◌≡◌, ◌++◌, OnOk, IfOk, IfErr};
 ghost use Rattle.sb_run.specs.Facts as spec;
 
-use crate::log_cause::LogCause;
+use crate::observer::{LogCause, Troubles};
 use crate::schedule::RoundCounts;
-use crate::status::Troubles;
 use sb_codec::{Figure, FigureKind};
 use sb_types::Fault;
 use std::alloc::Global;

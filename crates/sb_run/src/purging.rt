@@ -4,10 +4,10 @@ ghost use Rattle.sb_log.specs.Puts.{IsSettled};
 ghost use Rattle.sb_directory.specs.Serving.{IsLater};
 ghost use Rattle.sb_run.specs.OwnPurging.{running_least, MayPurge};
 
-use crate::context::NodeContext;
+use crate::dialer::RoundsTag;
 use crate::observer::Observer;
 use crate::own_writes::OwnWrites;
-use crate::rounds::RoundsTag;
+use crate::threads::NodeContext;
 use sb_codec::Message;
 use sb_directory::ReaderSeat;
 use sb_log::WriteLog;

@@ -6,12 +6,11 @@ ghost use Rattle.sb_session.specs.Sessions.{new_session};
 ghost use Rattle.sb_run.specs.News as spec;
 ghost use Rattle.sb_run.specs.Turns as turns;
 
-use crate::context::NodeContext;
-use crate::dialing::reach;
-use crate::greeting::session_of;
-use crate::peer_reader::PeerReader;
-use crate::peer_state::{DownReason, PeerState};
-use crate::rounds::RoundsTag;
+use crate::dialer::RoundsTag;
+use crate::dialing::{PeerReader, reach};
+use crate::peers::{DownReason, PeerState};
+use crate::pool::session_of;
+use crate::threads::NodeContext;
 use sb_budget::Backlog;
 use sb_directory::ReaderSeat;
 use sb_frames::{Connection, Steps};

@@ -8,15 +8,14 @@ ghost use Rattle.sb_run.specs.Facts.{figures_of};
 ghost use Rattle.sb_run.specs.StatusReplies as spec;
 ghost use Rattle.sb_run.specs.StatusReplies.{identity_of, IsCounted, IsShownUpTo, IsStatusFault, IsStatusReply};
 
-use crate::context::NodeContext;
 use crate::control::refused_by;
-use crate::dialer::Dialing;
+use crate::control_socket::owners_at_zero;
+use crate::dialer::{Dialing, RoundsTag};
 use crate::facts::Facts;
 use crate::observer::Observer;
-use crate::reporting::owners_at_zero;
-use crate::rounds::RoundsTag;
 use crate::schedule::PeersReport;
 use crate::status_texts::short_text;
+use crate::threads::NodeContext;
 use sb_codec::{AskStatus, Message, NodeIdentity, NodeStatus};
 use sb_directory::ReaderSeat;
 use sb_query::status_page;
