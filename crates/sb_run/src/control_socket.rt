@@ -251,7 +251,7 @@ impl<S: RoundsTag, H: Wait + Drop, Q: Wait + Clock> NodeContext<'_, S, H, Q> {
     ) -> ReaderSeat<S> {
         let mut seat = seat;
         let uptime = self.counts.uptime(self.rt);
-        let keys = self.directory.keys(self.rt, &mut seat);
+        let keys = self.directory.key_count(self.rt, &mut seat);
         let conflict = self.directory.conflict(self.rt, &mut seat);
         let at_zero = match owners_at_zero(self, &mut seat) {
             Ok(owners) => owners,

@@ -77,7 +77,7 @@ impl<S: RoundsTag, H: Wait + Drop, Q: Wait> NodeContext<'_, S, H, Q> {
         ensures settled { IsSettled (L.seen writes.old.log) (L.leaves writes.old.log) → IsSettled (L.seen writes.new.log) (L.leaves writes.new.log) }
         ensures closes { (L.seen writes.old.log).is_open ≡ true → (L.seen writes.new.log).is_open ≡ false → writes.new.has_failed ≡ true }
     {
-        let is_full = self.directory.keys(self.rt, seat) >= KEYS_MOST;
+        let is_full = self.directory.key_count(self.rt, seat) >= KEYS_MOST;
         if writes.cause().is_some() || !turns.is_next(is_full) {
             return;
         }

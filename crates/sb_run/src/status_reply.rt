@@ -87,7 +87,7 @@ impl<S: RoundsTag, H: Wait + Drop, Q: Wait + Clock> NodeContext<'_, S, H, Q> {
         ensures memory { IfErr result (λ fault. fault ≡ Fault.NoMemory) }
         ensures still { IsStill seat.old seat.new }
     {
-        let keys = self.directory.keys(self.rt, seat) as u64;
+        let keys = self.directory.key_count(self.rt, seat) as u64;
         let at_zero = owners_at_zero(self, seat)?;
         let conflict = self.directory.conflict(self.rt, seat);
         Ok(NodeCounts {

@@ -85,7 +85,7 @@ impl<S: DirectoryTag, H: Wait + Drop> Desk<S, H> {
     ) -> Result<(Option<u64>, usize), Fault> {
         let seat = there(rt, self.seat.as_mut());
         let floor = self.owner.purge(rt, &self.directory, seat, least)?;
-        Ok((floor, self.directory.keys(rt, seat)))
+        Ok((floor, self.directory.key_count(rt, seat)))
     }
 
     /// Makes the directory take a delta.
