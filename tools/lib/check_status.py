@@ -3,30 +3,13 @@ import json
 import subprocess
 import time
 
-from nodes import BYE, REFUSED, SECONDS, Difference, connect, delta, exchange, frame, hello, number, read_frame, throw, want, weight
+from nodes import BYE, REFUSED, SECONDS, Difference, Reader, connect, delta, exchange, frame, hello, number, read_frame, throw, want, weight
 
 ASK_STATUS, NODE_STATUS = 0x15, 0x16
 
 
 def ask_status(after=0):
     return frame(ASK_STATUS, number(after))
-
-
-class Reader:
-    """The body of a message, read from its front."""
-
-    def __init__(self, body):
-        self.rest = body
-
-    def take(self, count):
-        taken, self.rest = self.rest[:count], self.rest[count:]
-        return taken
-
-    def number(self, size):
-        return int.from_bytes(self.take(size), "big")
-
-    def text(self):
-        return self.take(self.number(1)).decode()
 
 
 def read_status(answer):
