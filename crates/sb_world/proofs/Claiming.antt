@@ -183,6 +183,8 @@ message_taken s core m answer t new limits takes more last rest = go m answer li
     go (messages.Put wanted) r is a node = same [] refl node
     go (messages.Done version) r is a node = same [] refl node
     go (messages.Refused fault) r is a node = same [] refl node
+    go (messages.AskStatus after) r is a node = same [] refl node
+    go (messages.NodeStatus status) r is a node = same [] refl node
 
 abbrev some_next : Message → Result (Option Message) Fault
 some_next m = Ok (Some m)

@@ -75,6 +75,8 @@ module _ (old new : List ℕ → List Write) (grows : Grows old new) where
   message_on (messages.Put wanted) t = tt
   message_on (messages.Done version) t = tt
   message_on (messages.Refused fault) t = tt
+  message_on (messages.AskStatus after) t = tt
+  message_on (messages.NodeStatus status) t = tt
 
   pub frame_on : (budget : ℕ) (bytes : List ℕ) → IsTrueFrame old budget bytes → IsTrueFrame new budget bytes
   frame_on budget bytes f = record { message = f.message; limits = f.limits; laid = f.laid; honest = message_on f.message f.honest; fits = f.fits }
