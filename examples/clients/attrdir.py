@@ -17,15 +17,19 @@ CAUSES = dict(enumerate("no_space cannot_open locked io damaged no_memory other 
 STATES = dict(enumerate("not_dialed answers unreachable silent unreadable hung_up broken_off ended_early".split()))
 STATES.update((32 + number, f"fault_{number}") for number in range(1, 32))
 TEXTS = {
+    1: "there was no memory; free some, or ask for less",
     2: "a name is 1 to 32 of the bytes a-z, 0-9 and -",
     3: "a key is 1 to 64 of the bytes a-z, 0-9, '.', '_', '/' and -; a prefix may be empty",
     4: "a value is addr with 1 to 128 printing bytes, weight below 2^63, flag true or false, or text of 1 to 512 UTF-8 bytes",
     6: "the owner has 4,096 keys, removed ones counted; write under a key that it has",
+    8: "the owner has used every version that the settings allow",
     9: "there is nothing to remove under this key",
+    10: "a frame begins with another byte than a7; the peer speaks another protocol",
     11: "the frame is of another version of the format; run the same release at both ends",
     13: "a message of this kind has no place here",
     14: "a message breaks the format",
     15: "this is closed; open it again",
+    18: "the log could not be read or written; open it again",
     21: "another node writes under this node's name; give each node a name of its own",
     28: "the stream ends inside a frame",
 }
@@ -35,8 +39,8 @@ class Fault(Exception):
     """A request failed. It has the number of the fault and its text; docs/REFERENCE.md explains each number."""
 
     def __init__(self, number, text=None):
-        super().__init__(number, text or TEXTS.get(number, "docs/REFERENCE.md explains this number"))
-        self.number, self.text = self.args
+        self.number, self.text = number, text or TEXTS.get(number, "docs/REFERENCE.md explains this number")
+        super().__init__(f"fault {number}: {self.text}")
 
 
 class Body(io.BytesIO):
@@ -84,6 +88,20 @@ def slot(kind, value):
     if kind == "text" and 1 <= len(value.encode()) <= 512:
         return struct.pack(">BH", 4, len(value.encode())) + value.encode()
     raise Fault(4)
+
+
+def receive(reader):
+    """Reads a frame: the kind of its message, and the body."""
+    head = reader.read(6)
+    if len(head) < 6:
+        raise Fault(28)
+    mark, version, length = struct.unpack(">BBI", head)
+    if (mark, version) != (0xA7, 3):
+        raise Fault(11 if mark == 0xA7 else 10)
+    payload = reader.read(min(length, 65530))
+    if not 1 <= len(payload) == length:
+        raise Fault(28)
+    return payload[0], Body(payload[1:])
 
 
 class Node:
@@ -169,15 +187,12 @@ class Node:
                 stream.settimeout(self.timeout)
                 stream.sendall(struct.pack(">BBIB", 0xA7, 3, 1 + len(body), kind) + body)
                 with stream.makefile("rb") as reader:
-                    head = reader.read(6)
-                    if head[:2] != b"\xa7\x03":
-                        raise Fault(11 if head else 28)
-                    answer = reader.read(int.from_bytes(head[2:], "big"))
+                    found, answer = receive(reader)
             except OSError as error:
                 raise Fault(16, f"{problem}: {error.strerror or error}") from error
-        if answer[:1] != bytes([wanted]):
-            raise Fault(answer[1] if answer[:1] == bytes([REFUSED]) else 13 if answer else 28)
-        return Body(answer[1:])
+        if found != wanted:
+            raise Fault(answer.number(1) if found == REFUSED else 13)
+        return answer
 
 
 def main():
