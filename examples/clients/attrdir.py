@@ -90,20 +90,6 @@ def slot(kind, value):
     raise Fault(4)
 
 
-def receive(reader):
-    """Reads a frame: the kind of its message, and the body."""
-    head = reader.read(6)
-    if len(head) < 6:
-        raise Fault(28)
-    mark, version, length = struct.unpack(">BBI", head)
-    if (mark, version) != (0xA7, 3):
-        raise Fault(11 if mark == 0xA7 else 10)
-    payload = reader.read(min(length, 65530))
-    if not 1 <= len(payload) == length:
-        raise Fault(28)
-    return payload[0], Body(payload[1:])
-
-
 class Node:
     """A node that runs. Each request has a connection of its own, so threads can share a Node. Each call can raise Fault."""
 
@@ -146,7 +132,7 @@ class Node:
                 rows = {(row["owner"], row["key"]): row for row in self.get(owner, prefix, key)}
                 is_whole = before == os.stat(self.path).st_mtime_ns
             except (Fault, OSError) as fault:
-                if getattr(fault, "number", 16) not in (1, 15, 16, 28):
+                if isinstance(fault, Fault) and fault.number not in (1, 15, 16, 28):
                     raise
                 is_whole = False
             if is_whole:
@@ -172,10 +158,9 @@ class Node:
             peers += [body.peer() for _ in range(body.number(2))]
         status = {FIGURES.get(number, f"figure_{number}"): value for number, value in figures}
         cause, conflict, caught_up = status["log_fault"], status["conflict"], status["caught_up"] == 1
-        status.update(node=node, cluster=cluster, release=release, peers=peers, caught_up=caught_up)
-        status.update(ready=caught_up and not cause and not conflict, conflict=conflict or None)
-        status["log_fault"] = CAUSES.get(cause, f"cause_{cause}") if cause else None
-        return status
+        cause = CAUSES.get(cause, f"cause_{cause}") if cause else None
+        status.update(node=node, cluster=cluster, release=release, ready=caught_up and not cause and not conflict)
+        return {**status, "caught_up": caught_up, "log_fault": cause, "conflict": conflict or None, "peers": peers}
 
     def _ask(self, kind, body, wanted):
         """Sends a message, and returns the body of the answer, which has to be of the kind `wanted`."""
@@ -187,12 +172,18 @@ class Node:
                 stream.settimeout(self.timeout)
                 stream.sendall(struct.pack(">BBIB", 0xA7, 3, 1 + len(body), kind) + body)
                 with stream.makefile("rb") as reader:
-                    found, answer = receive(reader)
+                    head = reader.read(6)
+                    length = int.from_bytes(head[2:], "big") if head[:2] == b"\xa7\x03" else 0
+                    answer = reader.read(min(length, 65530))
             except OSError as error:
                 raise Fault(16, f"{problem}: {error.strerror or error}") from error
-        if found != wanted:
-            raise Fault(answer.number(1) if found == REFUSED else 13)
-        return answer
+        if len(head) < 6 or len(answer) < length:
+            raise Fault(28)
+        if not answer:
+            raise Fault(11 if head[0] == 0xA7 else 10)
+        if answer[0] != wanted:
+            raise Fault(answer[1] if answer[0] == REFUSED else 13)
+        return Body(answer[1:])
 
 
 def main():
@@ -215,6 +206,8 @@ def main():
             print(json.dumps(found, ensure_ascii=False, sort_keys=True, separators=(",", ":")), flush=True)
     except Fault as fault:
         parser.exit(3, f"fault {fault.number}\n{fault.text}\n")
+    except KeyboardInterrupt:
+        parser.exit(130)
 
 
 if __name__ == "__main__":

@@ -10,10 +10,11 @@ import threading
 import time
 from queue import Empty, Queue
 
-from check_asking import CARRIES_MORE, MadeUp, done, refused, rows, texts
+from check_asking import MadeUp, done, refused, rows, texts
 from check_scripts import tell
+from check_status import ASK_STATUS, NODE_STATUS
 from check_watch import VALUES
-from nodes import BYE, ROOT, SECONDS, Difference, run, want
+from nodes import BYE, ROOT, SECONDS, Difference, frame, number, run, text, want
 
 CLIENT = ROOT / "examples" / "clients" / "attrdir.py"
 
@@ -193,6 +194,21 @@ def client_statuses(check):
     want("what it prints", json.loads(command(other, "status")[1])["node"], "b")
 
 
+def client_status_words(check):
+    """The client has the program's word for each figure, each cause of a log's fault, and each state of a peer, also for those of a later release."""
+    states = [*range(9), 32, 33, 48, 63, 64, 255]
+    peers = b"".join(text(f"p{state}") + number(state, 1) + number(7) for state in states)
+    for cause in range(11):
+        figures = [(at, cause if at == 3 else cause % 2 if at in (2, 4) else at) for at in range(1, 23)]
+        told = b"".join(number(at, 1) + number(value) for at, value in figures)
+        head = b"\x00" + text("a") + text("c") + text("0.3.0")
+        answer = frame(NODE_STATUS, head + number(len(figures), 2) + told + number(len(states), 2) + peers)
+        made = MadeUp(check.folder() / "made.ctl", [answer, answer])
+        printed = run(check.program, "status", "--control", str(made.path), "--format", "json")[1]
+        want(f"a status with the cause {cause}", CLIENT_MODULE.Node(made.path).status(), json.loads(printed))
+        want("its requests", made.requests, [(ASK_STATUS, number(0))] * 2)
+
+
 def client_faults(check):
     """The client ends by the fault of the program's commands, with its text: of wrong words, of a node's refusal, of no node, and of wrong answers."""
     told, folder = texts(), check.folder()
@@ -212,8 +228,8 @@ def client_faults(check):
     at = lambda path, timeout=SECONDS: CLIENT_MODULE.Node(path, timeout)
     (folder / "taken").touch()
     for path in (folder / "none.ctl", folder / "taken", folder / ("x" * 120)):
-        number, words = fault_of(at(path).set, "k", "weight", 5)
-        want(f"the fault of {path.name}", (number, words.startswith("no node could be reached: ")), (16, True))
+        found, words = fault_of(at(path).set, "k", "weight", 5)
+        want(f"the fault of {path.name}", (found, words.startswith("no node could be reached: ")), (16, True))
     want("the fault at a --sock", fault_of(at(node.sock).get)[0], 13)
     made = lambda *answers: at(MadeUp(check.folder() / "made.ctl", answers).path)
     good = done(5)
@@ -223,8 +239,8 @@ def client_faults(check):
         want(f"the fault of {answer.hex()}", fault_of(made(answer).delete, "k")[0], fault)
     want("a page that has no row", fault_of(made(rows(more=1)).get)[0], 14)
     for fault in told:
-        number, words = fault_of(made(refused(fault)).set, "k", "weight", 5)
-        want("the number of a refusal", number, fault)
+        found, words = fault_of(made(refused(fault)).set, "k", "weight", 5)
+        want("the number of a refusal", found, fault)
         if fault in (1, 6, 8, 9, 15, 18):
             want("the text of a refusal", words, told[fault])
     door = socket.socket(socket.AF_UNIX)
@@ -243,4 +259,6 @@ def client_alone(check):
     want("what it imports", sorted(set(imports) - there), [])
 
 
-PARTS = (client_rows, client_commands, client_watches, client_watches_pages, client_statuses, client_faults, client_alone)
+PARTS = (
+    client_rows, client_commands, client_watches, client_watches_pages, client_statuses, client_status_words, client_faults, client_alone,
+)
