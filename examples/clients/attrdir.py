@@ -1,5 +1,5 @@
 #!/usr/bin/env python3
-"""A client of an attrdir node, over the control socket of the node. It needs Linux, Python 3.8 or later, and nothing else."""
+"""A client of an attrdir node, over the control socket of the node. It needs Linux and Python 3.8 or later, and nothing else."""
 import argparse
 import io
 import json
@@ -26,6 +26,7 @@ TEXTS = {
     9: "there is nothing to remove under this key",
     10: "a frame begins with another byte than a7; the peer speaks another protocol",
     11: "the frame is of another version of the format; run the same release at both ends",
+    12: "a frame's length is outside 1 to 65,530",
     13: "a message of this kind has no place here",
     14: "a message breaks the format",
     15: "this is closed; open it again",
@@ -125,7 +126,7 @@ class Node:
         If the node ends, it waits for the next start. At first such a node lacks the rows of others. So a row is gone
         only after the node has shown this version of the owner, or a later one, since the start.
         """
-        shown, heard, start = {}, {}, None
+        table, latest, start = {}, {}, None
         while True:
             try:
                 before = os.stat(self.path).st_mtime_ns  # each start of the node makes the socket again
@@ -136,16 +137,16 @@ class Node:
                     raise
                 is_whole = False
             if is_whole:
-                start, heard = before, heard if before == start else {}
-                for place in sorted({*shown, *rows}):
-                    old, new = shown.get(place), rows.get(place)
-                    if new and (not old or new["version"] > old["version"]):
-                        shown[place] = new
+                start, latest = before, latest if before == start else {}
+                for place in sorted({*table, *rows}):
+                    old, new = table.get(place), rows.get(place)
+                    if new and (not old or new != old and new["version"] >= old["version"]):
+                        table[place] = new
                         yield "set", new
-                    elif not new and heard.get(old["owner"], 0) >= old["version"]:
-                        yield "gone", shown.pop(place)
+                    elif not new and latest.get(old["owner"], 0) >= old["version"]:
+                        yield "gone", table.pop(place)
                 for row in rows.values():
-                    heard[row["owner"]] = max(row["version"], heard.get(row["owner"], 0))
+                    latest[row["owner"]] = max(row["version"], latest.get(row["owner"], 0))
             time.sleep(pause)
 
     def status(self):
@@ -162,8 +163,8 @@ class Node:
         status.update(node=node, cluster=cluster, release=release, ready=caught_up and not cause and not conflict)
         return {**status, "caught_up": caught_up, "log_fault": cause, "conflict": conflict or None, "peers": peers}
 
-    def _ask(self, kind, body, wanted):
-        """Sends a message, and returns the body of the answer, which has to be of the kind `wanted`."""
+    def _ask(self, kind, body, answer_kind):
+        """Sends a message, and returns the body of the answer, which has to be of this kind."""
         problem = "no node could be reached"
         with socket.socket(socket.AF_UNIX) as stream:
             try:
@@ -174,14 +175,14 @@ class Node:
                 with stream.makefile("rb") as reader:
                     head = reader.read(6)
                     length = int.from_bytes(head[2:], "big") if head[:2] == b"\xa7\x03" else 0
-                    answer = reader.read(min(length, 65530))
+                    answer = reader.read(length if length <= 65530 else 0)
             except OSError as error:
                 raise Fault(16, f"{problem}: {error.strerror or error}") from error
-        if len(head) < 6 or len(answer) < length:
+        if len(head) < 6 or len(answer) < length <= 65530:
             raise Fault(28)
         if not answer:
-            raise Fault(11 if head[0] == 0xA7 else 10)
-        if answer[0] != wanted:
+            raise Fault(10 if head[0] != 0xA7 else 11 if head[1] != 3 else 12)
+        if answer[0] != answer_kind:
             raise Fault(answer[1] if answer[0] == REFUSED else 13)
         return Body(answer[1:])
 
@@ -196,14 +197,14 @@ def main():
         options = commands.add_parser(command)
         for word in words[command]:
             options.add_argument(word)
-    given = {name: word for name, word in vars(parser.parse_args()).items() if word is not None}
-    node, command = Node(given.pop("control")), given.pop("command")
-    if given.get("kind") in ("weight", "flag") and re.fullmatch("0|[1-9][0-9]*|true|false", given["value"]):
-        given["value"] = json.loads(given["value"])
+    arguments = {name: word for name, word in vars(parser.parse_args()).items() if word is not None}
+    node, command = Node(arguments.pop("control")), arguments.pop("command")
+    if arguments.get("kind") in ("weight", "flag") and re.fullmatch("0|[1-9][0-9]*|true|false", arguments["value"]):
+        arguments["value"] = json.loads(arguments["value"])
     try:
-        answer = getattr(node, "delete" if command == "del" else command)(**given)
-        for found in answer if command in ("get", "watch") else [answer]:
-            print(json.dumps(found, ensure_ascii=False, sort_keys=True, separators=(",", ":")), flush=True)
+        answer = getattr(node, "delete" if command == "del" else command)(**arguments)
+        for item in answer if command in ("get", "watch") else [answer]:
+            print(json.dumps(item, ensure_ascii=False, sort_keys=True, separators=(",", ":")), flush=True)
     except Fault as fault:
         parser.exit(3, f"fault {fault.number}\n{fault.text}\n")
     except KeyboardInterrupt:

@@ -14,7 +14,7 @@ from check_asking import MadeUp, done, refused, rows, texts
 from check_scripts import tell
 from check_status import ASK_STATUS, NODE_STATUS
 from check_watch import VALUES
-from nodes import BYE, ROOT, SECONDS, Difference, frame, number, run, text, want
+from nodes import BYE, FRAME_FRONT, ROOT, SECONDS, Difference, frame, number, run, text, want
 
 CLIENT = ROOT / "examples" / "clients" / "attrdir.py"
 
@@ -234,7 +234,7 @@ def client_faults(check):
     made = lambda *answers: at(MadeUp(check.folder() / "made.ctl", answers).path)
     good = done(5)
     for answer, fault in (
-        (b"\xa8" + good[1:], 10), (b"\xa7\x02" + good[2:], 11), (b"", 28), (good[:4], 28), (good[:-1], 28), (rows(), 13), (BYE, 13), (good[:5] + b"\x03" + good[6:9], 14),
+        (b"\xa8" + good[1:], 10), (b"\xa7\x02" + good[2:], 11), (FRAME_FRONT + number(0, 4), 12), (FRAME_FRONT + number(65531, 4), 12), (b"", 28), (good[:4], 28), (good[:-1], 28), (rows(), 13), (BYE, 13), (good[:5] + b"\x03" + good[6:9], 14),
     ):
         want(f"the fault of {answer.hex()}", fault_of(made(answer).delete, "k")[0], fault)
     want("a page that has no row", fault_of(made(rows(more=1)).get)[0], 14)
