@@ -169,6 +169,10 @@ def client_watches_pages(check):
     whole = rows(("a", "c1", 1, 1), ("a", "z", 100, 1))
     MadeUp(place.control, [rows(("a", "c1", 1, 1), more=1), rows(("a", "z", 100, 1)), whole])
     watch.awaits(("set", "a", "c1", 1, 1), ("set", "a", "z", 100, 1), ("gone", "a", "b1", 5, 1))
+    # a row of an earlier version is passed over
+    other = type("Place", (), {"control": check.folder() / "made.ctl"})
+    MadeUp(other.control, [rows(("b", "k", 2, 1), ("b", "l", 3, 1)), rows(("b", "k", 1, 9))])
+    Changes(other, pause=0.02).awaits(("set", "b", "k", 2, 1), ("set", "b", "l", 3, 1), ("gone", "b", "l", 3, 1))
 
 
 def client_statuses(check):
