@@ -1,8 +1,8 @@
 //! What `--help` prints after the options.
 
 pub(crate) const EXAMPLE: &str =
-    "`serve` runs a node. `set`, `del`, `get`, `watch` and `owners` ask a node that runs. `log` reads the log of a node that does not run, and
-`purge` drops its tombstones. `begin` makes a log for a name whose log is lost. `sim` plays many nodes in memory. `attrdir COMMAND --help` explains
+    "`serve` runs a node. `set`, `del`, `get`, `watch`, `status` and `owners` ask a node that runs. `log` reads the log of a node that does not
+run, and `purge` drops its tombstones. `begin` makes a log for a name whose log is lost. `sim` plays many nodes in memory. `attrdir COMMAND --help` explains
 a command.
 
 Example of a node, which is then asked from a second terminal:
@@ -177,8 +177,8 @@ Examples, in which the file of node a is gone, and node b heard of its version 4
 
 pub(crate) const SERVE: &str =
     "The log is a file that exists. An empty file becomes a new log. The node makes both sockets, and removes them when it ends by itself. At each path
-there must be no file, or a socket that a killed node left. At --sock the node serves other nodes. At --control it answers `set`, `del`, `get` and
-`watch`. Each PEER is the path of the --sock of another node. Nobody has to prove who they are: whoever can open a socket can use it.
+there must be no file, or a socket that a killed node left. At --sock the node serves other nodes. At --control it answers `set`, `del`, `get`,
+`watch` and `status`. Each PEER is the path of the --sock of another node. Nobody has to prove who they are: whoever can open a socket can use it.
 
 The node asks its peers for what it lacks, and gives them what they lack: one peer a round, in turn. It asks some right away if it has news, which is
 a write of its own, or a delta that brought something.

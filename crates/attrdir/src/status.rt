@@ -115,7 +115,8 @@ struct FigureLine<'a>(&'a Figure);
 
 impl fmt::Display for FigureLine<'_> {
     fn fmt<W: fmt::Write>(&self, f: &mut fmt::Formatter<W>) -> fmt::Result {
-        let Figure { number, value } = *self.0;
+        let figure = self.0;
+        let (number, value) = (figure.number, figure.value);
         let Some(kind) = FigureKind::of_number(number) else {
             return write!(f, "figure_{number} {value}");
         };
