@@ -1,5 +1,6 @@
 pub mod Numbers
 pub mod Handing
+pub mod OwnPurging
 pub mod Together
 pub mod Pooling
 pub mod Leaving
