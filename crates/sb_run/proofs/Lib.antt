@@ -11,3 +11,4 @@ pub mod Arriving
 pub mod StatusPages
 pub mod StatusSeats
 pub mod StatusTexts
+pub mod StatusAnswers
