@@ -12,3 +12,4 @@ pub mod Arriving
 pub mod StatusPages
 pub mod StatusSeats
 pub mod StatusTexts
+pub mod StatusAnswers

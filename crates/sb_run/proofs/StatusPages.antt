@@ -1,13 +1,16 @@
 -- A page of a status is within its limits.
-use Rattle.std.proofs.Common.{◌≡◌, ℕ, ◌+◌, ◌-◌, ◌*◌, ◌≤◌, Bool, true, false, ◌&&◌, if◌then◌else◌, List, [], ◌∷◌, length, drop, Ok, Err, Result, refl, sym, ap, ◌∙◌, arith}
-use Rattle.std.specs.Prelude.{nat_le, sum_by, IfOk, IfErr}
+use Rattle.std.proofs.Common.{◌≡◌, ◌≢◌, ◌⊎◌, inl, inr, ℕ, ◌+◌, ◌-◌, ◌*◌, ◌≤◌, Bool, true, false, ◌&&◌, if◌then◌else◌, List, [], ◌∷◌, length, drop, Ok, Err, Result, refl, sym, ap, subst, ◌∙◌, arith}
+use Rattle.std.specs.Prelude.{nat_le, sum_by, IfErr}
 use Rattle.std.specs.List.{list_all}
 use Rattle.std.proofs.lemmas.Bool.{and_parts, and_from, le-leb, leb-true}
 use Rattle.std.proofs.lemmas.List.Sums.{sum_by-cons}
 use Rattle.sb_types.specs.declared.fault.Fault.{Fault}
-use Rattle.sb_types.specs.declared.fault.Fault.TheVariants.{NoMemory}
+use Rattle.sb_types.specs.declared.fault.Fault.TheVariants.{NoMemory, Malformed}
+use Rattle.sb_types.specs.declared.format.TheConstants.{KIND_NODE_STATUS}
 use Rattle.sb_types.specs.declared.limits.TheConstants.{NAME_MOST, BUDGET_LEAST, BUDGET_MOST, SHORT_TEXT_MOST, PAYLOAD_MOST}
 use Rattle.sb_types.specs.Faults.{Gives}
+use Rattle.sb_types.specs.Limits.{are_settings}
+use Rattle.sb_types.specs.Records.{Settings}
 use Rattle.sb_types.specs.Text.{is_between, is_name_byte, is_name, is_short_text}
 use Rattle.std.specs.Str.{is_utf8}
 use Rattle.sb_codec.specs.declared.message.node_identity.NodeIdentity.{NodeIdentity}
@@ -17,6 +20,8 @@ use Rattle.sb_codec.specs.Limits.{is_identity, are_figures_above, are_status_par
 use Rattle.sb_query.specs.Statuses.{fitting, room_behind, room_for_peers, status_page, if_status}
 use Rattle.sb_run.specs.declared.facts.Facts.{Facts}
 use Rattle.sb_run.specs.Facts.{figures_of}
+use Rattle.sb_run.specs.StatusReplies.{dash, short_text, identity_of}
+use Rattle.sb_run.proofs.StatusTexts.{dash_fits}
 
 within_if : (b : Bool) (p : Peer) (run : List Peer) (room : ℕ) → nat_le (peer_length p) room ≡ b → sum_by peer_length run ≤ room - peer_length p
     → sum_by peer_length (if b then p ∷ run else []) ≤ room
@@ -65,6 +70,59 @@ head_most i facts fits =
     let take = figures_take (figures_of facts) in
     omega (arith, take, name_most i.node names.0, name_most i.cluster names.1, short_most i.release release.1)
 
-given_page : (page : NodeStatus) (result : Result NodeStatus Fault) → are_status_parts page ≡ true → Gives result (if_status page) → IfOk result (λ p. p ≡ page)
-given_page page (Ok p) are gives = cc
-given_page page (Err fault) are gives = tt
+-- the budget of settings is no more than the greatest
+budget_most : (s : Settings) → are_settings s ≡ true → s.budget ≤ BUDGET_MOST
+budget_most s is =
+    let within = and_parts (is_name s.cluster) (is_between BUDGET_LEAST BUDGET_MOST s.budget) (and_parts _ _ (and_parts _ _ (and_parts _ _ is).0).0).0 in
+    leb-true s.budget BUDGET_MOST (and_parts (nat_le BUDGET_LEAST s.budget) (nat_le s.budget BUDGET_MOST) within.1).1
+
+cluster_named : (s : Settings) → are_settings s ≡ true → is_name s.cluster ≡ true
+cluster_named s is =
+    (and_parts (is_name s.cluster) (is_between BUDGET_LEAST BUDGET_MOST s.budget) (and_parts _ _ (and_parts _ _ (and_parts _ _ is).0).0).0).0
+
+short_if : (b : Bool) (text : List ℕ) → is_short_text text ≡ b → is_short_text (if b then text else dash) ≡ true
+short_if true text is = is
+short_if false text is = dash_fits
+
+-- a text, or a dash in its place, is a short one
+short_fits : (text : List ℕ) → is_short_text (short_text text) ≡ true
+short_fits text = short_if (is_short_text text) text refl
+
+identity_fits : (i : NodeIdentity) → is_name i.node ≡ true → is_name i.cluster ≡ true → is_short_text i.release ≡ true → is_identity i ≡ true
+identity_fits i node cluster release = and_from (is_name i.node && is_name i.cluster) (is_short_text i.release) (and_from (is_name i.node) (is_name i.cluster) node cluster) release
+
+-- a name, the cluster of settings and a short text are an identity
+pub identity_limits : (node cluster release text : List ℕ) (s : Settings) → cluster ≡ s.cluster → release ≡ short_text text → is_name node ≡ true → are_settings s ≡ true
+    → is_identity (identity_of node cluster release) ≡ true
+identity_limits node cluster release text s of_settings short named are =
+    identity_fits (identity_of node cluster release) named (ap is_name of_settings ∙ cluster_named s are) (ap is_short_text short ∙ short_fits text)
+
+ok_or_err : {page : NodeStatus} {fault : Fault} → Ok page ≡ Err fault → ⊥
+ok_or_err same = absurd (cc)
+
+memory_or_not : (fault : Fault) → (fault ≡ NoMemory) ⊎ (fault ≢ NoMemory)
+memory_or_not NoMemory = inl refl
+memory_or_not fault = inr (λ same. cc)
+
+only_memory : (b : Bool) (page : NodeStatus) (kind : ℕ) (fault : Fault) → b ≡ true
+    → (fault ≢ NoMemory → (if b then Ok page else Err (Malformed kind)) ≡ Err fault) → fault ≢ NoMemory → ⊥
+only_memory true page kind fault are gives other = ok_or_err (gives other)
+only_memory false page kind fault are gives other = absurd (cc)
+
+-- a page within its limits is not given for want of memory only
+given_fault : (page : NodeStatus) (result : Result NodeStatus Fault) → are_status_parts page ≡ true → Gives result (if_status page) → IfErr result (λ fault. fault ≡ NoMemory)
+given_fault page (Ok p) are gives = tt
+given_fault page (Err fault) are gives = elim (memory_or_not fault) [
+  | inl same ↦ same
+  | inr other ↦ absurd (only_memory (are_status_parts page) page KIND_NODE_STATUS fault are gives other)
+]
+
+-- a page of the figures of a node is not given for want of memory only
+pub page_memory : (i : NodeIdentity) (figures : List Figure) (facts : Facts) (peers : List Peer) (after budget : ℕ) (s : Settings) (result : Result NodeStatus Fault)
+    → is_identity i ≡ true → figures ≡ figures_of facts → budget ≡ s.budget → are_settings s ≡ true
+    → Gives result (if_status (status_page i figures peers after budget)) → IfErr result (λ fault. fault ≡ NoMemory)
+page_memory i figures facts peers after budget s result fits same of_settings are gives =
+    let short : status_length (status_of true i figures []) ≤ PAYLOAD_MOST = subst (λ (fs : List Figure). status_length (status_of true i fs []) ≤ PAYLOAD_MOST) (sym same) (head_most i facts fits) in
+    let above : are_figures_above 0 figures ≡ true = subst (λ (fs : List Figure). are_figures_above 0 fs ≡ true) (sym same) (figures_ascend facts) in
+    let most : budget ≤ BUDGET_MOST = subst (λ (n : ℕ). n ≤ BUDGET_MOST) (sym of_settings) (budget_most s are) in
+    given_fault (status_page i figures peers after budget) result (page_fits i figures peers after budget above short most) gives

@@ -1,5 +1,6 @@
 //! The answer to the question how a node is.
-ghost use Rattle.std.specs.Prelude.{◌≡◌, vec_len, IfOk, IfErr};
+ghost use Rattle.std.specs.Prelude.{◌≡◌, true, vec_len, IfOk, IfErr};
+ghost use Rattle.sb_codec.specs.Limits.{is_identity};
 ghost use Rattle.sb_views.specs.Histories.{node_after};
 ghost use Rattle.sb_query.specs.Statuses as pages;
 ghost use Rattle.sb_views.specs.NodeViews.{upto_of};
@@ -19,7 +20,7 @@ use crate::threads::NodeContext;
 use sb_codec::{AskStatus, Message, NodeIdentity, NodeStatus};
 use sb_directory::ReaderSeat;
 use sb_query::status_page;
-use sb_types::{Fault, Name};
+use sb_types::{Fault, Name, Settings};
 use sb_views::Snapshot;
 use std::sync::Wait;
 use std::time::Clock;
@@ -76,6 +77,21 @@ fn held_counts(counts: &NodeCounts, snapshot: &Snapshot<'_>, me: &Name) -> HeldC
         rows,
         owners,
         conflict: counts.conflict,
+    }
+}
+
+/// Who the node of this name is, as its status says it.
+fn node_identity(name: &Name, settings: &Settings, release: &str) -> NodeIdentity
+    ensures identity { result ≡ identity_of name.now settings.now.cluster (spec.short_text release.now) }
+    // Each part is short, so a page has room for all figures beside it.
+    ensures limits { is_identity result ≡ true }
+{
+    // Only this call says that a name is within its limits.
+    let _ = name.bytes();
+    NodeIdentity {
+        node: *name,
+        cluster: settings.cluster(),
+        release: short_text(release),
     }
 }
 
@@ -156,11 +172,7 @@ impl<S: RoundsTag, H: Wait + Drop, Q: Wait + Clock> NodeContext<'_, S, H, Q> {
         ensures memory { IfErr result (λ fault. fault ≡ Fault.NoMemory) }
     {
         let settings = self.directory.settings();
-        let identity = NodeIdentity {
-            node: *self.directory.name(),
-            cluster: settings.cluster(),
-            release: short_text(release),
-        };
+        let identity = node_identity(self.directory.name(), settings, release);
         let figures = facts.figures(self.alloc)?;
         status_page(
             self.alloc,
