@@ -19,18 +19,19 @@ module _ {L : Type 0} (seen : L → Log) (opening : Node) (old : L) (owed : Opti
   pub purge_asked : (least given : ℕ) (asked : Seat) (result : Result (Option ℕ) Fault) → given ≡ least → Begins asked.last_call before → asked ≡ with_last_call before asked.last_call
       → IfOk result (λ floor. IsPurge opening given asked owed floor after) → IfOk result (λ floor. IsLogPurged seen old floor new) → OnOk result (owes ≡ None)
       → IfErr result (λ fault. IsUnpurged seen opening given old owed asked new owes after fault) → MayPurge seen opening least old owed before new owes after
-  purge_asked least given asked (Ok floor) as begins same purges log none refused =
+  purge_asked least given asked (Ok floor) is_least begins same purges log none refused =
       let may : MayPurge seen opening given old owed before new owes after = (asked, known_later before before asked (later-same before) begins same, inr (inl (floor, purges, log, none))) in
-      subst (λ (l : ℕ). MayPurge seen opening l old owed before new owes after) as may
-  purge_asked least given asked (Err fault) as begins same purges log none refused =
+      subst (λ (l : ℕ). MayPurge seen opening l old owed before new owes after) is_least may
+  purge_asked least given asked (Err fault) is_least begins same purges log none refused =
       let may : MayPurge seen opening given old owed before new owes after = (asked, known_later before before asked (later-same before) begins same, inr (inr (fault, refused))) in
-      subst (λ (l : ℕ). MayPurge seen opening l old owed before new owes after) as may
+      subst (λ (l : ℕ). MayPurge seen opening l old owed before new owes after) is_least may
 
--- what is asked of the log before and after it changes neither the log nor what is owed
-pub purge_between : {L : Type 0} (seen : L → Log) (opening : Node) (least : ℕ) (first old new last : L) (owed owing owes owe : Option Committed) (before after : Seat)
-    → old ≡ first → owing ≡ owed → last ≡ new → owe ≡ owes → MayPurge seen opening least old owing before new owes after → MayPurge seen opening least first owed before last owe after
-purge_between {L} seen opening least first old new last owed owing owes owe before after log owed_same last_log last_owed may =
-    subst (λ (x : L). MayPurge seen opening least x owed before last owe after) log
-    (subst (λ (x : Option Committed). MayPurge seen opening least old x before last owe after) owed_same
-    (subst (λ (x : L). MayPurge seen opening least old owing before x owe after) (sym last_log)
-    (subst (λ (x : Option Committed). MayPurge seen opening least old owing before new x after) (sym last_owed) may)))
+-- what comes before and after it changes neither the log nor what is owed
+module _ {L : Type 0} (seen : L → Log) (opening : Node) (least : ℕ) (before after : Seat) where
+  pub purge_between : (first old new last : L) (owed owing owes left : Option Committed) → old ≡ first → owing ≡ owed → last ≡ new → left ≡ owes
+      → MayPurge seen opening least old owing before new owes after → MayPurge seen opening least first owed before last left after
+  purge_between first old new last owed owing owes left old_same owed_same last_same left_same may =
+      subst (λ (x : L). MayPurge seen opening least x owed before last left after) old_same
+      (subst (λ (x : Option Committed). MayPurge seen opening least old x before last left after) owed_same
+      (subst (λ (x : L). MayPurge seen opening least old owing before x left after) (sym last_same)
+      (subst (λ (x : Option Committed). MayPurge seen opening least old owing before new x after) (sym left_same) may)))

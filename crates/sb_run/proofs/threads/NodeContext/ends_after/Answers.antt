@@ -13,6 +13,7 @@ pub returns-clause-purges : goal.returns-clause-purges
 returns-clause-purges g c =
     let first = c.ends_with_log.ensures.same in
     let last = c.ends_with_log-2.ensures.same in
-    purge_between g.L.WriteLog.seen g.S.NodeTag.opening c.args.turns.now.least c.args.writes.now.log c.ends_with_log.new.writes.log c.purge_after.new.writes.log c.ends_with_log-2.new.writes.log
-    c.args.writes.now.owed c.ends_with_log.new.writes.owed c.purge_after.new.writes.owed c.ends_with_log-2.new.writes.owed c.args.seat.now c.purge_after.new.seat
+    purge_between g.L.WriteLog.seen g.S.NodeTag.opening c.args.turns.now.least c.args.seat.now c.purge_after.new.seat
+    c.args.writes.now.log c.ends_with_log.new.writes.log c.purge_after.new.writes.log c.ends_with_log-2.new.writes.log
+    c.args.writes.now.owed c.ends_with_log.new.writes.owed c.purge_after.new.writes.owed c.ends_with_log-2.new.writes.owed
     first.0 first.1 last.0 last.1 c.purge_after.ensures.purges
