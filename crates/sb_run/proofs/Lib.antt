@@ -10,6 +10,5 @@ pub mod Receiving
 pub mod Paging
 pub mod Arriving
 pub mod StatusPages
-pub mod StatusSeats
 pub mod StatusTexts
 pub mod StatusAnswers

@@ -6,7 +6,7 @@ use Rattle.std.proofs.lemmas.Bool.{and_parts, and_from, le-leb, leb-true}
 use Rattle.std.proofs.lemmas.List.Sums.{sum_by-cons}
 use Rattle.sb_types.specs.declared.fault.Fault.{Fault}
 use Rattle.sb_types.specs.declared.fault.Fault.TheVariants.{NoMemory, Malformed}
-use Rattle.sb_types.specs.declared.format.TheConstants.{KIND_NODE_STATUS}
+use Rattle.sb_types.specs.declared.format.TheConstants.{HEADER_LENGTH, KIND_NODE_STATUS}
 use Rattle.sb_types.specs.declared.limits.TheConstants.{NAME_MOST, BUDGET_LEAST, BUDGET_MOST, SHORT_TEXT_MOST, PAYLOAD_MOST}
 use Rattle.sb_types.specs.Faults.{Gives}
 use Rattle.sb_types.specs.Limits.{are_settings}
@@ -34,8 +34,12 @@ fitting_within room [] = omega arith
 fitting_within room (p ∷ ps) =
     within_if (nat_le (peer_length p) room) p (fitting (room - peer_length p) ps) room refl (fitting_within (room - peer_length p) ps)
 
+room_if : (b : Bool) → b ≡ true → (budget head : ℕ) → head ≤ PAYLOAD_MOST → budget ≤ BUDGET_MOST → head + (if b then budget - (HEADER_LENGTH + head) else 0) ≤ PAYLOAD_MOST
+room_if true is budget head short most = omega arith
+room_if false is budget head short most = absurd (cc)
+
 room_within : (budget head : ℕ) → head ≤ PAYLOAD_MOST → budget ≤ BUDGET_MOST → head + room_behind budget head ≤ PAYLOAD_MOST
-room_within budget head short most = rw le-leb head PAYLOAD_MOST short (omega arith)
+room_within budget head short most = room_if (nat_le head PAYLOAD_MOST) (le-leb head PAYLOAD_MOST short) budget head short most
 
 -- figures that ascend, and few of them, are those of a page
 pub page_fits : (i : NodeIdentity) (figures : List Figure) (peers : List Peer) (after budget : ℕ) → are_figures_above 0 figures ≡ true

@@ -197,9 +197,10 @@ impl<S: RoundsTag, H: Wait + Drop, Q: Wait + Clock> NodeContext<'_, S, H, Q> {
             Ok(report) => report,
             Err(fault) => return (seat, refused_by(fault)),
         };
-        let (seat, held) = match self.count_held(seat) {
-            (seat, Ok(held)) => (seat, held),
-            (seat, Err(fault)) => return (seat, refused_by(fault)),
+        let (seat, counted) = self.count_held(seat);
+        let held = match counted {
+            Ok(held) => held,
+            Err(fault) => return (seat, refused_by(fault)),
         };
         let facts = self.facts(&held, &report);
         match self.page_with(&facts, &report, dialing.observer().release(), asked) {
