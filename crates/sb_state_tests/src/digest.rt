@@ -410,8 +410,12 @@ fn a_digest_tells_how_far_a_stage_has_come(rt: HostRuntime) {
     let digest = asked(&rt, rt.alloc(), &holdings, None, true, 1_024);
     let found = (are_pairs(&digest, &[(a, 0), (b, 0)]), extent(&digest));
     same(&rt, &found, &(true, wanting(None, None, 2, 58)));
-    let told = numbers(&rt, &digest, [0, 4, 5, 6, 3]);
-    same(&rt, &told, &([0, 0, 3, 0, 0], 0));
+    same(&rt, &start(&rt, &digest, b"a", 0, 9), &(0, 0));
+    same(&rt, &start(&rt, &digest, b"a", 4, 9), &(3, 5));
+    same(&rt, &start(&rt, &digest, b"a", 5, 9), &(3, 5));
+    same(&rt, &start(&rt, &digest, b"a", 6, 9), &(0, 9));
+    same(&rt, &start(&rt, &digest, b"a", 3, 4), &(0, 4));
+    same(&rt, &start(&rt, &digest, b"b", 5, 9), &(0, 9));
 }
 
 /// What a node holds besides the first write of each of these.
