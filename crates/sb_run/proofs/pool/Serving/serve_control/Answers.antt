@@ -1,4 +1,4 @@
-use Rattle.std.proofs.Common.{◌≡◌, List, ℕ, Option, Err, refl, subst, sym, inl, inr}
+use Rattle.std.proofs.Common.{List, ℕ, Option, refl, subst, inl, inr}
 use Rattle.sb_frames.specs.Frames.{frame}
 use Rattle.sb_frames.specs.Sending.{Sends}
 use Rattle.sb_run.proofs.Receiving.{received_to, keeps_same}
