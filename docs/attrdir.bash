@@ -6,7 +6,7 @@ _attrdir() {
   COMPREPLY=()
 
   # what is completed, by tools/options
-  local commands='serve set del get watch owners log purge begin sim'
+  local commands='serve set del get watch status owners log purge begin sim'
   local flags='--log-time --raw --value --mark --retry --all --explain --help --version -h -V --'
   local paths='--log --sock --control --metrics --from'
   local -A values_of=(
@@ -22,6 +22,7 @@ _attrdir() {
     [del]='--control --help'
     [get]='--control --owner --prefix --key --value --raw --format --help'
     [watch]='--control --owner --prefix --every --count --mark --retry --help'
+    [status]='--control --wait --format --help'
     [owners]='--sock --cluster --name --help'
     [log]='--log --name --cluster --help'
     [purge]='--log --name --cluster --all --help'

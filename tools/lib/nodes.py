@@ -99,6 +99,23 @@ def page(rows, more=0):
     return ROWS, bytes([more]) + number(len(rows), 2) + told
 
 
+class Reader:
+    """The body of a message, read from its front."""
+
+    def __init__(self, body):
+        self.rest = body
+
+    def take(self, count):
+        taken, self.rest = self.rest[:count], self.rest[count:]
+        return taken
+
+    def number(self, size):
+        return int.from_bytes(self.take(size), "big")
+
+    def text(self):
+        return self.take(self.number(1)).decode()
+
+
 def bytes_by(chance, count):
     return chance.getrandbits(8 * count).to_bytes(count, "little")
 

@@ -15,7 +15,7 @@ NAME = re.compile(rb"[a-z0-9-]{1,32}\Z")
 KEY = re.compile(rb"[a-z0-9._/-]{1,64}\Z")
 PREFIX = re.compile(rb"[a-z0-9._/-]{0,64}\Z")
 ADDR = re.compile(rb"[\x21-\x7e]{1,128}\Z")
-KINDS = {1, 2, 3, 4, 0x10, 0x11, 0x12, 0x13, 0x14}
+KINDS = {1, 2, 3, 4, 0x10, 0x11, 0x12, 0x13, 0x14, 0x15, 0x16}
 PAYLOAD_MOST = 65_530
 VERSION = 3
 
@@ -48,6 +48,12 @@ class Body:
             raise Malformed
         return text
 
+    def utf8(self, width, most):
+        try:
+            self.take(self.number(width, 1, most)).decode()
+        except UnicodeDecodeError:
+            raise Malformed from None
+
     def value(self, least_tag):
         tag = self.number(1, least_tag, 4)
         if tag == 1:
@@ -57,10 +63,7 @@ class Body:
         elif tag == 3:
             self.number(1, 0, 1)
         elif tag == 4:
-            try:
-                self.take(self.number(2, 1, 512)).decode()
-            except UnicodeDecodeError:
-                raise Malformed from None
+            self.utf8(2, 512)
 
 
 def need(is_so):
@@ -123,6 +126,21 @@ def read_rows(body):
         body.value(1)
 
 
+def read_status(body):
+    body.number(1, 0, 1)
+    body.text(NAME)
+    body.text(NAME)
+    body.utf8(1, 128)
+    last = 0
+    for _ in range(body.number(2)):
+        last = body.number(1, last + 1)
+        body.number(8)
+    for _ in range(body.number(2)):
+        body.utf8(1, 128)
+        body.number(1)
+        body.number(8)
+
+
 def read_body(kind, body):
     if kind == 1:
         body.text(NAME)
@@ -142,8 +160,12 @@ def read_body(kind, body):
         body.value(0)
     elif kind == 0x13:
         body.number(8, 1)
-    else:
+    elif kind == 0x14:
         body.number(1, 1, 31)
+    elif kind == 0x15:
+        body.number(8)
+    else:
+        read_status(body)
     need(body.rest == b"")
 
 
@@ -219,6 +241,16 @@ FRAMES = [
     ("put", frame(0x12, text(b"w") + WEIGHT)),
     ("done", frame(0x13, u64(7))),
     ("refused", frame(0x14, b"\x06")),
+    ("ask status", frame(0x15, u64(3))),
+    (
+        "node status",
+        frame(
+            0x16,
+            b"\x00" + text(b"a") + text(b"c1") + text(b"0.3.0")
+            + u16(2) + b"\x02" + u64(1) + b"\x06" + u64(3)
+            + u16(2) + text(b"b.sock") + b"\x01" + u64(4) + text("h\u00e9".encode()) + b"\x37" + u64(0),
+        ),
+    ),
 ]
 
 
@@ -268,7 +300,7 @@ def made_up(random):
         return bytes(random.below(256) for _ in range(random.below(80)))
     stream = bytearray()
     for _ in range(1 + random.below(3)):
-        stream += FRAMES[random.below(9)][1]
+        stream += FRAMES[random.below(len(FRAMES))][1]
     for _ in range(random.below(4)):
         place = random.below(len(stream))
         stream[place] = random.below(256)

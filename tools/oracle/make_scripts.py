@@ -102,7 +102,7 @@ class Life:
         node, key, rng = self.node(), self.rng.choice(self.keys), self.rng
         self.puts += 1
         put, crash = f"put {node} {key} {value(rng)}", f"crash {node} {key} {value(rng)} {self.end()}"
-        return rng.choice([put, put, put, f"del {node} {key}", f"commit {node} {key} {value(rng)}", f"commit {node} {key} removed", f"take {node}", f"take {node}", crash, f"purge {node} {self.held()}"])
+        return rng.choice([put, put, put, f"del {node} {key}", f"commit {node} {key} {value(rng)}", f"commit {node} {key} removed", f"take {node}", f"take {node}", crash, f"purge {node} {self.held()}", f"trim {node} {self.held()}"])
 
     def connection_line(self):
         """Makes a line of a connection."""
@@ -133,7 +133,7 @@ class Life:
         words = rng.choice([value(rng), rng.choice(BAD_VALUES), rng.choice(BAD_VALUES)])
         write = rng.choice([f"put {name()} {key()} {words}", f"commit {name()} {key()} {words}", f"crash {name()} {key()} {words} {self.end()}"])
         others = [f"give {name()} {name()} {number(rng, self.puts)}", f"offer {name()} {name()} {number(rng, self.puts)}", f"read {name()} {name()} {key()}"]
-        few = [f"del {name()} {key()}", f"commit {name()} {key()} removed", f"take {name()}", f"restart {name()}", f"purge {name()} {number(rng, self.puts)}", f"connect {name()} {self.connection()}", f"upto {name()} {name()}"]
+        few = [f"del {name()} {key()}", f"commit {name()} {key()} removed", f"take {name()}", f"restart {name()}", f"purge {name()} {number(rng, self.puts)}", f"trim {name()} {number(rng, self.puts)}", f"connect {name()} {self.connection()}", f"upto {name()} {name()}"]
         return rng.choice([write, write, rng.choice(others), rng.choice(few)])
 
     def wrong_line(self):
@@ -308,7 +308,9 @@ def purged(rng):
             play.do(f"put a {rng.choice(keys)} {rng.choice([long, value(rng)])}")
         elif way < 0.5:
             play.do(f"del a {rng.choice(keys)}")
-        elif way < 0.6:
+        elif way < 0.55:
+            play.do(f"trim a {rng.choice([upto(), max(0, upto() - rng.randint(0, 5)), max(0, upto() - rng.randint(0, 20)), upto() + 1])}")
+        elif way < 0.62:
             play.do(f"purge a {rng.choice([upto(), upto(), max(0, upto() - rng.randint(0, 5)), upto() + 1])}")
             if rng.random() < 0.9:
                 play.do("restart a")

@@ -35,12 +35,18 @@ Order of faults
 - A floor above the last version is 30, and the node stays up. Else `purge` prints the floor that was asked for and takes the
   node down, also where the log's floor is as high already and nothing changes there.
 
+- `trim` is told by what the node holds, not by its log: above that it is 30, and nothing changes. Else it prints the floor
+  that was asked for, also where both floors are as high already.
+
 Floors and stages
 - A block is looked at in this order: its owner is the taker; it tells nothing that is new (`stale`); it joins the table that is
   shown; it joins the stage of its floor, or begins one; else `gap`. A block that would add an owner beside 1,023 others is `owners-full`.
 - The floor of the table rises before the first entry is entered, and stays risen where there is no room for that.
 - `taken` and `too-many-keys` count what was entered: into the table, or into the stage. The swap counts nothing.
 - An owner of which there is only a stage is held up to 0, and has a pair in each digest.
+- A peer that does not hold as far as the table's floor is offered the table as if it were purged further, removals left out:
+  up to the floor of its stage, from the stage's progress on, if the sender's floor is no higher and the sender holds as far;
+  else up to all that the sender holds, from 0 on. A digest without a pair is as one of version 0 without a stage.
 - What is offered of a table without an entry above the number is one item, with neither a key nor a version; its rank is 0.
 
 Composite lines
@@ -216,11 +222,11 @@ class Pair:
     floor: int = 0
     progress: int = 0
 
-    def number(self, floor):
-        """The version above which a sender offers whose table has this floor."""
+    def start(self, floor, held):
+        """Where a sender starts whose table has this floor and this held version: above which version, and under which floor."""
         if floor <= self.upto:
-            return self.upto
-        return self.progress if floor == self.floor else 0
+            return self.upto, floor
+        return (self.progress, self.floor) if floor <= self.floor <= held else (0, held)
 
     def words(self):
         """Says the pair in words."""
@@ -250,11 +256,11 @@ class Digest:
         head = b"digest, %s, %s, %s, pairs %d" % (want, start, until, len(self.pairs))
         return [head, *(pair.words() for pair in self.pairs)]
 
-    def number(self, name, floor):
-        """Tells the version above which an owner of this floor is offered, or None where the digest does not speak of it."""
+    def start_of(self, name, floor, held):
+        """Tells the same of an owner, or None where the digest does not speak of it."""
         if name < self.start or (self.until and name >= self.until):
             return None
-        return next((pair.number(floor) for pair in self.pairs if pair.name == name), 0)
+        return next((pair for pair in self.pairs if pair.name == name), Pair(name, 0)).start(floor, held)
 
 
 @dataclass(frozen=True)
@@ -504,16 +510,17 @@ class Node:
         return end
 
     def items_for(self, digest):
-        """All that the digest's sender lacks, as (rank, count, owner, number, entry), where there is no entry for the news alone."""
+        """All that the digest's sender lacks, as (rank, count, owner, start, entry), where there is no entry for the news alone."""
         items = []
         for owner, table in self.held.items():
-            number = digest.number(owner, table.floor)
-            if number is None:
+            start = digest.start_of(owner, table.floor, table.upto)
+            if start is None:
                 continue
-            entries = table.entries.above(number)
+            number, floor = start
+            entries = table.entries.without_removals(floor).above(number)
             if not entries and table.upto > number:
-                items.append((0, 1, owner, number, None))
-            items += [(rank, len(entries), owner, number, entry) for rank, entry in enumerate(entries)]
+                items.append((0, 1, owner, start, None))
+            items += [(rank, len(entries), owner, start, entry) for rank, entry in enumerate(entries)]
         return items
 
     def delta_for(self, digest, world):
@@ -524,19 +531,20 @@ class Node:
         else:
             items.sort(key=lambda it: (-it[1], it[2], it[4][1] if it[4] else 0))
         parts, length = {}, 9
-        for _, count, owner, number, entry in items:
+        for _, count, owner, start, entry in items:
             length += 10 + len(entry[0]) + len(entry[2].encoded) if entry else 0
             length += 0 if owner in parts else 27 + len(owner)
             if length > world.budget:
                 break
-            parts.setdefault(owner, (number, count if entry else 0, []))[2].extend([entry] if entry else [])
+            parts.setdefault(owner, (start, count if entry else 0, []))[2].extend([entry] if entry else [])
         return Delta(tuple(self.block_of(owner, *parts[owner]) for owner in sorted(parts)))
 
-    def block_of(self, owner, number, count, entries):
+    def block_of(self, owner, start, count, entries):
         """The block of the first entries that an owner lacks, which reaches as far as is held where they are all."""
-        table = self.held[owner]
-        upto = table.upto if len(entries) == count else entries[-1][1]
-        return Block(owner, table.floor, number, upto, tuple(entries))
+        number, floor = start
+        held = self.held[owner].upto
+        upto = held if len(entries) == count else entries[-1][1]
+        return Block(owner, floor, number, upto, tuple(entries))
 
     def pair(self, owner):
         """How far an owner is held and staged."""
@@ -641,6 +649,17 @@ class World:
         node.purge(floor)
         self.stop(node)
         return [b"purged %d" % floor]
+
+    def trim(self, name, floor):
+        """A node drops the removals of its own table up to a floor, and then its log does; the node goes on."""
+        node = self.running(name)
+        if node is None:
+            return NOTHING
+        if floor > node.upto(name):
+            raise Fault(FLOOR_TOO_HIGH)
+        node.held[name].raise_floor(floor)
+        node.log.raise_floor(floor)
+        return [b"trimmed %d" % floor]
 
     def restart(self, name):
         """A node opens anew."""
@@ -816,6 +835,7 @@ FORMS = {
     b"crash": [("NKVE", World.crash)],
     b"restart": [("N", World.restart)],
     b"purge": [("N#", World.purge)],
+    b"trim": [("N#", World.trim)],
     b"connect": [("NC", World.connect)],
     b"ask": [("C", World.ask)],
     b"offer": [("NN#", World.offer)],

@@ -4,4 +4,5 @@ pub mod Beginning
 pub mod Owners
 pub mod Removals
 pub mod Rows
+pub mod Status
 pub mod Troubles

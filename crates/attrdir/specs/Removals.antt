@@ -8,7 +8,7 @@ use Rattle.sb_types.specs.declared.fault.Fault.{Fault}
 use Rattle.sb_frames.specs.declared.last_write.Outcome.{Outcome}
 use Rattle.sb_log.specs.Records.{Log}
 use Rattle.sb_types.specs.declared.fault.Fault.TheVariants.{StoreFailed}
-use Rattle.sb_log.specs.Puts.{Gives, FailsToLoad, RefusesFloor, purged}
+use Rattle.sb_log.specs.Puts.{Gives, FailsToLoad, RefusesFloor, content_after_purge}
 use Rattle.sb_lines.specs.Printed.{PurgesAndPrints}
 use Rattle.attrdir.specs.declared.log_file.Floor.{Floor}
 use Rattle.attrdir.specs.declared.log_file.Floor.TheVariants.{At, Last}
@@ -35,7 +35,7 @@ abbrev pub IsPurged : ℕ → Log → StartPurge → Log → Type 0
 IsPurged least old Few new =
     new.is_clean ≡ true → (new.content ≡ old.content) × ((least ≡ 0) ⊎ (removals_in old.content.entries < least))
 IsPurged least old (Dropped p) new =
-    new.is_clean ≡ true → (least ≤ p.removals) × (p.removals ≡ removals_in old.content.entries) × (p.floor ≡ old.content.held) × (new.content ≡ purged p.floor old.content)
+    new.is_clean ≡ true → (least ≤ p.removals) × (p.removals ≡ removals_in old.content.entries) × (p.floor ≡ old.content.held) × (new.content ≡ content_after_purge p.floor old.content)
 IsPurged least old (Failed table) new =
     (least ≤ removals_in table.entries) × ((read : Log) × Gives old table read × RefusesFloor read table.held StoreFailed new)
 

@@ -246,7 +246,7 @@ wrote needs only an empty file"
             "see whether the node runs, and try again"
         }
         _ => {
-            "give the --sock of a node of the same release; its --control, for set, del, get and watch, is another socket"
+            "give the --sock of a node of the same release; its --control, for set, del, get, watch and status, is another socket"
         }
     }
 }

@@ -1,8 +1,8 @@
 //! Requests to a running node, over its control socket.
 ghost use Rattle.std.specs.Prelude.{◌≡◌, ◌<◌};
 
-use crate::counting::Output;
 use crate::failure::{Failure, FaultPlace, Obstacle};
+use crate::output::Output;
 use sb_codec::{Ask, Message, Rows};
 use sb_frames::{Connection, Steps};
 use sb_listing::print_json_rows;
@@ -67,7 +67,7 @@ fn request_answer<K: Ledger>(
 /// Returns the answer of the node at a control socket. `ReadFailed` if the node cannot be reached, or is silent for a
 /// minute; then the faults of `ask_control`. If so many others wait at the socket that it takes no more, the call waits
 /// without limit.
-fn answer_of<'a>(
+pub(crate) fn answer_of<'a>(
     rt: &HostRuntime,
     control: &'a str,
     request: &Message,
@@ -92,7 +92,7 @@ fn answer_of<'a>(
 }
 
 /// The failure if an answer is not the one to the request.
-fn unanswered<'a>(control: &'a str, reason: NoAnswer) -> Failure<'a> {
+pub(crate) fn unanswered<'a>(control: &'a str, reason: NoAnswer) -> Failure<'a> {
     match reason {
         NoAnswer::Refused(fault) => Failure::at(FaultPlace::Node(control), fault),
         NoAnswer::OtherKind(kind) => Failure::at(

@@ -6,13 +6,14 @@ use crate::beginning::{Start, begin_log};
 use crate::commands::{
     AFTER, ALL, ASKING_NAME, CONTROL, COUNT, EVERY, EXPLAIN, FLOOR, FORMAT, FROM, KEY, KIND, LOG,
     LOG_CLUSTER, LOG_NAME, MARK, ONE_KEY, OWNER, PEER_SOCK, PREFIX, RAW, RAW_VALUE, REMOVED_KEY,
-    RETRY, VALUE, VALUE_ALONE, lacks_control, serve_arguments, wrong_number,
+    RETRY, STATUS_FORMAT, VALUE, VALUE_ALONE, WAIT, lacks_control, serve_arguments, wrong_number,
 };
 use crate::failure::Failure;
 use crate::log_file::{Floor, print_log, purge_log};
 use crate::one_row::{Portion, RowQuery, print_one};
 use crate::owners::print_owners;
 use crate::serving::ServeArguments;
+use crate::status::print_status;
 use crate::watching::{WatchQuery, watch, watch_on};
 use crate::words::{key_of, name_of, prefix_of, text_of, value_of};
 use clap::ArgMatches;
@@ -29,7 +30,7 @@ const READS_OF_A_SCRIPT: u64 = 1_000_000;
 /// The exit status of a wrong command line.
 pub(crate) const USAGE_STATUS: u8 = 2;
 
-/// The exit status of `get --key` if there is no such row.
+/// The exit status of `get --key` if there is no such row, and of `status` if the node is not ready.
 const NONE_STATUS: u8 = 1;
 
 /// The word that stands for lines of standard input.
@@ -200,11 +201,16 @@ fn run_get_one<'a>(
     }
 }
 
-fn run_get<'a>(rt: &HostRuntime, given: &ArgMatches<'a>) -> Result<u8, Failure<'a>> {
-    let format = match FORMAT.value(given) {
+/// The form in which something is printed, by its word.
+fn format_of(word: &str) -> RowFormat {
+    match word {
         "json" => RowFormat::Json,
         _ => RowFormat::Text,
-    };
+    }
+}
+
+fn run_get<'a>(rt: &HostRuntime, given: &ArgMatches<'a>) -> Result<u8, Failure<'a>> {
+    let format = format_of(FORMAT.value(given));
     match ONE_KEY.value_if_any(given) {
         Some(key) => run_get_one(rt, given, key, format),
         None => {
@@ -227,6 +233,16 @@ fn run_watch<'a>(rt: &HostRuntime, given: &ArgMatches<'a>) -> Result<u8, Failure
         watch(rt, CONTROL.value(given), &query)?;
     }
     Ok(0)
+}
+
+/// Prints how a node is. The exit status is 1 if it is not ready.
+fn run_status<'a>(rt: &HostRuntime, given: &ArgMatches<'a>) -> Result<u8, Failure<'a>> {
+    let format = format_of(STATUS_FORMAT.value(given));
+    if print_status(rt, CONTROL.value(given), format, WAIT.number(given))? {
+        Ok(0)
+    } else {
+        Ok(NONE_STATUS)
+    }
 }
 
 fn run_owners<'a>(rt: &HostRuntime, given: &ArgMatches<'a>) -> Result<u8, Failure<'a>> {
@@ -291,6 +307,7 @@ fn status_of<'a>(
         "del" => run_del(rt, given),
         "get" => run_get(rt, given),
         "watch" => run_watch(rt, given),
+        "status" => run_status(rt, given),
         "owners" => run_owners(rt, given),
         "log" => run_log(rt, given),
         "purge" => run_purge(rt, given),

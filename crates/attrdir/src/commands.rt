@@ -118,6 +118,23 @@ pub(crate) const FORMAT: Part = Part {
     help: "Prints the words of each row, or a JSON object for each row",
 };
 
+pub(crate) const STATUS_FORMAT: Part = Part {
+    name: "format",
+    kind: Kind::OneOf(&["text", "json"], "text"),
+    value: "FORMAT",
+    help: "Prints a line for each thing that it tells, or one JSON object",
+};
+
+/// A node that cannot be reached meanwhile is asked again too.
+/// Greater: A node that takes longer to start still counts as ready.
+/// Smaller: With 0, the first answer counts.
+pub(crate) const WAIT: Part = Part {
+    name: "wait",
+    kind: Kind::NumberOr(Range::Any, "0"),
+    value: "MS",
+    help: "For how many milliseconds it asks again until the node is ready",
+};
+
 pub(crate) const EVERY: Part = Part {
     name: "every",
     kind: Kind::NumberOr(Range::Any, "200"),
@@ -269,7 +286,7 @@ const NODE_CONTROL: Part = Part {
     name: "control",
     kind: Kind::Needed,
     value: "PATH",
-    help: "The socket that the node makes for set, del, get and watch",
+    help: "The socket that the node makes for set, del, get, watch and status",
 };
 
 /// Each path has 1 to 107 bytes.
@@ -345,8 +362,8 @@ const PAUSE: Part = Part {
     help: "How many milliseconds the node waits after each round in turn",
 };
 
-/// Each of these dials is a round. See [News](#news).
-/// Greater: News is everywhere sooner, in more rounds.
+/// To each it pushes what this peer may lack. See [News](#news).
+/// Greater: News is everywhere sooner, in more pushes.
 /// Smaller: With 0, news waits for the rounds in turn.
 const FANOUT: Part = Part {
     name: "fanout",
@@ -420,7 +437,7 @@ const PURGE_REMOVALS: Part = Part {
     name: "purge-removals",
     kind: Kind::NumberOr(Range::Any, "1024"),
     value: "N",
-    help: "If the log has N tombstones or more at the start, the node drops them all first, 0 for never",
+    help: "With N tombstones or more the node drops them, all when it starts and the older half while it runs, 0 for never",
 };
 
 /// It is the time of UTC. For systems without a journal that adds it.
@@ -527,6 +544,7 @@ fn pace_of(given: &ArgMatches<'_>) -> Pace {
         request: REQUEST.number(given),
         max_reads: MAX_READS.number_if_any(given).unwrap_or(u64::MAX),
         on_log_fault,
+        purge_removals: PURGE_REMOVALS.number(given),
     }
 }
 
@@ -606,6 +624,13 @@ const OWNERS_TASK: Task = Task {
     parts: &[PEER_SOCK, LOG_CLUSTER, ASKING_NAME],
 };
 
+const STATUS_TASK: Task = Task {
+    name: "status",
+    about: "Prints how a node is, and whether it is ready",
+    more: help::STATUS,
+    parts: &[CONTROL, WAIT, STATUS_FORMAT],
+};
+
 const LOG_TASK: Task = Task {
     name: "log",
     about: "Prints the log of a node that does not run",
@@ -635,12 +660,13 @@ const SIM_TASK: Task = Task {
 };
 
 /// The commands, in the order of the help.
-pub(crate) const TASKS: [Task; 10] = [
+pub(crate) const TASKS: [Task; 11] = [
     SERVE_TASK,
     SET_TASK,
     DEL_TASK,
     GET_TASK,
     WATCH_TASK,
+    STATUS_TASK,
     OWNERS_TASK,
     LOG_TASK,
     PURGE_TASK,

@@ -4,6 +4,7 @@ use crate::log_file::DroppedRemovals;
 use crate::log_watch::LogWatch;
 use crate::metrics::{Metrics, Series};
 use crate::metrics_file::MetricsFile;
+use crate::release::RELEASE;
 use crate::troubles::TroubleLines;
 use jiff::Timestamp;
 use sb_run::{LogCause, LogLoss, Observer, PeerState, Status};
@@ -247,6 +248,10 @@ impl Console<'_, '_> {
 }
 
 impl Observer for Console<'_, '_> {
+    fn release(&self) -> &str {
+        RELEASE
+    }
+
     fn listening(&self) {
         let (rt, head) = (self.rt, self.head(Level::Info));
         let _ = eprintln!(rt;
@@ -299,6 +304,14 @@ impl Observer for Console<'_, '_> {
 
     fn log_loss(&self) -> Option<LogLoss> {
         self.watch.loss(self.rt)
+    }
+
+    fn table_purged(&self, floor: u64) {
+        let (rt, head) = (self.rt, self.head(Level::Info));
+        let _ = eprintln!(rt;
+            "{head} log {}: the older half of the removals, up to version {floor}, is purged",
+            self.log
+        );
     }
 
     fn wants_status(&self) -> bool {

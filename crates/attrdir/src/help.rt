@@ -1,8 +1,8 @@
 //! What `--help` prints after the options.
 
 pub(crate) const EXAMPLE: &str =
-    "`serve` runs a node. `set`, `del`, `get`, `watch` and `owners` ask a node that runs. `log` reads the log of a node that does not run, and
-`purge` drops its tombstones. `begin` makes a log for a name whose log is lost. `sim` plays many nodes in memory. `attrdir COMMAND --help` explains
+    "`serve` runs a node. `set`, `del`, `get`, `watch`, `status` and `owners` ask a node that runs. `log` reads the log of a node that does not
+run, and `purge` drops its tombstones. `begin` makes a log for a name whose log is lost. `sim` plays many nodes in memory. `attrdir COMMAND --help` explains
 a command.
 
 Example of a node, which is then asked from a second terminal:
@@ -31,6 +31,7 @@ Each other line is a command, and prints its answer:
   crash N K VALUE kept|lost       node N goes down after the commit of a write, or before it
   restart N                       node N starts again with what its log has
   purge N F                       the log of node N drops its tombstones up to the version F, and node N goes down: `purged F`
+  trim N F                        node N drops the tombstones up to the version F, and its log too; it stays up: `trimmed F`
   give A B V                      node A sends node B what it wrote above the version V, as far as a frame has room
   offer N O V                     node N sends what it holds of owner O above the version V: `frame I`
   connect N C, close C            a connection with the number C begins at node N, and its Hello is sent; the connection ends
@@ -176,8 +177,8 @@ Examples, in which the file of node a is gone, and node b heard of its version 4
 
 pub(crate) const SERVE: &str =
     "The log is a file that exists. An empty file becomes a new log. The node makes both sockets, and removes them when it ends by itself. At each path
-there must be no file, or a socket that a killed node left. At --sock the node serves other nodes. At --control it answers `set`, `del`, `get` and
-`watch`. Each PEER is the path of the --sock of another node. Nobody has to prove who they are: whoever can open a socket can use it.
+there must be no file, or a socket that a killed node left. At --sock the node serves other nodes. At --control it answers `set`, `del`, `get`,
+`watch` and `status`. Each PEER is the path of the --sock of another node. Nobody has to prove who they are: whoever can open a socket can use it.
 
 The node asks its peers for what it lacks, and gives them what they lack: one peer a round, in turn. It asks some right away if it has news, which is
 a write of its own, or a delta that brought something.
@@ -302,6 +303,46 @@ Examples:
   10.0.0.2:80
   $ attrdir get --control a.ctl --owner b --format json
   {\"key\":\"web/addr\",\"kind\":\"addr\",\"owner\":\"b\",\"value\":\"10.0.0.2:80\",\"version\":1}";
+
+pub(crate) const STATUS: &str =
+    "A node is ready if it is caught up, its log takes writes, and it saw no other node write under its name. It is caught up once each of its peers
+has had a round that ended since it started: with all exchanges, or with a fault if the peer does not answer. It stays so.
+
+With --format text it prints a line `WORD VALUE` for each of these:
+  ready         yes or no
+  node, cluster, release
+  uptime        how many milliseconds ago it started
+  caught_up     yes or no
+  log_fault     why its log takes no writes, none if it takes them
+  conflict      the version that another node wrote under its name, or none
+  version       its last version
+  keys          keys of its own, removed ones counted
+  removals      how many of these are removed
+  owners        owners that it holds, itself counted
+  peers         how many peers it dials
+  rounds        rounds that it made, and round_faults: how many of these had a fault
+  sessions      connections of peers that it took
+  workers, workers_busy, all_workers_busy, session_faults, last_session_fault, other_versions, turned_away, full_writes
+                its workers, and what it suffered since it started
+Then comes a line `peer STATE PATH` for each peer. STATE is answers, not_dialed, unreachable, silent, unreadable, hung_up, broken_off, ended_early
+or fault_N. With --format json it prints the same as one JSON object. In place of the number of peers that has the peers.
+
+A fault ends the command. Standard error has `fault N`, its text, and what to do:
+  1       no memory
+  10-14   what answers is not a control socket
+  16      no node could be reached, or it was silent for 60 s, or it ended the connection
+  17      the request or the answer cannot be written
+  28      the node ended before it answered, or it is of release 0.2.0, which does not know the question
+  29      the answer takes more than 65,536 reads
+
+The exit status is 0 if the node is ready, 1 if it is not, 2 after a wrong command line, and 3 after a fault.
+
+Example:
+  $ attrdir status --control a.ctl --wait 10000 | head -n 4
+  ready yes
+  node a
+  cluster c
+  release 0.2.0";
 
 pub(crate) const OWNERS: &str =
     "It asks the node as another node would, under a name of its own, and writes nothing there. Each line has an owner and the version up to

@@ -37,7 +37,7 @@ pub(crate) fn copy_of(alloc: Global, row: &Row) -> Result<Row, Fault>
 
 /// Of two rows with one owner and key, the one of the later version.
 fn later<'a>(held: &'a Row, found: &'a Row) -> &'a Row
-    ensures { result.now ≡ spec.later held.now found.now }
+    ensures { result.now ≡ spec.later_row held.now found.now }
 {
     if found.version() < held.version() {
         held
@@ -67,7 +67,7 @@ fn keep_to<'a>(
     shown: &[Pair],
 ) -> Result<&'a [Row], Fault>
     ensures kept { IfOk result (λ rest. (next : List records.Row → List records.Row) →
-        kept.new.items ++ next rest.now ≡ kept.old.items ++ spec.keeping shown.now row.now next held.now) }
+        kept.new.items ++ next rest.now ≡ kept.old.items ++ spec.rows_past_row shown.now row.now next held.now) }
     ensures memory { IfErr result (λ fault. fault ≡ Fault.NoMemory) }
 {
     let mut rest = held;
@@ -93,7 +93,7 @@ fn keep_to<'a>(
 
 /// Keeps those of these rows that the node does not know better. `NoMemory`.
 fn keep_rest(alloc: Global, kept: &mut Vec<Row>, rows: &[Row], shown: &[Pair]) -> Result<(), Fault>
-    ensures kept { OnOk result (kept.new.items ≡ kept.old.items ++ spec.unknown shown.now rows.now) }
+    ensures kept { OnOk result (kept.new.items ≡ kept.old.items ++ spec.unknown_rows shown.now rows.now) }
     ensures memory { IfErr result (λ fault. fault ≡ Fault.NoMemory) }
 {
     for row in rows {
@@ -115,7 +115,7 @@ pub(crate) fn kept_rows(
     found: &[Row],
     shown: &[Pair],
 ) -> Result<Vec<Row>, Fault>
-    ensures kept { IfOk result (λ rows. rows.items ≡ spec.kept shown.now held.now found.now) }
+    ensures kept { IfOk result (λ rows. rows.items ≡ spec.rows_after shown.now held.now found.now) }
     ensures memory { IfErr result (λ fault. fault ≡ Fault.NoMemory) }
 {
     let mut kept = Vec::new(alloc);

@@ -1,6 +1,6 @@
 //! An owner's log in a file.
 ghost use Rattle.std.specs.Prelude.{◌≡◌, ◌≤◌, ◌<◌, ◌⊎◌, true, Ok, None, IfOk, IfSome, IfNone, IfErr, OnOk};
-ghost use Rattle.sb_log.specs.Puts.{purged};
+ghost use Rattle.sb_log.specs.Puts.{content_after_purge};
 ghost use Rattle.attrdir.specs.Removals as spec;
 
 use crate::failure::{Failure, FaultPlace};
@@ -184,7 +184,7 @@ fn purge_to<L: WriteLog, W: Write>(
     writer: &mut W,
 ) -> Result<(), Fault>
     ensures purges { OnOk result ((L.seen log.new).is_clean ≡ true
-        → (L.seen log.new).content ≡ purged (spec.floor_of floor (L.seen log.old).content) (L.seen log.old).content) }
+        → (L.seen log.new).content ≡ content_after_purge (spec.floor_of floor (L.seen log.old).content) (L.seen log.old).content) }
     ensures result { spec.PurgesTo floor (L.seen log.old) (W.contents writer.old) result (L.seen log.new) (W.contents writer.new) }
 {
     let version = match floor {

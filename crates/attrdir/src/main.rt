@@ -12,8 +12,8 @@
 //!   `tools/check-node` refuse it.
 //! - `begin` begins after another version within the limits, or asks another node. `tools/check-logs` and
 //!   `tools/check-node` refuse it.
-//! - `serve`, `set`, `del`, `get`, `watch` or `owners` opens another file or socket, sends another request, or prints
-//!   something else. `tools/check-node` refuses it.
+//! - `serve`, `set`, `del`, `get`, `watch`, `status` or `owners` opens another file or socket, sends another request,
+//!   or prints something else. `tools/check-node` refuses it.
 //! - The file of `serve --metrics` has other numbers, is read half written, replaces another file, or outlives the
 //!   node. The tests of `sb_run` and `tools/check-node` refuse it.
 //! - `serve` prints nothing when keys or owners run out. The tests of `sb_run` and `tools/check-node` refuse it.
@@ -30,7 +30,6 @@ mod beginning;
 mod command_line;
 mod commands;
 mod console;
-mod counting;
 mod environment;
 mod failure;
 mod help;
@@ -40,11 +39,13 @@ mod log_watch;
 mod metrics;
 mod metrics_file;
 mod one_row;
+mod output;
 mod owners;
 mod part;
 mod pausing;
 mod release;
 mod serving;
+mod status;
 mod troubles;
 mod watching;
 mod words;

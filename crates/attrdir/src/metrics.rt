@@ -56,6 +56,36 @@ const FAULTS: Metric = Metric {
     help: "Rounds that had a fault.",
 };
 
+const PUSHES: Metric = Metric {
+    name: "attrdir_pushes_total",
+    kind: "counter",
+    help: "Pushes of news that it made to peers. They are not rounds.",
+};
+
+const PUSH_FAULTS: Metric = Metric {
+    name: "attrdir_push_faults_total",
+    kind: "counter",
+    help: "Pushes that had a fault.",
+};
+
+const PUSHED_BYTES: Metric = Metric {
+    name: "attrdir_pushed_bytes_total",
+    kind: "counter",
+    help: "Bytes of news that peers took from its pushes.",
+};
+
+const GAPS: Metric = Metric {
+    name: "attrdir_gaps_total",
+    kind: "counter",
+    help: "Deltas of others with writes after ones that it lacks.",
+};
+
+const HASTENED_ROUNDS: Metric = Metric {
+    name: "attrdir_hastened_rounds_total",
+    kind: "counter",
+    help: "Rounds in turn that it made before their time because of such a delta.",
+};
+
 const SESSIONS: Metric = Metric {
     name: "attrdir_sessions_total",
     kind: "counter",
@@ -98,6 +128,12 @@ const BUSY_TIMES: Metric = Metric {
     help: "Times that all workers were busy for longer than a second.",
 };
 
+const PURGES: Metric = Metric {
+    name: "attrdir_purges_total",
+    kind: "counter",
+    help: "Times that it purged its own table while it runs.",
+};
+
 const LOG_OPEN: Metric = Metric {
     name: "attrdir_log_open",
     kind: "gauge",
@@ -114,6 +150,12 @@ const NAME_CONFLICT: Metric = Metric {
     name: "attrdir_name_conflict",
     kind: "gauge",
     help: "1 where another node writes under its name, else 0.",
+};
+
+const CAUGHT_UP: Metric = Metric {
+    name: "attrdir_caught_up",
+    kind: "gauge",
+    help: "1 if each of its peers has had a round that ended since it started, else 0.",
 };
 
 const KEYS: Metric = Metric {
@@ -325,12 +367,23 @@ impl Metrics<'_, '_> {
         writeln!(f, "{name}{{node=\"{node}\",cause=\"{cause}\"}} 1")
     }
 
+    /// What the node pushed to its peers, and what came of what others pushed.
+    fn write_pushes<W: fmt::Write>(&self, f: &mut fmt::Formatter<W>) -> fmt::Result {
+        let pushes = &self.status.pushes;
+        self.write_one(f, &PUSHES, pushes.made)?;
+        self.write_one(f, &PUSH_FAULTS, pushes.faults)?;
+        self.write_one(f, &PUSHED_BYTES, pushes.bytes)?;
+        self.write_one(f, &GAPS, pushes.gaps)?;
+        self.write_one(f, &HASTENED_ROUNDS, pushes.hastened_rounds)
+    }
+
     /// What the node has done and suffered since it started, and whether it takes writes.
     fn write_course<W: fmt::Write>(&self, f: &mut fmt::Formatter<W>) -> fmt::Result {
         let (status, troubles) = (self.status, &self.status.troubles);
         self.write_one(f, &START_TIME, self.started)?;
         self.write_one(f, &ROUNDS, status.rounds)?;
         self.write_one(f, &FAULTS, status.faults)?;
+        self.write_pushes(f)?;
         self.write_one(f, &SESSIONS, status.sessions)?;
         self.write_one(f, &SESSION_FAULTS, troubles.session_faults)?;
         self.write_one(f, &OTHER_VERSIONS, troubles.other_versions)?;
@@ -338,9 +391,11 @@ impl Metrics<'_, '_> {
         self.write_one(f, &WORKERS, status.workers)?;
         self.write_one(f, &WORKERS_BUSY, status.busy_workers)?;
         self.write_one(f, &BUSY_TIMES, troubles.busy_times)?;
+        self.write_one(f, &PURGES, status.purges)?;
         self.write_one(f, &LOG_OPEN, u64::from(status.log_cause.is_none()))?;
         self.write_log_fault(f)?;
-        self.write_one(f, &NAME_CONFLICT, u64::from(status.conflict.is_some()))
+        self.write_one(f, &NAME_CONFLICT, u64::from(status.conflict.is_some()))?;
+        self.write_one(f, &CAUGHT_UP, u64::from(status.is_caught_up))
     }
 
     /// How many of its own keys are removed: those without a row in the snapshot.

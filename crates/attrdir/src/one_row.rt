@@ -4,8 +4,8 @@ ghost use Rattle.std.specs.Option.{option_copied};
 ghost use Rattle.attrdir.specs.Rows as spec;
 
 use crate::asking::{RowFormat, first_page_of, print_page};
-use crate::counting::Output;
 use crate::failure::Failure;
+use crate::output::Output;
 use sb_codec::{Ask, Row, Rows};
 use sb_types::{ContentRef, Fault, Key, Name, Prefix, Spelled, Value};
 use std::alloc::Global;

@@ -13,7 +13,7 @@ use Rattle.sb_budget.specs.declared.offered.Offered.{Offered}
 use Rattle.sb_budget.specs.declared.turns.Turns.TheVariants as turns
 use Rattle.sb_budget.specs.Orders.{AscendsByOwner}
 use Rattle.sb_budget.specs.Parts.{Part, all_of, IsChain, AreParts}
-use Rattle.sb_budget.specs.Turns.{rejoined, first_turns, in_turns}
+use Rattle.sb_budget.specs.Turns.{parts_after_turn, first_turns, in_turns}
 use Rattle.sb_budget.proofs.OrderLemmas.{Before, sorted_ascends}
 use Rattle.sb_budget.proofs.ListingLemmas.{sorted_cons, pairs_push}
 use Rattle.sb_budget.proofs.TurnLemmas.{in_turns_all}
@@ -59,7 +59,7 @@ module _ (p : Part) (others : List Part) (are : AreNear (p ∷ others)) where
     ⊎_elim (λ l. inl (omega (arith, l, chain.0.1))) (λ same. inr (omega (arith, same.0, chain.0.1), ap (λ m. slice_cmp nat_cmp m q.next.owner) chain.0.0 ∙ same.1)) near.0,
   )
 
-  rejoined_near : (later : List Offered) → IsChain p.next later → AreNear (rejoined turns.Last others later)
+  rejoined_near : (later : List Offered) → IsChain p.next later → AreNear (parts_after_turn turns.Last others later)
   rejoined_near [] chain = rest_near
   rejoined_near (o ∷ os) chain =
       let part : Part = record { next = o; later = os } in
@@ -69,7 +69,7 @@ module _ (p : Part) (others : List Part) (are : AreNear (p ∷ others)) where
       }
 
   -- none of the others is to be sent before
-  rejoined_behind : (later : List Offered) → IsChain p.next later → All (λ q. is_lt (by_rank q.next p.next) ≡ false) (rejoined turns.Last others later)
+  rejoined_behind : (later : List Offered) → IsChain p.next later → All (λ q. is_lt (by_rank q.next p.next) ≡ false) (parts_after_turn turns.Last others later)
   rejoined_behind [] chain = λ k d l. ahead_less p.next (get_or others k d).next (near_others k d l).0
   rejoined_behind (o ∷ os) chain = All-push (λ q. is_lt (by_rank q.next p.next) ≡ false) others (record { next = o; later = os })
       (λ k d l. ahead_less p.next (get_or others k d).next (near_others k d l).0)
@@ -85,7 +85,7 @@ turns_sorted zero owners are = λ k d low l. absurd (omega arith)
 turns_sorted (suc n) [] are = λ k d low l. absurd (omega arith)
 turns_sorted (suc n) (p ∷ others) are =
     let chain = are.chains 0 p (omega arith) in
-    let rest = rejoined turns.Last others p.later in
+    let rest = parts_after_turn turns.Last others p.later in
     sorted_cons (λ x y. is_lt (by_rank x y)) p.next (first_turns turns.Last n rest)
     (first_of (λ y. is_lt (by_rank y p.next) ≡ false) n rest (rejoined_behind p others are p.later chain))
     (turns_sorted n rest (rejoined_near p others are p.later chain))

@@ -13,7 +13,7 @@ use Rattle.std.proofs.lemmas.List.{map-append}
 use Rattle.std.proofs.lemmas.List.Elements.{filter-append, recursion_from_All}
 use Rattle.std.proofs.lemmas.List.Kept.{AllPairs-cons}
 use Rattle.sb_types.specs.Records.{Table, Holder}
-use Rattle.sb_types.specs.Runs.{Stands, IsRun}
+use Rattle.sb_types.specs.Runs.{Stands, IsRun, IsTable}
 use Rattle.sb_table.specs.Plain.{plain_table}
 use Rattle.sb_holdings.specs.Held.{Held}
 use Rattle.sb_holdings.specs.Plain.{IsKeptHolder, IsHoldings, is_from, each_shown, tables_from}
@@ -24,7 +24,8 @@ use Rattle.sb_budget.specs.Offers.{items_of}
 use Rattle.sb_budget.specs.Offers as offers
 use Rattle.sb_budget.specs.Orders.{offered_by, version_of, Precedes, IsOffer}
 use Rattle.sb_budget.specs.Cut.{items_of_all, IsPart, CanCut}
-use Rattle.sb_budget.specs.Available.{number_for, available_for, ranked_of, rank_of, count_of, AreRanked}
+use Rattle.sb_budget.specs.Available.{number_for, offered_table, available_for, ranked_of, rank_of, count_of, AreRanked}
+use Rattle.sb_budget.proofs.OfferedLemmas.{offered_is}
 use Rattle.sb_budget.proofs.OrderLemmas.{Before}
 use Rattle.sb_budget.proofs.PlaceLemmas.{text_cmp, Equal_from_same}
 use Rattle.sb_budget.proofs.NameLemmas.{some_of}
@@ -78,9 +79,9 @@ pairs_by_owner (x ∷ xs) each = AllPairs-cons Precedes x xs (all_from (Precedes
 
 -- ---- owner by owner
 
-module _ (reaches : List ℕ → Bool) (known : List ℕ → Table → ℕ) where
+module _ (reaches : List ℕ → Bool) (shown_as : List ℕ → Table → Table) (known : List ℕ → Table → ℕ) where
   abbrev pub part_at : List ℕ × Table → List Offered
-  part_at p = if reaches p.0 then ranked_of p.0 p.1 (known p.0 p.1) else []
+  part_at p = if reaches p.0 then ranked_of p.0 (shown_as p.0 p.1) (known p.0 p.1) else []
 
   abbrev pub all_parts : List (List ℕ × Table) → List Offered
   all_parts [] = []
@@ -88,14 +89,14 @@ module _ (reaches : List ℕ → Bool) (known : List ℕ → Table → ℕ) wher
 
   -- as items
 
-  items_all : (ps : List (List ℕ × Holder)) → items_of_all (all_parts (each_shown ps)) ≡ offers.available reaches known ps
+  items_all : (ps : List (List ℕ × Holder)) → items_of_all (all_parts (each_shown ps)) ≡ offers.available_items reaches shown_as known ps
   items_all [] = refl
   items_all (p ∷ ps) =
       map-append _ (part_at (p.0, p.1.shown)) (all_parts (each_shown ps))
       ∙ ap₂ (λ a b. a ++ b) (go (reaches p.0)) (items_all ps)
     where
-      go : (b : Bool) → items_of_all (if b then ranked_of p.0 p.1.shown (known p.0 p.1.shown) else []) ≡ (if b then items_of p.0 p.1.shown (known p.0 p.1.shown) else [])
-      go true = part_items p.0 p.1.shown (known p.0 p.1.shown)
+      go : (b : Bool) → items_of_all (if b then ranked_of p.0 (shown_as p.0 p.1.shown) (known p.0 p.1.shown) else []) ≡ (if b then items_of p.0 (shown_as p.0 p.1.shown) (known p.0 p.1.shown) else [])
+      go true = part_items p.0 (shown_as p.0 p.1.shown) (known p.0 p.1.shown)
       go false = refl
 
   -- by owner
@@ -110,8 +111,8 @@ module _ (reaches : List ℕ → Bool) (known : List ℕ → Table → ℕ) wher
 
   owner_at : (p : List ℕ × Table) (o : Offered) → Stands (part_at p) o → o.owner ≡ p.0
   owner_at p o s =
-      cond_both (reaches p.0) (ranked_of p.0 p.1 (known p.0 p.1)) [] (λ os. Stands os o → o.owner ≡ p.0)
-      (λ _ t. part_owner p.0 p.1 (known p.0 p.1) o t)
+      cond_both (reaches p.0) (ranked_of p.0 (shown_as p.0 p.1) (known p.0 p.1)) [] (λ os. Stands os o → o.owner ≡ p.0)
+      (λ _ t. part_owner p.0 (shown_as p.0 p.1) (known p.0 p.1) o t)
       (λ _ none. absurd none)
       s
 
@@ -130,68 +131,72 @@ module _ (reaches : List ℕ → Bool) (known : List ℕ → Table → ℕ) wher
   -- the part of an owner: of a table of its own, or of nothing
   record IsByOwner (P : Table → Type 0) (offered : List Offered) (owner : List ℕ) : Type 0 where
     table : Table
+    number : ℕ
     is : P table
-    part : offered_by owner offered ≡ ranked_of owner table (known owner table)
+    part : offered_by owner offered ≡ ranked_of owner table number
 
   none_ranked : (owner : List ℕ) (n : ℕ) → ranked_of owner (plain_table []) n ≡ []
   none_ranked owner n = cond-false _ _ _ (le-ltb n 0 (omega arith))
 
   module _ (P : Table → Type 0) (nothing : P (plain_table [])) where
-    by_owner : (ps : List (List ℕ × Table)) → IsStrictlySortedBy text_cmp (keys_of ps) → ((p : List ℕ × Table) → Stands ps p → P p.1) → (owner : List ℕ) → IsByOwner P (all_parts ps) owner
+    by_owner : (ps : List (List ℕ × Table)) → IsStrictlySortedBy text_cmp (keys_of ps) → ((p : List ℕ × Table) → Stands ps p → P (shown_as p.0 p.1)) → (owner : List ℕ) → IsByOwner P (all_parts ps) owner
     unfolding IsStrictlySortedBy
-    by_owner [] up each owner = record { table = plain_table []; is = nothing; part = sym (none_ranked owner (known owner (plain_table []))) }
+    by_owner [] up each owner = record { table = plain_table []; number = 0; is = nothing; part = sym (none_ranked owner 0) }
     by_owner (p ∷ ps) up each owner = go (cases_Bool (pointwise nat_eq p.0 owner)) up.0 (each p (inl refl)) (by_owner ps up.1 (λ q s. each q (inr s)) owner)
       where
         parts : offered_by owner (part_at p ++ all_parts ps) ≡ offered_by owner (part_at p) ++ offered_by owner (all_parts ps)
         parts = filter-append (λ o. pointwise nat_eq o.owner owner) (part_at p) (all_parts ps)
 
-        own : p.0 ≡ owner → P p.1 → offered_by owner (all_parts ps) ≡ [] → (b : Bool) → reaches p.0 ≡ b → IsByOwner P (part_at p ++ all_parts ps) owner
+        own : p.0 ≡ owner → P (shown_as p.0 p.1) → offered_by owner (all_parts ps) ≡ [] → (b : Bool) → reaches p.0 ≡ b → IsByOwner P (part_at p ++ all_parts ps) owner
         own same table none true reached = record {
-          table = p.1;
+          table = shown_as p.0 p.1;
+          number = known p.0 p.1;
           is = table;
           part =
-              parts ∙ ap₂ (λ a b. a ++ b) (ap (λ (b : Bool). offered_by owner (if b then ranked_of p.0 p.1 (known p.0 p.1) else [])) reached) none
-              ∙ append-nil (offered_by owner (ranked_of p.0 p.1 (known p.0 p.1)))
-              ∙ all_of owner (ranked_of p.0 p.1 (known p.0 p.1)) (λ o s. part_owner p.0 p.1 (known p.0 p.1) o s ∙ same)
-              ∙ ap (λ q. ranked_of q p.1 (known q p.1)) same;
+              parts ∙ ap₂ (λ a b. a ++ b) (ap (λ (b : Bool). offered_by owner (if b then ranked_of p.0 (shown_as p.0 p.1) (known p.0 p.1) else [])) reached) none
+              ∙ append-nil (offered_by owner (ranked_of p.0 (shown_as p.0 p.1) (known p.0 p.1)))
+              ∙ all_of owner (ranked_of p.0 (shown_as p.0 p.1) (known p.0 p.1)) (λ o s. part_owner p.0 (shown_as p.0 p.1) (known p.0 p.1) o s ∙ same)
+              ∙ ap (λ q. ranked_of q (shown_as p.0 p.1) (known p.0 p.1)) same;
         }
         own same table none false reached = record {
           table = plain_table [];
+          number = 0;
           is = nothing;
           part =
-              parts ∙ ap₂ (λ a b. a ++ b) (ap (λ (b : Bool). offered_by owner (if b then ranked_of p.0 p.1 (known p.0 p.1) else [])) reached) none
-              ∙ sym (none_ranked owner (known owner (plain_table [])));
+              parts ∙ ap₂ (λ a b. a ++ b) (ap (λ (b : Bool). offered_by owner (if b then ranked_of p.0 (shown_as p.0 p.1) (known p.0 p.1) else [])) reached) none
+              ∙ sym (none_ranked owner 0);
         }
 
-        go : ((pointwise nat_eq p.0 owner ≡ true) ⊎ (pointwise nat_eq p.0 owner ≡ false)) → AllByRecursion (λ k. text_cmp p.0 k ≡ Less) (keys_of ps) → P p.1 → IsByOwner P (all_parts ps) owner → IsByOwner P (part_at p ++ all_parts ps) owner
+        go : ((pointwise nat_eq p.0 owner ≡ true) ⊎ (pointwise nat_eq p.0 owner ≡ false)) → AllByRecursion (λ k. text_cmp p.0 k ≡ Less) (keys_of ps) → P (shown_as p.0 p.1) → IsByOwner P (all_parts ps) owner → IsByOwner P (part_at p ++ all_parts ps) owner
         go (inl same) behind table rest =
             let this = same_text p.0 owner same in
             own this table (later_unnamed owner ps (subst (λ q. AllByRecursion (λ k. text_cmp q k ≡ Less) (keys_of ps)) this behind)) (reaches p.0) refl
         go (inr other) behind table rest = record {
           table = rest.table;
+          number = rest.number;
           is = rest.is;
           part = parts ∙ ap (λ r. r ++ offered_by owner (all_parts ps)) (part_unnamed p owner (λ same. true≢false (sym (text_same p.0 owner same) ∙ other))) ∙ rest.part;
         }
 
-  module _ (ps : List (List ℕ × Table)) (up : IsStrictlySortedBy text_cmp (keys_of ps)) (each : (p : List ℕ × Table) → Stands ps p → IsRun 0 p.1.held p.1.entries) where
+  module _ (ps : List (List ℕ × Table)) (up : IsStrictlySortedBy text_cmp (keys_of ps)) (each : (p : List ℕ × Table) → Stands ps p → IsRising (shown_as p.0 p.1)) where
     at_owner : (owner : List ℕ) → IsByOwner IsRising (all_parts ps) owner
     at_owner = by_owner IsRising (record { ascending = refl; most = omega arith; distinct = refl }) ps up each
 
     pub can_cut : CanCut (all_parts ps)
     can_cut owner =
         let b = at_owner owner in
-        let is = part_is owner b.table (known owner b.table) b.is in
+        let is = part_is owner b.table b.number b.is in
         (is.0, is.1, is.2, subst (IsPart is.0 is.1 is.2) (sym b.part) is.3)
 
     pub is_offer : IsOffer (all_parts ps)
     is_offer = pairs_by_owner (all_parts ps) (λ owner.
         let b = at_owner owner in
-        subst (AllPairs Before) (sym b.part) (part_before owner b.table (known owner b.table) b.is))
+        subst (AllPairs Before) (sym b.part) (part_before owner b.table b.number b.is))
 
     pub are_ranked : AreRanked (all_parts ps)
     are_ranked = all_from (λ (o : Offered). (o.rank ≡ rank_of (all_parts ps) o) × (o.count ≡ count_of (all_parts ps) o)) (all_parts ps) (λ o s.
         let b = at_owner o.owner in
-        let n = known o.owner b.table in
+        let n = b.number in
         let stands : Stands (ranked_of o.owner b.table n) o = subst (λ (os : List Offered). Stands os o) b.part (some_of (λ (x : Offered). x.owner) o.owner (all_parts ps) o s refl) in (
           part_rank o.owner b.table n b.is o stands ∙ ap (count_by (λ (x : Offered). nat_lt (version_of x) (version_of o))) (sym b.part),
           part_count o.owner b.table n b.is o stands ∙ ap (λ (os : List Offered). length os) (sym b.part),
@@ -223,13 +228,13 @@ module _ (held : Held) (up : IsStrictlySortedBy text_cmp (keys_of (tables_from N
       let holder : P h.1 = subst (λ (o : Option Holder). IfSome o P) got (each h.0) in
       subst (λ (q : List ℕ × Table). Q q.1) from.2 (shown h.1 holder)
 
-  pub rising_tables : IsHoldings held → (p : List ℕ × Table) → Stands (tables_from None held) p → IsRun 0 p.1.held p.1.entries
-  rising_tables is = each_table IsKeptHolder IsRising (λ h kept. kept.is.shown.run) is.each
+  pub rising_tables : (digest : Digest) → IsHoldings held → (p : List ℕ × Table) → Stands (tables_from None held) p → IsRun 0 (offered_table digest p.0 p.1).held (offered_table digest p.0 p.1).entries
+  rising_tables digest is p s = (offered_is digest p.0 p.1 (each_table IsKeptHolder IsTable (λ h kept. kept.is.shown) is.each p s)).run
 
-pub items_held : (held : Held) (digest : Digest) → items_of_all (all_parts (covers digest) (number_for digest) (tables_from None held)) ≡ available_for held digest
-items_held held digest = ap (λ ts. items_of_all (all_parts (covers digest) (number_for digest) ts)) (all_tables held) ∙ items_all (covers digest) (number_for digest) (entries held.owners)
+pub items_held : (held : Held) (digest : Digest) → items_of_all (all_parts (covers digest) (offered_table digest) (number_for digest) (tables_from None held)) ≡ available_for held digest
+items_held held digest = ap (λ ts. items_of_all (all_parts (covers digest) (offered_table digest) (number_for digest) ts)) (all_tables held) ∙ items_all (covers digest) (offered_table digest) (number_for digest) (entries held.owners)
 
 -- where nothing is left to go over, all is there
-pub all_made : (reaches : List ℕ → Bool) (known : List ℕ → Table → ℕ) (offered : List Offered) (left all : List (List ℕ × Table)) →
-    offered ++ all_parts reaches known left ≡ all_parts reaches known all → left ≡ [] → offered ≡ all_parts reaches known all
-all_made reaches known offered left all made none = sym (append-nil offered) ∙ ap (λ ts. offered ++ all_parts reaches known ts) (sym none) ∙ made
+pub all_made : (reaches : List ℕ → Bool) (shown_as : List ℕ → Table → Table) (known : List ℕ → Table → ℕ) (offered : List Offered) (left all : List (List ℕ × Table)) →
+    offered ++ all_parts reaches shown_as known left ≡ all_parts reaches shown_as known all → left ≡ [] → offered ≡ all_parts reaches shown_as known all
+all_made reaches shown_as known offered left all made none = sym (append-nil offered) ∙ ap (λ ts. offered ++ all_parts reaches shown_as known ts) (sym none) ∙ made

@@ -2,17 +2,17 @@
 use Rattle.std.proofs.Common.{◌≡◌, ℕ, suc, ◌+◌, ◌<◌, ◌≤◌, max, Bool, true, false, List, [], ◌∷◌, length, Option, Some, None, inl, refl, sym, ap, subst, arith, nat_lt, if◌then◌else◌}
 use Rattle.std.specs.Prelude.{All}
 use Rattle.sb_types.specs.Records.{Entry, Table}
-use Rattle.sb_types.specs.Runs.{Stands, above, IsRun}
+use Rattle.sb_types.specs.Runs.{Stands, newer_entries, IsRun}
 use Rattle.sb_budget.specs.Available.{ranked_of}
 use Rattle.sb_budget.specs.Parts.{Part, part_of}
 use Rattle.sb_budget.specs.Cursors.{Place, first_part, part_at, IsPlace}
 use Rattle.sb_budget.proofs.RankLemmas.{of_three, held_further, owners-ranked}
 
-pub above_shorter : (v : ℕ) (es : List Entry) → length (above v es) ≤ length es
+pub above_shorter : (v : ℕ) (es : List Entry) → length (newer_entries v es) ≤ length es
 above_shorter v [] = omega arith
 above_shorter v (e ∷ es) = go (nat_lt v e.version) (above_shorter v es)
   where
-    go : (b : Bool) → length (above v es) ≤ length es → length (if b then e ∷ above v es else above v es) ≤ suc (length es)
+    go : (b : Bool) → length (newer_entries v es) ≤ length es → length (if b then e ∷ newer_entries v es else newer_entries v es) ≤ suc (length es)
     go true rest = omega (arith, rest)
     go false rest = omega (arith, rest)
 
@@ -22,7 +22,7 @@ pub record IsNextOf (name : List ℕ) (table : Table) (number : ℕ) (part : Par
   pub floor : part.next.floor ≡ table.floor
   pub after : part.next.after ≡ number
   pub upto : part.next.upto ≡ table.held
-  pub count : part.next.count ≡ max (length (above number table.entries)) 1
+  pub count : part.next.count ≡ max (length (newer_entries number table.entries)) 1
   pub later : All (λ item. item.owner ≡ name) part.later
 
 module _ (owner : List ℕ) (table : Table) (after : ℕ) where
@@ -57,6 +57,6 @@ module _ (owner : List ℕ) (table : Table) (after : ℕ) where
     after = refl;
     upto = refl;
     count = omega (arith, is);
-    later = owners-ranked owner table after (length (above after table.entries)) (p.rank + 1) p.later;
+    later = owners-ranked owner table after (length (newer_entries after table.entries)) (p.rank + 1) p.later;
   }
   next_of None further = first_of further

@@ -17,7 +17,7 @@ use Rattle.sb_budget.specs.declared.offered.Offered.{Offered}
 use Rattle.sb_budget.specs.Offers.{Item, of_owner, entries_of, block_from, block_of}
 use Rattle.sb_budget.specs.Orders.{offered_by}
 use Rattle.sb_budget.specs.Cut.{item_of, items_of_all, with_name, owners_of, blocks_of}
-use Rattle.sb_budget.specs.BlocksByOwner.{grown, begun, lowered, lowered_of}
+use Rattle.sb_budget.specs.BlocksByOwner.{block_with_entry, block_of_item, block_to_last_entry, lowered_of}
 use Rattle.sb_budget.proofs.NameLemmas.{unnamed_none, named_some}
 use Rattle.sb_budget.proofs.PlaceLemmas.{text_cmp, joined, are_ordered, same_from_Equal, Equal_from_same, lt_from_Less, ordered_above, joined_ordered, joined_no_less}
 
@@ -76,7 +76,7 @@ above_apart f names last (n ∷ ns) m up (inr s) =
     let first : text_lt last (f n).owner ≡ true = (and_parts _ _ up).0 in
     lt_from_Less last m (nat_list_cmp_total.trans last (f n).owner m (Less-from_text_lt last (f n).owner first) (Less-from_text_lt (f n).owner m (above_apart f names (f n).owner ns m (and_parts _ _ up).1 s)))
 
-grown_part : (owner : List ℕ) (part : List Item) (x y : Item) → Stands part y → part_block owner (part ++ x ∷ []) ≡ grown (part_block owner part) x.entry
+grown_part : (owner : List ℕ) (part : List Item) (x y : Item) → Stands part y → part_block owner (part ++ x ∷ []) ≡ block_with_entry (part_block owner part) x.entry
 grown_part owner [] x y s = absurd s
 grown_part owner (i ∷ is) x y s =
     ap (λ (es : List Entry). record { owner = owner; floor = i.floor; after = i.after; upto = i.upto; entries = es }) (filter_map-append (λ (j : Item). j.entry) (i ∷ is) (x ∷ []))
@@ -90,10 +90,10 @@ module _ (front : List Item) (x : Item) where
   own_part : of_owner x.owner (front ++ x ∷ []) ≡ of_owner x.owner front ++ x ∷ []
   own_part = by_push x.owner front x ∙ ap (λ r. of_owner x.owner front ++ r) (cond-true _ (x ∷ []) [] (text_same x.owner x.owner refl))
 
-  part_own : (y : Item) → Stands (of_owner x.owner front) y → part_of (front ++ x ∷ []) x.owner ≡ grown (part_of front x.owner) x.entry
+  part_own : (y : Item) → Stands (of_owner x.owner front) y → part_of (front ++ x ∷ []) x.owner ≡ block_with_entry (part_of front x.owner) x.entry
   part_own y s = ap (part_block x.owner) own_part ∙ grown_part x.owner (of_owner x.owner front) x y s
 
-  part_new : of_owner x.owner front ≡ [] → part_of (front ++ x ∷ []) x.owner ≡ begun x
+  part_new : of_owner x.owner front ≡ [] → part_of (front ++ x ∷ []) x.owner ≡ block_of_item x
   part_new none = ap (part_block x.owner) (own_part ∙ ap (λ (p : List Item). p ++ x ∷ []) none)
 
   step : (ns : List (List ℕ)) → are_ordered (map (part_of front) ns) ≡ true → ((Stands ns x.owner → ⊥) → of_owner x.owner front ≡ []) → (Stands ns x.owner → (y : Item) × Stands (of_owner x.owner front) y) →
@@ -103,7 +103,7 @@ module _ (front : List Item) (x : Item) where
     where
       go : (r : Ordering) → text_cmp n x.owner ≡ r → (((Stands ns x.owner → ⊥) → of_owner x.owner front ≡ []) → map (part_of (front ++ x ∷ [])) (with_name x.owner ns) ≡ joined x (map (part_of front) ns)) →
           map (part_of (front ++ x ∷ [])) (match_ordering r (n ∷ with_name x.owner ns) (n ∷ ns) (x.owner ∷ n ∷ ns))
-          ≡ match_ordering r (part_of front n ∷ joined x (map (part_of front) ns)) (grown (part_of front n) x.entry ∷ map (part_of front) ns) (begun x ∷ part_of front n ∷ map (part_of front) ns)
+          ≡ match_ordering r (part_of front n ∷ joined x (map (part_of front) ns)) (block_with_entry (part_of front n) x.entry ∷ map (part_of front) ns) (block_of_item x ∷ part_of front n ∷ map (part_of front) ns)
       go Less e rest =
           let other : n ≡ x.owner → ⊥ = less_apart n x.owner e in
           ap₂ (λ a b. a ∷ b) (part_other n other) (rest (λ missing. fresh (λ s. ⊎_elim other missing s)))
@@ -111,7 +111,7 @@ module _ (front : List Item) (x : Item) where
           let same = same_from_Equal n x.owner e in
           let there = some (inl same) in
           ap₂ (λ a b. a ∷ b)
-          (subst (λ m. part_of (front ++ x ∷ []) m ≡ grown (part_of front m) x.entry) (sym same) (part_own there.0 there.1))
+          (subst (λ m. part_of (front ++ x ∷ []) m ≡ block_with_entry (part_of front m) x.entry) (sym same) (part_own there.0 there.1))
           (map_same (part_of (front ++ x ∷ [])) (part_of front) ns (λ m s. part_other m (λ back. less_apart n m (Less-from_text_lt n m (above_apart (part_of front) (λ _. refl) n ns m up s)) (same ∙ sym back))))
       go Greater e rest =
           let missing : Stands (n ∷ ns) x.owner → ⊥ = λ s. ⊎_elim (greater_apart n x.owner e) (λ t. greater_not_less n x.owner e (Less-from_text_lt n x.owner (above_apart (part_of front) (λ _. refl) n ns x.owner up t))) s in
@@ -167,7 +167,7 @@ owner_is owner [] rest = refl
 owner_is owner (i ∷ is) [] = refl
 owner_is owner (i ∷ is) (j ∷ js) = refl
 
-lowered_part : (owner : List ℕ) (part others more : List Item) (y z : Item) → Stands part y → Stands more z → lowered (block_from owner part others) ≡ block_from owner part (others ++ more)
+lowered_part : (owner : List ℕ) (part others more : List Item) (y z : Item) → Stands part y → Stands more z → block_to_last_entry (block_from owner part others) ≡ block_from owner part (others ++ more)
 lowered_part owner [] others more y z s t = absurd s
 lowered_part owner (i ∷ is) others [] y z s t = absurd t
 lowered_part owner (i ∷ is) [] (m ∷ ms) y z s t = refl

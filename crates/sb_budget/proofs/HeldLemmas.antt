@@ -7,9 +7,9 @@ use Rattle.std.specs.Cmp.Lexicographic.{pointwise, texts_ties}
 use Rattle.std.proofs.lemmas.Bool.{cases_Bool, cond-true, cond-false, false_from_ne_true, or_from, and_from, not_from_false, le-ltb}
 use Rattle.sb_types.specs.Records.{Table, Holder}
 use Rattle.sb_types.specs.Runs.{Stands}
-use Rattle.sb_holdings.specs.Held.{nothing, holder_of}
+use Rattle.sb_holdings.specs.Held.{empty_holder, holder_of}
 use Rattle.sb_types.proofs.Texts.{same_text, text_same}
-use Rattle.sb_budget.specs.Offers.{of_owner, items_of, is_named, are_named_once, available}
+use Rattle.sb_budget.specs.Offers.{of_owner, items_of, is_named, are_named_once, available_items}
 use Rattle.sb_budget.proofs.OfferLemmas.{available_of, unnamed}
 use Rattle.sb_budget.proofs.PlaceLemmas.{text_cmp, Equal_from_same}
 
@@ -47,20 +47,20 @@ looked_up (e ∷ es) owner = go (cases_Bool (eq_by_cmp text_cmp owner e.0)) (loo
     go (inr apart) (inr missing) =
         inr (cond-false _ _ _ apart ∙ missing.0, or_from _ _ (false_from_ne_true _ (λ t. true≢false (sym (text_same owner e.0 (sym (same_text e.0 owner t))) ∙ texts_ties owner e.0 ∙ apart))) missing.1)
 
-nothing_above : (owner : List ℕ) (n : ℕ) → items_of owner nothing.shown n ≡ []
+nothing_above : (owner : List ℕ) (n : ℕ) → items_of owner empty_holder.shown n ≡ []
 nothing_above owner n = cond-false _ _ _ (le-ltb n 0 (omega arith))
 
-pub available_of_owner : (reaches : List ℕ → Bool) (known : List ℕ → Table → ℕ) (owners : FinMap text_cmp Holder) (owner : List ℕ) → reaches owner ≡ true →
-    of_owner owner (available reaches known (entries owners)) ≡ items_of owner (holder_of owners owner).shown (known owner (holder_of owners owner).shown)
-available_of_owner reaches known owners owner reached = go (looked_up (entries owners) owner)
+pub available_of_owner : (reaches : List ℕ → Bool) (shown_as : List ℕ → Table → Table) (known : List ℕ → Table → ℕ) → ((q : List ℕ) → shown_as q empty_holder.shown ≡ empty_holder.shown) → (owners : FinMap text_cmp Holder) (owner : List ℕ) → reaches owner ≡ true →
+    of_owner owner (available_items reaches shown_as known (entries owners)) ≡ items_of owner (shown_as owner (holder_of owners owner).shown) (known owner (holder_of owners owner).shown)
+available_of_owner reaches shown_as known still owners owner reached = go (looked_up (entries owners) owner)
   where
     go : (((h : Holder) × (find text_cmp owner (entries owners) ≡ Some h) × Stands (entries owners) (owner, h)) ⊎ ((find text_cmp owner (entries owners) ≡ None) × (is_named owner (entries owners) ≡ false))) →
-        of_owner owner (available reaches known (entries owners)) ≡ items_of owner (holder_of owners owner).shown (known owner (holder_of owners owner).shown)
+        of_owner owner (available_items reaches shown_as known (entries owners)) ≡ items_of owner (shown_as owner (holder_of owners owner).shown) (known owner (holder_of owners owner).shown)
     go (inl found) =
-        let held : holder_of owners owner ≡ found.0 = ap (λ (o : Option Holder). unwrap_or o nothing) (get-entries owners owner ∙ found.1) in
-        available_of reaches known (entries owners) (owner, found.0) (named_once (entries owners) (entries_sorted owners)) found.2 reached
-        ∙ ap (λ (h : Holder). items_of owner h.shown (known owner h.shown)) (sym held)
+        let held : holder_of owners owner ≡ found.0 = ap (λ (o : Option Holder). unwrap_or o empty_holder) (get-entries owners owner ∙ found.1) in
+        available_of reaches shown_as known (entries owners) (owner, found.0) (named_once (entries owners) (entries_sorted owners)) found.2 reached
+        ∙ ap (λ (h : Holder). items_of owner (shown_as owner h.shown) (known owner h.shown)) (sym held)
     go (inr missing) =
-        let none : holder_of owners owner ≡ nothing = ap (λ (o : Option Holder). unwrap_or o nothing) (get-entries owners owner ∙ missing.0) in
-        unnamed reaches known (entries owners) owner missing.1
-        ∙ sym (nothing_above owner (known owner nothing.shown)) ∙ ap (λ (h : Holder). items_of owner h.shown (known owner h.shown)) (sym none)
+        let none : holder_of owners owner ≡ empty_holder = ap (λ (o : Option Holder). unwrap_or o empty_holder) (get-entries owners owner ∙ missing.0) in
+        unnamed reaches shown_as known (entries owners) owner missing.1
+        ∙ sym (nothing_above owner (known owner empty_holder.shown)) ∙ ap (λ (t : Table). items_of owner t (known owner empty_holder.shown)) (sym (still owner)) ∙ ap (λ (h : Holder). items_of owner (shown_as owner h.shown) (known owner h.shown)) (sym none)

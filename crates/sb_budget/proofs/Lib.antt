@@ -7,6 +7,7 @@ pub mod CutLemmas
 pub mod MakingLemmas
 pub mod HonestLemmas
 pub mod RankLemmas
+pub mod OfferedLemmas
 pub mod AvailableLemmas
 pub mod HeldLemmas
 pub mod PartLemmas

@@ -8,7 +8,7 @@ use Rattle.sb_types.specs.Lengths.{block_length}
 use Rattle.sb_types.specs.Limits.{are_owners_above}
 use Rattle.sb_budget.specs.Offers.{Item}
 use Rattle.sb_budget.specs.Cut.{blocks_of, delta_frame_length}
-use Rattle.sb_budget.specs.BlocksByOwner.{placed, cost_of}
+use Rattle.sb_budget.specs.BlocksByOwner.{blocks_with_item, cost_of}
 use Rattle.sb_budget.specs.Making.{Making, IsFrontOf, AfterNext}
 use Rattle.sb_budget.proofs.PlaceLemmas.{text_cmp, joined, placed_is_joined, placed_length}
 use Rattle.sb_budget.proofs.GatherLemmas.{gathered_is, gathered_push, all_ordered}
@@ -23,7 +23,7 @@ begun_short budget cost (x ∷ xs) making is few short = omega arith
 
 module _ (budget : ℕ) (front : List Item) (next : Item) (old : Making) (up : are_owners_above [] old.blocks ≡ true) (is : IsFrontOf budget front old)
     (place : Result ℕ ℕ) (bound : IsSearchInRange place (length old.blocks)) (found : IsBinarySearchResult (λ (b : Block). text_cmp b.owner next.owner) old.blocks place) where
-  placed_front : placed place next old.blocks ≡ blocks_of (front ++ next ∷ []) []
+  placed_front : blocks_with_item place next old.blocks ≡ blocks_of (front ++ next ∷ []) []
   placed_front =
       placed_is_joined next old.blocks place up bound found ∙ ap (joined next) (is.blocks ∙ gathered_is front)
       ∙ sym (gathered_push front next (all_ordered front)) ∙ sym (gathered_is (front ++ next ∷ []))
@@ -37,7 +37,7 @@ module _ (budget : ℕ) (front : List Item) (next : Item) (old : Making) (up : a
   )
 
   -- it is taken
-  pub next_taken : (left : ℕ) → left + cost_of next place ≡ old.room → AfterNext budget front next true (record { blocks = placed place next old.blocks; room = left })
+  pub next_taken : (left : ℕ) → left + cost_of next place ≡ old.room → AfterNext budget front next true (record { blocks = blocks_with_item place next old.blocks; room = left })
   next_taken left takes = record {
     least = is.least;
     most = is.most;

@@ -6,9 +6,9 @@ use Rattle.std.proofs.lemmas.List.Elements.{filter-append}
 use Rattle.std.specs.Cmp.Lexicographic.{pointwise}
 use Rattle.sb_types.specs.declared.entry.Write.{Write}
 use Rattle.sb_types.specs.Records.{Entry, Table, Block, Holder}
-use Rattle.sb_types.specs.Runs.{Stands, above, last_version, IsRun, IsTable, IsBlock}
+use Rattle.sb_types.specs.Runs.{Stands, newer_entries, last_version, IsRun, IsTable, IsBlock}
 use Rattle.sb_types.specs.Writes.{Tells, Holds, Honest}
-use Rattle.sb_budget.specs.Offers.{Item, items_from, items_of, of_owner, entries_of, block_from, block_of, is_named, are_named_once, available}
+use Rattle.sb_budget.specs.Offers.{Item, items_from, items_of, of_owner, entries_of, block_from, block_of, is_named, are_named_once, available_items}
 use Rattle.sb_types.proofs.Standing.{left, of_above}
 use Rattle.sb_types.proofs.Texts.{same_text, text_same}
 use Rattle.sb_table.proofs.Order.{run_above, run_front, run_after, run_upto}
@@ -69,25 +69,25 @@ module _ (owner : List ℕ) (t : Table) (number : ℕ) (front rest : List Item) 
   joined = sym (filter-append (λ item. pointwise nat_eq item.owner owner) front rest) ∙ offered
 
   more_held : number < t.held
-  more_held = some_offered owner t number (above number t.entries) first
+  more_held = some_offered owner t number (newer_entries number t.entries) first
       (λ e a. let o = of_above number t.entries e a in omega (arith, o.1, run_upto e i.run o.0))
       (subst (λ items. Stands items first) joined (left (of_owner owner front) (of_owner owner rest) first s))
 
-  run : IsRun number t.held (above number t.entries)
+  run : IsRun number t.held (newer_entries number t.entries)
   run = let l = more_held in run_above number (omega arith) i.run
 
-  front_order : (k : ℕ) (e : Entry) → Stands (take k (above number t.entries)) e → number < last_version number (take k (above number t.entries))
+  front_order : (k : ℕ) (e : Entry) → Stands (take k (newer_entries number t.entries)) e → number < last_version number (take k (newer_entries number t.entries))
   front_order k e a = let r = run_front k run in omega (arith, run_after e r a, run_upto e r a)
 
   pub offer_is : IsBlock (block_of owner front rest)
-  offer_is = blocks owner t number IsBlock (above number t.entries) (of_owner owner front) (of_owner owner rest) first joined s more_held
+  offer_is = blocks owner t number IsBlock (newer_entries number t.entries) (of_owner owner front) (of_owner owner rest) first joined s more_held
       (record { run = run; order = more_held })
       (λ k e a. record { run = run_front k run; order = front_order k e a })
 
   pub offer_honest : (writes : List Write) → Holds writes t → Honest writes (block_of owner front rest)
   offer_honest writes h =
-      let all : Tells writes t.floor number t.held (above number t.entries) = tells_above number (omega arith) h in
-      blocks owner t number (Honest writes) (above number t.entries) (of_owner owner front) (of_owner owner rest) first joined s more_held all (λ k e a. tells_front k run all)
+      let all : Tells writes t.floor number t.held (newer_entries number t.entries) = tells_above number (omega arith) h in
+      blocks owner t number (Honest writes) (newer_entries number t.entries) (of_owner owner front) (of_owner owner rest) first joined s more_held all (λ k e a. tells_front k run all)
 
 -- ---- what is available of each owner
 
@@ -115,62 +115,62 @@ module _ (owner : List ℕ) (t : Table) (number : ℕ) where
   items_owner (e ∷ es) item s = mapped_owner (e ∷ es) item s
 
   of_its_owner : of_owner owner (items_of owner t number) ≡ items_of owner t number
-  of_its_owner = keep_all _ (items_of owner t number) (λ x s. text_same x.owner owner (items_owner (above number t.entries) x s))
+  of_its_owner = keep_all _ (items_of owner t number) (λ x s. text_same x.owner owner (items_owner (newer_entries number t.entries) x s))
 
   of_another : (q : List ℕ) → pointwise nat_eq owner q ≡ false → of_owner q (items_of owner t number) ≡ []
-  of_another q other = keep_none _ (items_of owner t number) (λ x s. ap (λ o. pointwise nat_eq o q) (items_owner (above number t.entries) x s) ∙ other)
+  of_another q other = keep_none _ (items_of owner t number) (λ x s. ap (λ o. pointwise nat_eq o q) (items_owner (newer_entries number t.entries) x s) ∙ other)
 
 named : (ps : List (List ℕ × Holder)) (p : List ℕ × Holder) → Stands ps p → is_named p.0 ps ≡ true
 named [] p s = absurd s
 named (q ∷ ps) p (inl e) = or_left _ _ (text_same q.0 p.0 (ap (λ (r : List ℕ × Holder). r.0) e))
 named (q ∷ ps) p (inr s) = or_right _ _ (named ps p s)
 
-module _ (covers : List ℕ → Bool) (number : List ℕ → Table → ℕ) where
+module _ (covers : List ℕ → Bool) (offered : List ℕ → Table → Table) (number : List ℕ → Table → ℕ) where
   offered_of : List ℕ × Holder → List Item
-  offered_of p = if covers p.0 then items_of p.0 p.1.shown (number p.0 p.1.shown) else []
+  offered_of p = if covers p.0 then items_of p.0 (offered p.0 p.1.shown) (number p.0 p.1.shown) else []
 
   other_offer : (p : List ℕ × Holder) (q : List ℕ) → pointwise nat_eq p.0 q ≡ false → of_owner q (offered_of p) ≡ []
   unfolding offered_of
-  other_offer p q other = cond_both (covers p.0) _ [] (λ items. of_owner q items ≡ []) (λ _. of_another p.0 p.1.shown (number p.0 p.1.shown) q other) (λ _. refl)
+  other_offer p q other = cond_both (covers p.0) _ [] (λ items. of_owner q items ≡ []) (λ _. of_another p.0 (offered p.0 p.1.shown) (number p.0 p.1.shown) q other) (λ _. refl)
 
-  pub unnamed : (ps : List (List ℕ × Holder)) (q : List ℕ) → is_named q ps ≡ false → of_owner q (available covers number ps) ≡ []
+  pub unnamed : (ps : List (List ℕ × Holder)) (q : List ℕ) → is_named q ps ≡ false → of_owner q (available_items covers offered number ps) ≡ []
   unfolding offered_of
   unnamed [] q h = refl
   unnamed (p ∷ ps) q h =
       let parts = or_parts (pointwise nat_eq p.0 q) (is_named q ps) h in
-      filter-append (λ item. pointwise nat_eq item.owner q) (offered_of p) (available covers number ps)
+      filter-append (λ item. pointwise nat_eq item.owner q) (offered_of p) (available_items covers offered number ps)
       ∙ ap₂ (λ a b. a ++ b) (other_offer p q parts.0) (unnamed ps q parts.1)
 
   uncovered_offer : (p : List ℕ × Holder) (q : List ℕ) → covers q ≡ false → of_owner q (offered_of p) ≡ []
   unfolding offered_of
   uncovered_offer p q none =
       cond_both (covers p.0) _ [] (λ items. of_owner q items ≡ [])
-      (λ covered. of_another p.0 p.1.shown (number p.0 p.1.shown) q (false_from_ne_true _ (λ t. true≢false (sym covered ∙ ap covers (same_text p.0 q t) ∙ none))))
+      (λ covered. of_another p.0 (offered p.0 p.1.shown) (number p.0 p.1.shown) q (false_from_ne_true _ (λ t. true≢false (sym covered ∙ ap covers (same_text p.0 q t) ∙ none))))
       (λ _. refl)
 
-  pub uncovered : (ps : List (List ℕ × Holder)) (q : List ℕ) → covers q ≡ false → of_owner q (available covers number ps) ≡ []
+  pub uncovered : (ps : List (List ℕ × Holder)) (q : List ℕ) → covers q ≡ false → of_owner q (available_items covers offered number ps) ≡ []
   unfolding offered_of
   uncovered [] q none = refl
   uncovered (p ∷ ps) q none =
-      filter-append (λ item. pointwise nat_eq item.owner q) (offered_of p) (available covers number ps)
+      filter-append (λ item. pointwise nat_eq item.owner q) (offered_of p) (available_items covers offered number ps)
       ∙ ap₂ (λ a b. a ++ b) (uncovered_offer p q none) (uncovered ps q none)
 
-  own_offer : (p : List ℕ × Holder) → covers p.0 ≡ true → of_owner p.0 (offered_of p) ≡ items_of p.0 p.1.shown (number p.0 p.1.shown)
+  own_offer : (p : List ℕ × Holder) → covers p.0 ≡ true → of_owner p.0 (offered_of p) ≡ items_of p.0 (offered p.0 p.1.shown) (number p.0 p.1.shown)
   unfolding offered_of
-  own_offer p c = rw c (of_its_owner p.0 p.1.shown (number p.0 p.1.shown))
+  own_offer p c = rw c (of_its_owner p.0 (offered p.0 p.1.shown) (number p.0 p.1.shown))
 
-  pub available_of : (ps : List (List ℕ × Holder)) (p : List ℕ × Holder) → are_named_once ps ≡ true → Stands ps p → covers p.0 ≡ true → of_owner p.0 (available covers number ps) ≡ items_of p.0 p.1.shown (number p.0 p.1.shown)
+  pub available_of : (ps : List (List ℕ × Holder)) (p : List ℕ × Holder) → are_named_once ps ≡ true → Stands ps p → covers p.0 ≡ true → of_owner p.0 (available_items covers offered number ps) ≡ items_of p.0 (offered p.0 p.1.shown) (number p.0 p.1.shown)
   unfolding offered_of
   available_of [] p d s c = absurd s
   available_of (q ∷ ps) p d (inl e) c =
       let alone : is_named q.0 ps ≡ false = not-true _ (and_parts _ _ d).0 in
       let covered : covers q.0 ≡ true = ap (λ (r : List ℕ × Holder). covers r.0) e ∙ c in
-      subst (λ (r : List ℕ × Holder). of_owner r.0 (available covers number (q ∷ ps)) ≡ items_of r.0 r.1.shown (number r.0 r.1.shown)) e
-      (filter-append (λ item. pointwise nat_eq item.owner q.0) (offered_of q) (available covers number ps)
+      subst (λ (r : List ℕ × Holder). of_owner r.0 (available_items covers offered number (q ∷ ps)) ≡ items_of r.0 (offered r.0 r.1.shown) (number r.0 r.1.shown)) e
+      (filter-append (λ item. pointwise nat_eq item.owner q.0) (offered_of q) (available_items covers offered number ps)
       ∙ ap₂ (λ a b. a ++ b) (own_offer q covered) (unnamed ps q.0 alone)
       ∙ append-nil _)
   available_of (q ∷ ps) p d (inr s) c =
       let alone : is_named q.0 ps ≡ false = not-true _ (and_parts _ _ d).0 in
       let other : pointwise nat_eq q.0 p.0 ≡ false = false_from_ne_true _ (λ t. false≢true (sym alone ∙ rw (same_text q.0 p.0 t) (named ps p s))) in
-      filter-append (λ item. pointwise nat_eq item.owner p.0) (offered_of q) (available covers number ps)
+      filter-append (λ item. pointwise nat_eq item.owner p.0) (offered_of q) (available_items covers offered number ps)
       ∙ ap₂ (λ a b. a ++ b) (other_offer q p.0 other) (available_of ps p (and_parts _ _ d).1 s c)

@@ -17,15 +17,15 @@ use Rattle.sb_types.specs.Lengths.{entry_length, entries_length, block_length}
 use Rattle.sb_types.specs.Limits.{text_lt, are_owners_above}
 use Rattle.sb_types.proofs.Texts.{Less-from_text_lt, text_lt-back, same_text, same-from_Equal, apart-from_Less, apart-from_Greater}
 use Rattle.sb_budget.specs.Offers.{Item}
-use Rattle.sb_budget.specs.BlocksByOwner.{grown, begun, placed, cost_of, lowered, lowered_of}
+use Rattle.sb_budget.specs.BlocksByOwner.{block_with_entry, block_of_item, blocks_with_item, cost_of, block_to_last_entry, lowered_of}
 
 abbrev pub text_cmp : List ℕ → List ℕ → Ordering
 text_cmp = slice_cmp nat_cmp
 
 -- the item joined to its owner's block, or as a new block in its place
 abbrev pub joined : Item → List Block → List Block
-joined o [] = begun o ∷ []
-joined o (b ∷ bs) = match_ordering (text_cmp b.owner o.owner) (b ∷ joined o bs) (grown b o.entry ∷ bs) (begun o ∷ b ∷ bs)
+joined o [] = block_of_item o ∷ []
+joined o (b ∷ bs) = match_ordering (text_cmp b.owner o.owner) (b ∷ joined o bs) (block_with_entry b o.entry ∷ bs) (block_of_item o ∷ b ∷ bs)
 
 pub same_from_Equal : (a b : List ℕ) → text_cmp a b ≡ Equal → a ≡ b
 same_from_Equal a b tied = same_text a b (texts_ties a b ∙ ap is_eq tied)
@@ -59,28 +59,28 @@ owners_sorted last bs up k d low l = rw add-one (text_lt-back (get_or bs k d).ow
 inserted : (o : Item) (bs : List Block) (i : ℕ) → i ≤ length bs →
     ((k : ℕ) (d : Block) → k < i → text_cmp (get_or bs k d).owner o.owner ≡ Less) →
     ((k : ℕ) (d : Block) → i ≤ k → k < length bs → text_cmp (get_or bs k d).owner o.owner ≡ Greater) →
-    insert bs i (begun o) ≡ joined o bs
+    insert bs i (block_of_item o) ≡ joined o bs
 inserted o [] zero l below above = refl
 inserted o [] (suc i) l below above = absurd (omega arith)
-inserted o (b ∷ bs) zero l below above = ap (λ r. match_ordering r (b ∷ joined o bs) (grown b o.entry ∷ bs) (begun o ∷ b ∷ bs)) (sym (above 0 b (omega arith) (omega arith)))
+inserted o (b ∷ bs) zero l below above = ap (λ r. match_ordering r (b ∷ joined o bs) (block_with_entry b o.entry ∷ bs) (block_of_item o ∷ b ∷ bs)) (sym (above 0 b (omega arith) (omega arith)))
 inserted o (b ∷ bs) (suc i) l below above =
     ap (λ r. b ∷ r) (inserted o bs i (omega arith) (λ k d h. below (suc k) d (omega arith)) (λ k d h t. above (suc k) d (omega arith) (omega arith)))
-    ∙ ap (λ r. match_ordering r (b ∷ joined o bs) (grown b o.entry ∷ bs) (begun o ∷ b ∷ bs)) (sym (below 0 b (omega arith)))
+    ∙ ap (λ r. match_ordering r (b ∷ joined o bs) (block_with_entry b o.entry ∷ bs) (block_of_item o ∷ b ∷ bs)) (sym (below 0 b (omega arith)))
 
 grown_at : (o : Item) (last : List ℕ) (bs : List Block) (i : ℕ) (d : Block) → are_owners_above last bs ≡ true → i < length bs → text_cmp (get_or bs i d).owner o.owner ≡ Equal →
-    set bs i (grown (get_or bs i d) o.entry) ≡ joined o bs
+    set bs i (block_with_entry (get_or bs i d) o.entry) ≡ joined o bs
 grown_at o last [] i d up l tied = absurd (omega arith)
-grown_at o last (b ∷ bs) zero d up l tied = ap (λ r. match_ordering r (b ∷ joined o bs) (grown b o.entry ∷ bs) (begun o ∷ b ∷ bs)) (sym tied)
+grown_at o last (b ∷ bs) zero d up l tied = ap (λ r. match_ordering r (b ∷ joined o bs) (block_with_entry b o.entry ∷ bs) (block_of_item o ∷ b ∷ bs)) (sym tied)
 grown_at o last (b ∷ bs) (suc i) d up l tied =
     let p = and_parts (text_lt last b.owner) (are_owners_above b.owner bs) up in
     let less : text_cmp b.owner o.owner ≡ Less = Less-from_text_lt b.owner o.owner (ap (text_lt b.owner) (sym (same_from_Equal (get_or bs i d).owner o.owner tied)) ∙ first_below b.owner bs i d p.1 (omega arith)) in
     ap (λ r. b ∷ r) (grown_at o b.owner bs i d p.1 (omega arith) tied)
-    ∙ ap (λ r. match_ordering r (b ∷ joined o bs) (grown b o.entry ∷ bs) (begun o ∷ b ∷ bs)) (sym less)
+    ∙ ap (λ r. match_ordering r (b ∷ joined o bs) (block_with_entry b o.entry ∷ bs) (block_of_item o ∷ b ∷ bs)) (sym less)
 
 -- what is put where a search says is joined
 pub placed_is_joined : (o : Item) (bs : List Block) (place : Result ℕ ℕ) → are_owners_above [] bs ≡ true → IsSearchInRange place (length bs) →
-    IsBinarySearchResult (λ (b : Block). text_cmp b.owner o.owner) bs place → placed place o bs ≡ joined o bs
-placed_is_joined o bs (Ok i) up l found = grown_at o [] bs i (begun o) up l (found (begun o))
+    IsBinarySearchResult (λ (b : Block). text_cmp b.owner o.owner) bs place → blocks_with_item place o bs ≡ joined o bs
+placed_is_joined o bs (Ok i) up l found = grown_at o [] bs i (block_of_item o) up l (found (block_of_item o))
 placed_is_joined o bs (Err i) up l found =
     let point = found (searchable_from_sorted nat_list_cmp_total (λ (b : Block). b.owner) bs o.owner (owners_sorted [] bs up)) in
     inserted o bs i l (λ k d h. point.0 k d (omega arith) h) point.1
@@ -91,15 +91,15 @@ one_more : (es : List Entry) (e : Option Entry) → entries_length (es ++ cons_o
 one_more es None = omega (arith, ap (λ (l : List Entry). entries_length l) (append-nil es))
 one_more es (Some e) = sum_by_push entry_length es e
 
-pub placed_length : (o : Item) (bs : List Block) (place : Result ℕ ℕ) → IsSearchInRange place (length bs) → sum_by block_length (placed place o bs) ≡ sum_by block_length bs + cost_of o place
+pub placed_length : (o : Item) (bs : List Block) (place : Result ℕ ℕ) → IsSearchInRange place (length bs) → sum_by block_length (blocks_with_item place o bs) ≡ sum_by block_length bs + cost_of o place
 placed_length o bs (Ok i) l =
-    let b = get_or bs i (begun o) in
-    omega (arith, sum_by-set block_length bs i (grown b o.entry) (begun o) l, one_more b.entries o.entry)
-placed_length o bs (Err i) l = omega (arith, sum_by-insert block_length bs i (begun o), one_more [] o.entry)
+    let b = get_or bs i (block_of_item o) in
+    omega (arith, sum_by-set block_length bs i (block_with_entry b o.entry) (block_of_item o) l, one_more b.entries o.entry)
+placed_length o bs (Err i) l = omega (arith, sum_by-insert block_length bs i (block_of_item o), one_more [] o.entry)
 
-pub placed_some : (o : Item) (bs : List Block) (place : Result ℕ ℕ) → IsSearchInRange place (length bs) → 0 < length (placed place o bs)
-placed_some o bs (Ok i) l = omega (arith, length-set bs i (grown (get_or bs i (begun o)) o.entry))
-placed_some o bs (Err i) l = omega (arith, length-insert bs i (begun o))
+pub placed_some : (o : Item) (bs : List Block) (place : Result ℕ ℕ) → IsSearchInRange place (length bs) → 0 < length (blocks_with_item place o bs)
+placed_some o bs (Ok i) l = omega (arith, length-set bs i (block_with_entry (get_or bs i (block_of_item o)) o.entry))
+placed_some o bs (Err i) l = omega (arith, length-insert bs i (block_of_item o))
 
 -- ---- the owners' order
 
@@ -109,7 +109,7 @@ module _ (o : Item) where
   joined_above last (b ∷ bs) t up = go (text_cmp b.owner o.owner) refl (λ l. joined_above b.owner bs l (and_parts (text_lt last b.owner) _ up).1)
     where
       go : (r : Ordering) → text_cmp b.owner o.owner ≡ r → (text_lt b.owner o.owner ≡ true → are_owners_above b.owner (joined o bs) ≡ true) →
-          are_owners_above last (match_ordering r (b ∷ joined o bs) (grown b o.entry ∷ bs) (begun o ∷ b ∷ bs)) ≡ true
+          are_owners_above last (match_ordering r (b ∷ joined o bs) (block_with_entry b o.entry ∷ bs) (block_of_item o ∷ b ∷ bs)) ≡ true
       go Less e rest = and_from _ _ (and_parts _ _ up).0 (rest (lt_from_Less b.owner o.owner e))
       go Equal e rest = up
       go Greater e rest = and_from _ _ t (and_from _ _ (lt_from_Greater b.owner o.owner e) (and_parts (text_lt last b.owner) (are_owners_above b.owner bs) up).1)
@@ -127,7 +127,7 @@ pub joined_ordered : (o : Item) (bs : List Block) → are_ordered bs ≡ true �
 joined_ordered o [] up = refl
 joined_ordered o (b ∷ bs) up = go (text_cmp b.owner o.owner) refl
   where
-    go : (r : Ordering) → text_cmp b.owner o.owner ≡ r → are_ordered (match_ordering r (b ∷ joined o bs) (grown b o.entry ∷ bs) (begun o ∷ b ∷ bs)) ≡ true
+    go : (r : Ordering) → text_cmp b.owner o.owner ≡ r → are_ordered (match_ordering r (b ∷ joined o bs) (block_with_entry b o.entry ∷ bs) (block_of_item o ∷ b ∷ bs)) ≡ true
     go Less e = joined_above o b.owner bs (lt_from_Less b.owner o.owner e) up
     go Equal e = up
     go Greater e = and_from _ _ (lt_from_Greater b.owner o.owner e) up
@@ -136,14 +136,14 @@ pub joined_no_less : (o : Item) (bs : List Block) → sum_by block_length bs ≤
 joined_no_less o [] = omega arith
 joined_no_less o (b ∷ bs) = go (text_cmp b.owner o.owner) (joined_no_less o bs)
   where
-    go : (r : Ordering) → sum_by block_length bs ≤ sum_by block_length (joined o bs) → sum_by block_length (b ∷ bs) ≤ sum_by block_length (match_ordering r (b ∷ joined o bs) (grown b o.entry ∷ bs) (begun o ∷ b ∷ bs))
+    go : (r : Ordering) → sum_by block_length bs ≤ sum_by block_length (joined o bs) → sum_by block_length (b ∷ bs) ≤ sum_by block_length (match_ordering r (b ∷ joined o bs) (block_with_entry b o.entry ∷ bs) (block_of_item o ∷ b ∷ bs))
     go Less more = omega (arith, sum_by-cons block_length b bs, sum_by-cons block_length b (joined o bs))
-    go Equal more = omega (arith, sum_by-cons block_length b bs, sum_by-cons block_length (grown b o.entry) bs, one_more b.entries o.entry)
-    go Greater more = omega (arith, sum_by-cons block_length (begun o) (b ∷ bs))
+    go Equal more = omega (arith, sum_by-cons block_length b bs, sum_by-cons block_length (block_with_entry b o.entry) bs, one_more b.entries o.entry)
+    go Greater more = omega (arith, sum_by-cons block_length (block_of_item o) (b ∷ bs))
 
 -- ---- where an owner's block is lowered
 
-first_lowered : (owner : List ℕ) (b : Block) → text_cmp b.owner owner ≡ Equal → lowered_of owner b ≡ lowered b
+first_lowered : (owner : List ℕ) (b : Block) → text_cmp b.owner owner ≡ Equal → lowered_of owner b ≡ block_to_last_entry b
 first_lowered owner b tied = cond-true _ _ _ (same-from_Equal b.owner owner tied)
 
 first_stays : (owner : List ℕ) (b : Block) → pointwise nat_eq b.owner owner ≡ false → lowered_of owner b ≡ b
@@ -155,7 +155,7 @@ none_lowered owner [] other = refl
 none_lowered owner (b ∷ bs) other = ap₂ (λ c cs. c ∷ cs) (first_stays owner b (other 0 b (omega arith))) (none_lowered owner bs (λ k d l. other (suc k) d (omega arith)))
 
 lowered_at : (owner last : List ℕ) (bs : List Block) (i : ℕ) (d : Block) → are_owners_above last bs ≡ true → i < length bs → text_cmp (get_or bs i d).owner owner ≡ Equal →
-    set bs i (lowered (get_or bs i d)) ≡ map (λ b. lowered_of owner b) bs
+    set bs i (block_to_last_entry (get_or bs i d)) ≡ map (λ b. lowered_of owner b) bs
 lowered_at owner last [] i d up l tied = absurd (omega arith)
 lowered_at owner last (b ∷ bs) zero d up l tied =
     let above = (and_parts (text_lt last b.owner) (are_owners_above b.owner bs) up).1 in
@@ -172,7 +172,7 @@ lowered_at owner last (b ∷ bs) (suc i) d up l tied =
 
 -- what is lowered where a search finds it
 pub lowered_found : (owner : List ℕ) (bs : List Block) (i : ℕ) (d : Block) → are_owners_above [] bs ≡ true → i < length bs →
-    IsBinarySearchResult (λ (b : Block). text_cmp b.owner owner) bs (Ok i) → set bs i (lowered (get_or bs i d)) ≡ map (λ b. lowered_of owner b) bs
+    IsBinarySearchResult (λ (b : Block). text_cmp b.owner owner) bs (Ok i) → set bs i (block_to_last_entry (get_or bs i d)) ≡ map (λ b. lowered_of owner b) bs
 lowered_found owner bs i d up l found = lowered_at owner [] bs i d up l (found d)
 
 pub lowered_missing : (owner : List ℕ) (bs : List Block) (i : ℕ) → are_owners_above [] bs ≡ true → i ≤ length bs →
@@ -192,6 +192,6 @@ lowered_above owner last (b ∷ bs) up =
     let same : (lowered_of owner b).owner ≡ b.owner = go (pointwise nat_eq b.owner owner) in
     and_from _ _ (ap (text_lt last) same ∙ p.0) (ap (λ o. are_owners_above o (map (λ c. lowered_of owner c) bs)) same ∙ lowered_above owner b.owner bs p.1)
   where
-    go : (t : Bool) → (if t then lowered b else b).owner ≡ b.owner
+    go : (t : Bool) → (if t then block_to_last_entry b else b).owner ≡ b.owner
     go true = refl
     go false = refl

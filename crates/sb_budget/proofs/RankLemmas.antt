@@ -5,7 +5,7 @@ use Rattle.std.proofs.lemmas.Bool.{and_parts, ltb-true, ltb-false, lt-ltb, le-lt
 use Rattle.std.proofs.lemmas.List.Kept.{AllPairs-cons}
 use Rattle.std.proofs.lemmas.List.Sums.{sum_by-cons}
 use Rattle.sb_types.specs.Records.{Entry, Table}
-use Rattle.sb_types.specs.Runs.{Stands, are_ascending, above, IsRun}
+use Rattle.sb_types.specs.Runs.{Stands, are_ascending, newer_entries, IsRun}
 use Rattle.sb_types.proofs.Standing.{of_above}
 use Rattle.sb_table.proofs.Order.{ascending_kept, run_above, run_upto}
 use Rattle.sb_budget.specs.declared.offered.Offered.{Offered}
@@ -18,13 +18,13 @@ use Rattle.sb_budget.proofs.OrderLemmas.{Before}
 -- ---- the entries of a table above a version
 
 module _ (t : Table) (run : IsRun 0 t.held t.entries) (n : ℕ) where
-  pub held_further : (e : Entry) → Stands (above n t.entries) e → n < t.held
+  pub held_further : (e : Entry) → Stands (newer_entries n t.entries) e → n < t.held
   held_further e s = let of = of_above n t.entries e s in omega (arith, of.1, run_upto e run of.0)
 
-  run_of_above : n ≤ t.held → IsRun n t.held (above n t.entries)
+  run_of_above : n ≤ t.held → IsRun n t.held (newer_entries n t.entries)
   run_of_above l = run_above n l run
 
-  part_ascending : are_ascending 0 (above n t.entries) ≡ true
+  part_ascending : are_ascending 0 (newer_entries n t.entries) ≡ true
   part_ascending = ascending_kept (λ e. nat_lt n e.version) 0 t.entries run.ascending
 
 -- ---- what is ranked
@@ -129,12 +129,12 @@ module _ (owner : List ℕ) (t : Table) (n : ℕ) where
   news = ranked_item 0 owner t n 1 None
 
   pub of_three : (P : List Offered → Type 0) →
-      ((e : Entry) (es : List Entry) → above n t.entries ≡ e ∷ es → P (ranked_from 0 owner t n (length (e ∷ es)) (e ∷ es))) →
-      (above n t.entries ≡ [] → n < t.held → P (news ∷ [])) →
-      (above n t.entries ≡ [] → t.held ≤ n → P []) → P (ranked_of owner t n)
-  of_three P some alone none = go (above n t.entries) refl
+      ((e : Entry) (es : List Entry) → newer_entries n t.entries ≡ e ∷ es → P (ranked_from 0 owner t n (length (e ∷ es)) (e ∷ es))) →
+      (newer_entries n t.entries ≡ [] → n < t.held → P (news ∷ [])) →
+      (newer_entries n t.entries ≡ [] → t.held ≤ n → P []) → P (ranked_of owner t n)
+  of_three P some alone none = go (newer_entries n t.entries) refl
     where
-      go : (es : List Entry) → above n t.entries ≡ es → P (ranked_these owner t n es)
+      go : (es : List Entry) → newer_entries n t.entries ≡ es → P (ranked_these owner t n es)
       go [] e = cond_both (nat_lt n t.held) (news ∷ []) [] P (λ l. alone e (ltb-true n t.held l)) (λ l. none e (ltb-false n t.held l))
       go (x ∷ xs) e = some x xs e
 
@@ -145,7 +145,7 @@ module _ (owner : List ℕ) (t : Table) (n : ℕ) where
       (λ h l s. absurd s)
 
   pub part_items : items_of_all (ranked_of owner t n) ≡ items_of owner t n
-  part_items = go (above n t.entries)
+  part_items = go (newer_entries n t.entries)
     where
       one : (b : Bool) → items_of_all (if b then news ∷ [] else []) ≡ (if b then record { owner = owner; floor = t.floor; after = n; upto = t.held; entry = None } ∷ [] else [])
       one true = refl
@@ -156,7 +156,7 @@ module _ (owner : List ℕ) (t : Table) (n : ℕ) where
       go (x ∷ xs) = items-ranked owner t n (length (x ∷ xs)) 0 (x ∷ xs)
 
   module _ (run : IsRun 0 t.held t.entries) where
-    up_at : (e : Entry) (es : List Entry) → above n t.entries ≡ e ∷ es → are_ascending 0 (e ∷ es) ≡ true
+    up_at : (e : Entry) (es : List Entry) → newer_entries n t.entries ≡ e ∷ es → are_ascending 0 (e ∷ es) ≡ true
     up_at e es h = ap (are_ascending 0) (sym h) ∙ part_ascending t run n
 
     pub part_before : AllPairs Before (ranked_of owner t n)

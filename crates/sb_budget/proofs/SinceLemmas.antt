@@ -1,21 +1,21 @@
 -- What is offered of the owners in a backlog is what is offered in answer to the digest that it stands for.
-use Rattle.std.proofs.Common.{◌≡◌, ◌≢◌, ℕ, ◌≤◌, Bool, true, false, cond, List, [], ◌∷◌, ◌++◌, map, Option, Some, None, inl, inr, refl, sym, ap, ap₂, subst, ◌∙◌, arith, Ordering, Less, Equal, Greater, nat_eq, nat_le, append-nil, true≢false}
+use Rattle.std.proofs.Common.{◌≡◌, ℕ, ◌≤◌, Bool, true, false, cond, List, [], ◌∷◌, map, Option, Some, None, inl, inr, refl, sym, ap, ap₂, subst, ◌∙◌, arith, Ordering, Less, Equal, Greater, nat_eq, nat_le, true≢false}
 use Rattle.std.specs.List.{AllByRecursion, filter_map, cons_option}
 use Rattle.std.specs.List.Sorted.{IsStrictlySortedBy}
 use Rattle.std.specs.Map.{keys_of}
-use Rattle.std.specs.Option.{option_map}
+use Rattle.std.specs.Option.{option_map, option_map_or}
 use Rattle.std.specs.Ordering.{is_eq, eq_by_cmp, ordering_reverse}
 use Rattle.std.specs.FinMap.{get, entries, get-entries, find}
 use Rattle.std.specs.Cmp.Lexicographic.{pointwise}
-use Rattle.std.proofs.lemmas.Bool.{cond-true, cond-false, false_from_ne_true, le-leb}
+use Rattle.std.proofs.lemmas.Bool.{cond_both, cond-true, cond-false, false_from_ne_true, le-leb, leb-true}
 use Rattle.std.proofs.lemmas.Cmp.{nat_list_cmp_total}
 use Rattle.sb_types.specs.Records.{Table, Holder}
 use Rattle.sb_types.specs.Runs.{Stands, IsTable}
 use Rattle.sb_types.proofs.Texts.{text_same, apart-from_Less}
 use Rattle.sb_holdings.specs.Held.{Held}
 use Rattle.sb_holdings.specs.Plain.{IsKeptHolder, IsHoldings, each_shown, table_of, tables_from}
-use Rattle.sb_digest.specs.Digests.{Pair, Digest, plain_pair, pair_at, number_by, covers}
-use Rattle.sb_budget.specs.Available.{number_for, ranked_of, AreRanked}
+use Rattle.sb_digest.specs.Digests.{Pair, Digest, plain_pair, pair_at, held_in, number_by, covers}
+use Rattle.sb_budget.specs.Available.{number_for, offered_table, ranked_of, AreRanked}
 use Rattle.sb_budget.specs.Orders.{IsOffer}
 use Rattle.sb_budget.specs.Cut.{items_of_all, CanCut}
 use Rattle.sb_budget.specs.Parts.{Part, part_of, all_of, AreParts}
@@ -23,6 +23,7 @@ use Rattle.sb_budget.specs.Backlogs.{Backlog, version_since, pair_since, digest_
 use Rattle.sb_budget.proofs.PlaceLemmas.{text_cmp, same_from_Equal, Equal_from_same}
 use Rattle.sb_budget.proofs.HonestLemmas.{mapped_from}
 use Rattle.sb_budget.proofs.BacklogLemmas.{Ascend, entries_ascend}
+use Rattle.sb_budget.proofs.OfferedLemmas.{offered_own}
 use Rattle.sb_budget.proofs.CursorLemmas.{ranked_none}
 use Rattle.sb_budget.proofs.AvailableLemmas.{all_parts, keys_shown, all_tables, each_table, items_held, rising_tables, can_cut, is_offer, are_ranked}
 use Rattle.sb_budget.proofs.PartLemmas.{piece_at, all_pieces, items_of_pieces, chains_of_pieces, names_of_pieces}
@@ -139,11 +140,16 @@ module _ (b : Backlog) where
   pair_found (e ∷ es) h up (inr s) = cond-false _ _ _ (apart-from_Less e.0 h.0 (later e.0 es h up.0 s)) ∙ pair_found es h up.1 s
 
 -- how far the peer has all of a table
-all_of_it : (owner : List ℕ) (t : Table) → IsTable t → number_by t.floor (Some (plain_pair owner t.held)) ≡ t.held
+all_of_it : (owner : List ℕ) (t : Table) → IsTable t → number_by t.floor t.held (Some (plain_pair owner t.held)) ≡ t.held
 all_of_it owner t is = cond-true _ _ _ (le-leb t.floor t.held is.floor)
 
 abbrev number_of : List ℕ → Table → Option ℕ → ℕ
-number_of owner t o = number_by t.floor (Some (plain_pair owner (version_since t o)))
+number_of owner t o = number_by t.floor t.held (Some (plain_pair owner (version_since t o)))
+
+-- which is at or above the floor
+since_floor : (t : Table) → IsTable t → (o : Option ℕ) → t.floor ≤ version_since t o
+since_floor t is None = is.floor
+since_floor t is (Some v) = cond_both (nat_le t.floor v) v t.held (λ n. t.floor ≤ n) (λ far. leb-true t.floor v far) (λ _. is.floor)
 
 -- what is offered of it above that
 part_found : (owner : List ℕ) (t : Table) → IsTable t → (o : Option ℕ) → part_of (ranked_of owner t (number_of owner t o)) ≡ if_found o (λ v. part_since owner (Some t) v)
@@ -152,11 +158,11 @@ part_found owner t is (Some v) = go (nat_le t.floor v) refl
   where
     go : (c : Bool) → nat_le t.floor v ≡ c → part_of (ranked_of owner t (number_of owner t (Some v))) ≡ part_since owner (Some t) v
     go true e =
-        ap (λ c. part_of (ranked_of owner t (number_by t.floor (Some (plain_pair owner (cond c v t.held)))))) e
+        ap (λ c. part_of (ranked_of owner t (number_by t.floor t.held (Some (plain_pair owner (cond c v t.held)))))) e
         ∙ ap (λ n. part_of (ranked_of owner t n)) (cond-true _ _ _ e)
         ∙ sym (cond-true _ _ _ e)
     go false e =
-        ap (λ c. part_of (ranked_of owner t (number_by t.floor (Some (plain_pair owner (cond c v t.held)))))) e
+        ap (λ c. part_of (ranked_of owner t (number_by t.floor t.held (Some (plain_pair owner (cond c v t.held)))))) e
         ∙ ap (λ n. part_of (ranked_of owner t n)) (all_of_it owner t is)
         ∙ ranked_none owner t t.held is.run (omega arith)
         ∙ sym (cond-false _ _ _ e)
@@ -173,14 +179,17 @@ module _ (held : Held) (b : Backlog) (is : IsHoldings held) where
   tables_ascend : Ascend tables
   tables_ascend = subst (IsStrictlySortedBy text_cmp) (sym (ap keys_of (all_tables held) ∙ keys_shown (entries held.owners))) (entries_ascend held.owners)
 
-  found_piece : (p : List ℕ × Table) → Stands tables p → piece_at (covers asked) (number_for asked) p ≡ if_found (find text_cmp p.0 (entries b)) (λ v. part_since p.0 (Some p.1) v)
+  found_piece : (p : List ℕ × Table) → Stands tables p → piece_at (covers asked) (offered_table asked) (number_for asked) p ≡ if_found (find text_cmp p.0 (entries b)) (λ v. part_since p.0 (Some p.1) v)
   found_piece p s =
       let from = mapped_from (λ (q : List ℕ × Holder). (q.0, q.1.shown)) (entries held.owners) p (subst (λ (ts : List (List ℕ × Table)). Stands ts p) (all_tables held) s) in
       let h = from.0 in
       let table : IsTable p.1 = each_table held tables_ascend IsKeptHolder IsTable (λ x kept. kept.is.shown) is.each p s in
       let shown : IsTable h.1.shown = subst (λ (q : List ℕ × Table). IsTable q.1) (sym from.2) table in
-      subst (λ (q : List ℕ × Table). piece_at (covers asked) (number_for asked) q ≡ if_found (find text_cmp q.0 (entries b)) (λ v. part_since q.0 (Some q.1) v)) from.2
-      (ap (λ o. part_of (ranked_of h.0 h.1.shown (number_by h.1.shown.floor o))) (pair_found b (entries held.owners) h (entries_ascend held.owners) from.1)
+      let found : pair_at h.0 asked.pairs ≡ Some (pair_since b h) = pair_found b (entries held.owners) h (entries_ascend held.owners) from.1 in
+      let far : h.1.shown.floor ≤ held_in asked h.0 = subst (λ (n : ℕ). h.1.shown.floor ≤ n) (sym (ap (λ (o : Option Pair). option_map_or (λ p. p.held) o 0) found)) (since_floor h.1.shown shown (get b h.0)) in
+      subst (λ (q : List ℕ × Table). piece_at (covers asked) (offered_table asked) (number_for asked) q ≡ if_found (find text_cmp q.0 (entries b)) (λ v. part_since q.0 (Some q.1) v)) from.2
+      (ap (λ (t : Table). part_of (ranked_of h.0 t (number_for asked h.0 h.1.shown))) (offered_own asked h.0 h.1.shown shown far)
+      ∙ ap (λ o. part_of (ranked_of h.0 h.1.shown (number_by h.1.shown.floor h.1.shown.held o))) found
       ∙ part_found h.0 h.1.shown shown (get b h.0)
       ∙ ap (λ o. if_found o (λ v. part_since h.0 (Some h.1.shown) v)) (get-entries b h.0))
 
@@ -202,21 +211,21 @@ module _ (held : Held) (b : Backlog) (is : IsHoldings held) where
   found_of_backlog q = looked_up q.0 (table_of held q.0) q.1 ∙ ap (λ (o : Option Table). if_found o (λ t. part_since q.0 (Some t) q.1)) (table_found q.0)
 
   -- owner by owner of the backlog, as owner by owner of what is held
-  pub since_pieces : filter_map (λ (q : List ℕ × ℕ). part_since q.0 (table_of held q.0) q.1) (entries b) ≡ all_pieces (covers asked) (number_for asked) tables
+  pub since_pieces : filter_map (λ (q : List ℕ × ℕ). part_since q.0 (table_of held q.0) q.1) (entries b) ≡ all_pieces (covers asked) (offered_table asked) (number_for asked) tables
   since_pieces =
       kept_same looked (by_second since tables) (entries b) (λ q s. found_of_backlog q)
       ∙ sym (merged since tables tables_ascend (entries b) (entries_ascend b))
-      ∙ sym (kept_same (piece_at (covers asked) (number_for asked)) (by_first since (entries b)) tables found_piece)
+      ∙ sym (kept_same (piece_at (covers asked) (offered_table asked) (number_for asked)) (by_first since (entries b)) tables found_piece)
 
-  pub since_parts : AreParts held asked (all_pieces (covers asked) (number_for asked) tables)
+  pub since_parts : AreParts held asked (all_pieces (covers asked) (offered_table asked) (number_for asked) tables)
   since_parts =
-      let each = rising_tables held tables_ascend is in
-      let all : all_of (all_pieces (covers asked) (number_for asked) tables) ≡ all_parts (covers asked) (number_for asked) tables = items_of_pieces (covers asked) (number_for asked) tables in
+      let each = rising_tables held tables_ascend asked is in
+      let all : all_of (all_pieces (covers asked) (offered_table asked) (number_for asked) tables) ≡ all_parts (covers asked) (offered_table asked) (number_for asked) tables = items_of_pieces (covers asked) (offered_table asked) (number_for asked) tables in
       record {
         items = ap items_of_all all ∙ items_held held asked;
-        ranks = subst AreRanked (sym all) (are_ranked (covers asked) (number_for asked) tables tables_ascend each);
-        offer = subst IsOffer (sym all) (is_offer (covers asked) (number_for asked) tables tables_ascend each);
-        cut = subst CanCut (sym all) (can_cut (covers asked) (number_for asked) tables tables_ascend each);
-        chains = chains_of_pieces (covers asked) (number_for asked) tables each;
-        names = names_of_pieces (covers asked) (number_for asked) tables tables_ascend;
+        ranks = subst AreRanked (sym all) (are_ranked (covers asked) (offered_table asked) (number_for asked) tables tables_ascend each);
+        offer = subst IsOffer (sym all) (is_offer (covers asked) (offered_table asked) (number_for asked) tables tables_ascend each);
+        cut = subst CanCut (sym all) (can_cut (covers asked) (offered_table asked) (number_for asked) tables tables_ascend each);
+        chains = chains_of_pieces (covers asked) (offered_table asked) (number_for asked) tables each;
+        names = names_of_pieces (covers asked) (offered_table asked) (number_for asked) tables tables_ascend;
       }

@@ -16,7 +16,7 @@ use Rattle.sb_budget.specs.Cut.{item_of, items_of_all, owners_of, blocks_of, del
 use Rattle.sb_budget.specs.BlocksByOwner.{lowered_of}
 use Rattle.sb_budget.specs.Making.{Making, IsFrontOf, AfterNext, IsTaking}
 use Rattle.sb_budget.specs.Parts.{Part, part_of, all_of}
-use Rattle.sb_budget.specs.Turns.{rejoined, first_turns, in_turns}
+use Rattle.sb_budget.specs.Turns.{parts_after_turn, first_turns, in_turns}
 use Rattle.sb_budget.proofs.GatherLemmas.{map_same, left_more, of_owner_items, all_at}
 use Rattle.sb_budget.proofs.HonestLemmas.{mapped_from}
 
@@ -25,14 +25,14 @@ all_append [] qs = refl
 all_append (p ∷ ps) qs = ap (λ r. p.next ∷ (p.later ++ r)) (all_append ps qs) ∙ sym (append_assoc (p.next ∷ p.later) (all_of ps) (all_of qs))
 
 -- nothing is lost
-rejoined_all : (turn : Turns) (others : List Part) (os : List Offered) → IsPermutation (os ++ all_of others) (all_of (rejoined turn others os))
+rejoined_all : (turn : Turns) (others : List Part) (os : List Offered) → IsPermutation (os ++ all_of others) (all_of (parts_after_turn turn others os))
 rejoined_all turn others [] = IsPermutation-refl (all_of others)
 rejoined_all turns.First others (o ∷ os) = IsPermutation-refl (o ∷ (os ++ all_of others))
 rejoined_all turns.Last others (o ∷ os) =
     subst (IsPermutation ((o ∷ os) ++ all_of others)) (ap (λ r. all_of others ++ r) (sym (append-nil (o ∷ os))) ∙ sym (all_append others (record { next = o; later = os } ∷ [])))
     (IsPermutation-append_comm (o ∷ os) (all_of others))
 
-pub rejoined_length : (turn : Turns) (others : List Part) (os : List Offered) → length (os ++ all_of others) ≡ length (all_of (rejoined turn others os))
+pub rejoined_length : (turn : Turns) (others : List Part) (os : List Offered) → length (os ++ all_of others) ≡ length (all_of (parts_after_turn turn others os))
 rejoined_length turn others [] = refl
 rejoined_length turns.First others (o ∷ os) = refl
 rejoined_length turns.Last others (o ∷ os) =
@@ -40,15 +40,15 @@ rejoined_length turns.Last others (o ∷ os) =
     omega (arith, length-append (o ∷ os) (all_of others), ap (λ (l : List Offered). length l) (all_append others (part ∷ [])), length-append (all_of others) (all_of (part ∷ [])), ap (λ (l : List Offered). length l) (append-nil (o ∷ os)))
 
 -- a turn
-pub in_turns_step : (turn : Turns) (p : Part) (others : List Part) → in_turns turn (p ∷ others) ≡ p.next ∷ in_turns turn (rejoined turn others p.later)
-in_turns_step turn p others = ap (λ n. p.next ∷ first_turns turn n (rejoined turn others p.later)) (rejoined_length turn others p.later)
+pub in_turns_step : (turn : Turns) (p : Part) (others : List Part) → in_turns turn (p ∷ others) ≡ p.next ∷ in_turns turn (parts_after_turn turn others p.later)
+in_turns_step turn p others = ap (λ n. p.next ∷ first_turns turn n (parts_after_turn turn others p.later)) (rejoined_length turn others p.later)
 
 moved : (turn : Turns) (n : ℕ) (owners : List Part) → length (all_of owners) ≡ n → IsPermutation (all_of owners) (first_turns turn n owners)
 moved turn zero [] e = IsPermutation-refl []
 moved turn zero (p ∷ others) e = absurd (omega (arith, e))
 moved turn (suc n) [] e = IsPermutation-refl []
 moved turn (suc n) (p ∷ others) e =
-    let rest = rejoined turn others p.later in
+    let rest = parts_after_turn turn others p.later in
     IsPermutation-cons p.next (p.later ++ all_of others) (first_turns turn n rest)
     (IsPermutation-trans (p.later ++ all_of others) (all_of rest) (first_turns turn n rest) (rejoined_all turn others p.later)
     (moved turn n rest (omega (arith, e, rejoined_length turn others p.later))))
@@ -61,9 +61,9 @@ whole : (n : ℕ) (owners : List Part) → length (all_of owners) ≡ n → firs
 whole zero [] e = refl
 whole zero (p ∷ others) e = absurd (omega (arith, e))
 whole (suc n) [] e = refl
-whole (suc n) (p ∷ others) e = ap (λ r. p.next ∷ r) (go p.later (whole n (rejoined turns.First others p.later) (omega (arith, e, rejoined_length turns.First others p.later))))
+whole (suc n) (p ∷ others) e = ap (λ r. p.next ∷ r) (go p.later (whole n (parts_after_turn turns.First others p.later) (omega (arith, e, rejoined_length turns.First others p.later))))
   where
-    go : (os : List Offered) → first_turns turns.First n (rejoined turns.First others os) ≡ all_of (rejoined turns.First others os) → first_turns turns.First n (rejoined turns.First others os) ≡ os ++ all_of others
+    go : (os : List Offered) → first_turns turns.First n (parts_after_turn turns.First others os) ≡ all_of (parts_after_turn turns.First others os) → first_turns turns.First n (parts_after_turn turns.First others os) ≡ os ++ all_of others
     go [] e = e
     go (o ∷ os) e = e
 
@@ -171,13 +171,13 @@ left_part p front left same =
 
 module _ (budget : ℕ) (turn : Turns) (all : List Offered) (p : Part) (others : List Part) (making : Making) (is : IsTurn budget turn all (p ∷ others) making) where
   rest : List Offered
-  rest = in_turns turn (rejoined turn others p.later)
+  rest = in_turns turn (parts_after_turn turn others p.later)
 
   all_again : is.0 ++ p.next ∷ rest ≡ all
   unfolding rest
   all_again = ap (λ r. is.0 ++ r) (sym (in_turns_step turn p others)) ∙ is.1
 
-  pub turn_taken : (new : Making) → AfterNext budget (items_of_all is.0) (item_of p.next) true new → IsTurn budget turn all (rejoined turn others p.later) new
+  pub turn_taken : (new : Making) → AfterNext budget (items_of_all is.0) (item_of p.next) true new → IsTurn budget turn all (parts_after_turn turn others p.later) new
   unfolding rest
   turn_taken new after = (
     is.0 ++ p.next ∷ [],
@@ -212,14 +212,14 @@ turn_ends budget turn all owners making is none =
 none_some : (q : Part) → None ≡ Some q → ⊥
 none_some q e = cc
 
-pub none_later : (turn : Turns) (others : List Part) (os : List Offered) → ((q : Part) → part_of os ≡ Some q → ⊥) → rejoined turn others os ≡ others
+pub none_later : (turn : Turns) (others : List Part) (os : List Offered) → ((q : Part) → part_of os ≡ Some q → ⊥) → parts_after_turn turn others os ≡ others
 none_later turn others [] none = refl
 none_later turn others (o ∷ os) none = absurd (none (record { next = o; later = os }) refl)
 
-pub later_first : (others : List Part) (os : List Offered) (q : Part) → part_of os ≡ Some q → rejoined turns.First others os ≡ q ∷ others
+pub later_first : (others : List Part) (os : List Offered) (q : Part) → part_of os ≡ Some q → parts_after_turn turns.First others os ≡ q ∷ others
 later_first others [] q e = absurd (none_some q e)
-later_first others (o ∷ os) q e = subst (λ (r : Option Part). IfSome r (λ z. rejoined turns.First others (o ∷ os) ≡ z ∷ others)) e refl
+later_first others (o ∷ os) q e = subst (λ (r : Option Part). IfSome r (λ z. parts_after_turn turns.First others (o ∷ os) ≡ z ∷ others)) e refl
 
-pub later_last : (others : List Part) (os : List Offered) (q : Part) → part_of os ≡ Some q → rejoined turns.Last others os ≡ others ++ q ∷ []
+pub later_last : (others : List Part) (os : List Offered) (q : Part) → part_of os ≡ Some q → parts_after_turn turns.Last others os ≡ others ++ q ∷ []
 later_last others [] q e = absurd (none_some q e)
-later_last others (o ∷ os) q e = subst (λ (r : Option Part). IfSome r (λ z. rejoined turns.Last others (o ∷ os) ≡ others ++ z ∷ [])) e refl
+later_last others (o ∷ os) q e = subst (λ (r : Option Part). IfSome r (λ z. parts_after_turn turns.Last others (o ∷ os) ≡ others ++ z ∷ [])) e refl

@@ -2,20 +2,25 @@
 use Rattle.std.specs.Prelude.{◌≡◌, ℕ, ◌+◌, nat_lt, if◌then◌else◌, List, [], ◌∷◌, length, count_by, All, Option, Some, None}
 use Rattle.std.specs.FinMap.{entries}
 use Rattle.sb_types.specs.Records.{Entry, Table}
-use Rattle.sb_types.specs.Runs.{above}
+use Rattle.sb_types.specs.Runs.{newer_entries}
+use Rattle.sb_table.specs.Floors.{table_at_floor}
 use Rattle.sb_holdings.specs.Held.{Held}
-use Rattle.sb_digest.specs.Digests.{Digest, covers, number_in}
+use Rattle.sb_digest.specs.Digests.{Digest, covers, number_in, floor_in}
 use Rattle.sb_budget.specs.declared.offered.Offered.{Offered}
 use Rattle.sb_budget.specs.Offers as offers
 use Rattle.sb_budget.specs.Orders.{offered_by, version_of}
 
 -- the number of an owner for a sender that has this table
 abbrev pub number_for : Digest → List ℕ → Table → ℕ
-number_for digest owner table = number_in digest owner table.floor
+number_for digest owner table = number_in digest owner table.floor table.held
 
--- for each owner that the digest covers, what is held above its number
+-- an owner's table as it is offered: as if it were purged up to the floor under which its sender starts
+abbrev pub offered_table : Digest → List ℕ → Table → Table
+offered_table digest owner table = table_at_floor table.held (floor_in digest owner table.floor table.held) table
+
+-- for each owner that the digest covers, what its offered table has above its number
 abbrev pub available_for : Held → Digest → List offers.Item
-available_for held digest = offers.available (covers digest) (number_for digest) (entries held.owners)
+available_for held digest = offers.available_items (covers digest) (offered_table digest) (number_for digest) (entries held.owners)
 
 -- how many of the owner's items have a smaller version
 abbrev pub rank_of : List Offered → Offered → ℕ
@@ -46,4 +51,4 @@ ranked_these owner t number (e ∷ es) = ranked_from 0 owner t number (length (e
 
 -- what is offered of one owner's table
 abbrev pub ranked_of : List ℕ → Table → ℕ → List Offered
-ranked_of owner t number = ranked_these owner t number (above number t.entries)
+ranked_of owner t number = ranked_these owner t number (newer_entries number t.entries)

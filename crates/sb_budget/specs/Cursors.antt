@@ -1,7 +1,7 @@
 -- The place of a cursor among what is offered of an owner.
 use Rattle.std.specs.Prelude.{◌≡◌, ℕ, ◌+◌, ◌<◌, List, [], ◌∷◌, length, Option, Some, None}
 use Rattle.sb_types.specs.Records.{Entry, Table}
-use Rattle.sb_types.specs.Runs.{above}
+use Rattle.sb_types.specs.Runs.{newer_entries}
 use Rattle.sb_budget.specs.declared.offered.Offered.{Offered}
 use Rattle.sb_budget.specs.Available.{ranked_item, ranked_from, ranked_of}
 use Rattle.sb_budget.specs.Parts.{Part}
@@ -26,7 +26,7 @@ first_place (e ∷ es) = Some (record { rank = 0; entry = e; later = es })
 abbrev pub part_at : List ℕ → Table → ℕ → Option Place → Part
 part_at owner table after None = first_part (ranked_of owner table after)
 part_at owner table after (Some p) =
-    let count = length (above after table.entries) in
+    let count = length (newer_entries after table.entries) in
     record {
       next = ranked_item p.rank owner table after count (Some p.entry);
       later = ranked_from (p.rank + 1) owner table after count p.later;
@@ -36,4 +36,4 @@ part_at owner table after (Some p) =
 -- held above it
 abbrev pub IsPlace : Table → ℕ → Option Place → Type 0
 IsPlace table after None = after < table.held
-IsPlace table after (Some p) = p.rank + length (p.entry ∷ p.later) ≡ length (above after table.entries)
+IsPlace table after (Some p) = p.rank + length (p.entry ∷ p.later) ≡ length (newer_entries after table.entries)

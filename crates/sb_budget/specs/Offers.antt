@@ -3,7 +3,7 @@ use Rattle.std.specs.Prelude.{ℕ, Bool, true, false, ◌&&◌, ◌||◌, not, n
 use Rattle.std.specs.List.{filter_map}
 use Rattle.std.specs.Cmp.Lexicographic.{pointwise}
 use Rattle.sb_types.specs.Records.{Entry, Table, Block, Holder}
-use Rattle.sb_types.specs.Runs.{above, last_version}
+use Rattle.sb_types.specs.Runs.{newer_entries, last_version}
 
 -- one entry of an owner, or only the news of how far it is held, with what its block needs
 pub record Item : Type 0 where
@@ -20,7 +20,7 @@ items_from owner t number (e ∷ es) = map (λ x. record { owner = owner; floor 
 
 -- what there is to offer of a table above the number
 abbrev pub items_of : List ℕ → Table → ℕ → List Item
-items_of owner t number = items_from owner t number (above number t.entries)
+items_of owner t number = items_from owner t number (newer_entries number t.entries)
 
 abbrev pub of_owner : List ℕ → List Item → List Item
 of_owner owner items = filter (λ item. pointwise nat_eq item.owner owner) items
@@ -47,7 +47,7 @@ abbrev pub are_named_once : List (List ℕ × Holder) → Bool
 are_named_once [] = true
 are_named_once (p ∷ ps) = not (is_named p.0 ps) && are_named_once ps
 
--- what is offered of all owners that are covered, each above its number
-abbrev pub available : (List ℕ → Bool) → (List ℕ → Table → ℕ) → List (List ℕ × Holder) → List Item
-available covers number [] = []
-available covers number (p ∷ ps) = (if covers p.0 then items_of p.0 p.1.shown (number p.0 p.1.shown) else []) ++ available covers number ps
+-- what is offered of all owners that are covered: of each its offered table, above its number
+abbrev pub available_items : (List ℕ → Bool) → (List ℕ → Table → Table) → (List ℕ → Table → ℕ) → List (List ℕ × Holder) → List Item
+available_items covers offered number [] = []
+available_items covers offered number (p ∷ ps) = (if covers p.0 then items_of p.0 (offered p.0 p.1.shown) (number p.0 p.1.shown) else []) ++ available_items covers offered number ps

@@ -7,7 +7,7 @@ ghost use Rattle.std.specs.List.Sorted.{IsSearchInRange, IsBinarySearchResult};
 ghost use Rattle.sb_types.specs.Text.{is_name};
 ghost use Rattle.sb_types.specs.Runs.{last_version};
 ghost use Rattle.sb_types.specs.Lengths.{entry_length};
-ghost use Rattle.sb_budget.specs.BlocksByOwner.{item_at, grown, begun, placed, cost_of, lowered, HasParts};
+ghost use Rattle.sb_budget.specs.BlocksByOwner.{item_at, block_with_entry, block_of_item, blocks_with_item, cost_of, block_to_last_entry, HasParts};
 
 use crate::head::Head;
 use sb_types::{
@@ -40,7 +40,7 @@ impl Model for BlockBuilder {
 impl BlockBuilder {
     /// Makes the block of an owner's first item. The only fault is `NoMemory`.
     fn new(alloc: Global, head: Head, entry: Option<Entry>) -> Result<BlockBuilder, Fault>
-        ensures begun { IfOk result (λ g. g ≡ begun (item_at head entry)) }
+        ensures begun { IfOk result (λ g. g ≡ block_of_item (item_at head entry)) }
         ensures memory { IfErr result (λ fault. fault ≡ Fault.NoMemory) }
     {
         let mut entries = Vec::new(alloc);
@@ -57,7 +57,7 @@ impl BlockBuilder {
     }
 
     fn push(&mut self, entry: Option<Entry>) -> Result<(), Fault>
-        ensures grown { OnOk result (self.new ≡ grown self.old entry) }
+        ensures grown { OnOk result (self.new ≡ block_with_entry self.old entry) }
         ensures left { OnErr result (self.new ≡ self.old) }
         ensures memory { IfErr result (λ fault. fault ≡ Fault.NoMemory) }
     {
@@ -69,7 +69,7 @@ impl BlockBuilder {
 
     /// Ends the block at its last entry, because other items of its owner are left out.
     pub(crate) fn lower(&mut self)
-        ensures { self.new ≡ lowered self.old }
+        ensures { self.new ≡ block_to_last_entry self.old }
     {
         self.head.upto = last_of(self.head.after, &self.entries);
     }
@@ -136,7 +136,7 @@ pub(crate) fn put(
     entry: Option<Entry>,
 ) -> Result<(), Fault>
     requires { IsSearchInRange place (length gathered.old.items) }
-    ensures placed { OnOk result (gathered.new.items ≡ placed place (item_at head entry) gathered.old.items) }
+    ensures placed { OnOk result (gathered.new.items ≡ blocks_with_item place (item_at head entry) gathered.old.items) }
     ensures left { OnErr result (gathered.new.items ≡ gathered.old.items) }
     ensures memory { IfErr result (λ fault. fault ≡ Fault.NoMemory) }
 {

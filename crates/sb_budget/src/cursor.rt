@@ -1,16 +1,16 @@
 //! What is offered of each owner, one item after another, without a copy.
-ghost use Rattle.std.specs.Prelude.{◌≡◌, ◌∷◌, length, All, IfOk, IfErr};
+ghost use Rattle.std.specs.Prelude.{◌≡◌, ◌∷◌, All, IfOk, IfErr};
 ghost use Rattle.std.specs.Option.{option_copied, option_map};
-ghost use Rattle.sb_types.specs.Runs.{above};
+ghost use Rattle.sb_types.specs.Runs.{newer_entries};
 ghost use Rattle.sb_budget.specs.Available.{ranked_of};
 ghost use Rattle.sb_budget.specs.Cursors.{first_place};
 ghost use Rattle.sb_budget.specs.Making.{head_of};
 ghost use Rattle.sb_budget.specs.Parts.{part_of, all_of, AreParts};
 
 use crate::head::Head;
+use crate::offered_table::{LiveEntries, OfferedTable};
 use sb_digest::Digest;
 use sb_holdings::Holdings;
-use sb_table::{After, Table};
 use sb_types::{Entry, Fault, Name};
 use std::alloc::Global;
 use std::marker::Model;
@@ -21,13 +21,13 @@ struct Place<'a> {
     /// How many of the owner's offered entries come before this one.
     rank: u64,
     entry: &'a Entry,
-    later: After<'a>,
+    later: LiveEntries<'a>,
 }
 
 impl<'a> Place<'a> {
     /// Returns the place at the first entry of a table above a version, if there is one.
-    fn first(table: &'a Table, after: u64) -> Option<Place<'a>>
-        ensures { option_map (λ p. record { rank = p.rank; entry = p.entry.now; later = p.later }) result ≡ first_place (above after table.now.entries) }
+    fn first(table: &OfferedTable<'a>, after: u64) -> Option<Place<'a>>
+        ensures { option_map (λ p. record { rank = p.rank; entry = p.entry.now; later = p.later }) result ≡ first_place (newer_entries after table.now.entries) }
     {
         let mut later = table.after(after);
         let entry = later.next()?;
@@ -44,7 +44,7 @@ impl<'a> Place<'a> {
 #[derive(Drop)]
 pub struct Cursor<'a> {
     owner: &'a Name,
-    table: &'a Table,
+    table: OfferedTable<'a>,
     /// The version above which the peer lacks the owner's writes.
     after: u64,
     /// `None` before the first entry was looked up, and if there is no entry.
@@ -54,31 +54,21 @@ pub struct Cursor<'a> {
 impl<'a> Model for Cursor<'a> {
     ghost use Rattle.std.specs.Prelude.{◌≡◌, ◌<◌, ◌^◌, length};
     ghost use Rattle.std.specs.Option.{option_map};
-    ghost use Rattle.sb_types.specs.Runs.{above};
+    ghost use Rattle.sb_types.specs.Runs.{newer_entries};
     ghost use Rattle.sb_budget.specs.Parts.{Part};
     ghost use Rattle.sb_budget.specs.Cursors.{part_at, IsPlace};
 
     ghost Value = { Part };
 
-    ghost view = { λ c. part_at c.owner.now c.table.now c.after (option_map (λ p. record { rank = p.rank; entry = p.entry.now; later = p.later }) c.place) };
+    ghost view = { λ c. part_at c.owner.now c.table c.after (option_map (λ p. record { rank = p.rank; entry = p.entry.now; later = p.later }) c.place) };
 
-    ghost invariant = { λ c. IsPlace c.table.now c.after (option_map (λ p. record { rank = p.rank; entry = p.entry.now; later = p.later }) c.place) × (length (above c.after c.table.now.entries) < 2 ^ 63) };
-}
-
-/// Returns how many entries a table has above a version. It takes one step for each, except above version 0.
-fn count_above(table: &Table, after: u64) -> u64
-    ensures { result ≡ length (above after table.now.entries) }
-{
-    match after {
-        0 => table.len() as u64,
-        after => table.after(after).count() as u64,
-    }
+    ghost invariant = { λ c. IsPlace c.table c.after (option_map (λ p. record { rank = p.rank; entry = p.entry.now; later = p.later }) c.place) × (length (newer_entries c.after c.table.entries) < 2 ^ 63) };
 }
 
 impl<'a> Cursor<'a> {
     /// Makes the cursor of what is offered of a table above a version, if the table is held above that.
-    pub(crate) fn new(owner: &'a Name, table: &'a Table, after: u64) -> Option<Cursor<'a>>
-        ensures part { result ≡ part_of (ranked_of owner.now table.now after) }
+    pub(crate) fn new(owner: &'a Name, table: OfferedTable<'a>, after: u64) -> Option<Cursor<'a>>
+        ensures part { result ≡ part_of (ranked_of owner.now table.entry after) }
     {
         if table.upto() <= after {
             return None;
@@ -112,11 +102,11 @@ impl<'a> Cursor<'a> {
     }
 
     /// Returns how many items the owner has, those included that the cursor has passed. It takes one step for each,
-    /// unless the peer holds nothing of the owner.
+    /// unless the whole table is offered under its own floor.
     pub fn count(&self) -> u64
         ensures count { result ≡ self.now.next.count }
     {
-        count_above(self.table, self.after).max(1)
+        self.table.count_after(self.after).max(1)
     }
 
     /// Returns the next item's entry, if it has one, and the cursor of the items after it, if there are any.
@@ -132,7 +122,7 @@ impl<'a> Cursor<'a> {
         } = self;
         let place = match place {
             Some(place) => Some(place),
-            None => Place::first(table, after),
+            None => Place::first(&table, after),
         };
         let Some(
             Place {
@@ -176,9 +166,9 @@ pub fn cursors<'a>(
     let mut place = 0;
     for (owner, table) in holdings.tables_from(None) {
         if digest.covers(owner) {
-            let (number, next) = digest.number_from(owner, table.floor(), place);
+            let (offered, number, next) = OfferedTable::for_peer(digest, owner, table, place);
             place = next;
-            if let Some(cursor) = Cursor::new(owner, table, number) {
+            if let Some(cursor) = Cursor::new(owner, offered, number) {
                 cursors.push(cursor)?;
             }
         }

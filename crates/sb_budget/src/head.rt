@@ -6,7 +6,8 @@ use sb_types::Name;
 pub struct Head {
     /// Whose writes they are.
     pub owner: Name,
-    /// The purge floor of the sender's table: tombstones (markers of removed keys) up to it may be gone.
+    /// The purge floor under which the sender offers its table: tombstones (markers of removed keys) up to it are left
+    /// out.
     pub floor: u64,
     /// The version above which the peer lacks the owner's writes.
     pub after: u64,

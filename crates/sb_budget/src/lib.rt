@@ -41,6 +41,7 @@ mod delta_builder;
 mod head;
 mod laws;
 mod offered;
+mod offered_table;
 mod order;
 mod since;
 mod turns;
@@ -51,7 +52,10 @@ pub use cursor::{Cursor, cursors};
 pub use cutting::cut;
 pub use delta_builder::DeltaBuilder;
 pub use head::Head;
-pub use laws::{available_by_number, available_by_owner, cuts_are_honest, offers_are_honest};
+pub use laws::{
+    available_by_number, available_by_owner, cuts_are_honest, offered_tables_hold,
+    offers_are_honest,
+};
 pub use offered::Offered;
 pub use order::{DeltaOrder, orders_keep_owners};
 pub use since::cursors_since;

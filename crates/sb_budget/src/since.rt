@@ -6,6 +6,7 @@ ghost use Rattle.sb_budget.specs.Backlogs.{digest_since, part_since};
 
 use crate::backlog::Backlog;
 use crate::cursor::Cursor;
+use crate::offered_table::OfferedTable;
 use sb_holdings::Holdings;
 use sb_types::{Fault, Name};
 use std::alloc::Global;
@@ -18,7 +19,7 @@ fn cursor_since<'a>(holdings: &'a Holdings, owner: &'a Name, version: u64) -> Op
     if table.floor() > version {
         return None;
     }
-    Cursor::new(owner, table, version)
+    Cursor::new(owner, OfferedTable::whole(table), version)
 }
 
 /// Returns a cursor of what the peer lacks, for each owner in its backlog, if that is anything. The owners' names ascend.

@@ -6,20 +6,21 @@ use Rattle.std.specs.Int.{w64}
 use Rattle.std.proofs.lemmas.Bool.{and_parts, and_from, lt-ltb, ltb-true, leb-true}
 use Rattle.sb_types.specs.declared.entry.Write.{Write}
 use Rattle.sb_types.specs.declared.limits.TheConstants.{PAYLOAD_MOST}
-use Rattle.sb_types.specs.Text.{is_name, is_key, is_prefix}
+use Rattle.sb_types.specs.Text.{is_name, is_key, is_prefix, is_short_text}
 use Rattle.sb_types.specs.Value.{is_value}
 use Rattle.sb_types.specs.Limits.{is_slot}
 use Rattle.sb_digest.specs.Digests.{Pair, Digest, covers}
 use Rattle.sb_digest.specs.Lengths.{pair_length, digest_length}
 use Rattle.sb_digest.specs.Limits.{is_bound, is_pair, is_range, are_pairs_above, are_digest_parts, is_digest}
 use Rattle.sb_codec.specs.declared.message.ask.Ask.{Ask}
-use Rattle.sb_codec.specs.Records.{Row, Rows}
-use Rattle.sb_codec.specs.Lengths.{row_length, rows_length}
+use Rattle.sb_codec.specs.Records.{Row, Rows, Figure, Peer, NodeStatus}
+use Rattle.sb_codec.specs.Lengths.{row_length, rows_length, figure_length, peer_length, status_length}
+use Rattle.sb_codec.specs.declared.message.node_identity.NodeIdentity.{NodeIdentity}
 use Rattle.sb_codec.specs.declared.message.hello.Hello.{Hello}
-use Rattle.sb_codec.specs.Limits.{is_hello, is_reason, is_optional, is_place, is_ask, is_row, are_rows_above, are_page_rows, is_page, is_write, is_version, is_fault_number}
+use Rattle.sb_codec.specs.Limits.{is_hello, is_reason, is_optional, is_place, is_ask, is_row, are_rows_above, are_page_rows, is_page, is_write, is_version, is_fault_number, is_count, is_identity, is_figure, is_peer, are_figures_above, are_status_parts, is_status}
 use Rattle.sb_codec.specs.Fields.{number_field}
-use Rattle.sb_codec.specs.Spelling.{number, text, optional, hello, pair, digest, place, ask, row, page, write}
-use Rattle.sb_codec.specs.Reading.{hello_of_parts, hello_field, bye_field, write_of_parts, write_field, done_field, refused_field, unless_empty, is_empty_or, optional_field, pair_of_parts, pair_field, digest_of_parts, digest_field, prefix_field, are_alike, place_of, place_field, ask_of, ask_field, is_written, row_of_parts, row_field, are_page_parts, page_of, page_field}
+use Rattle.sb_codec.specs.Spelling.{number, text, optional_text, hello, pair, digest, place, ask, row, page, write, identity, figure, peer, status}
+use Rattle.sb_codec.specs.Reading.{hello_of_parts, hello_field, bye_field, write_of_parts, write_field, done_field, refused_field, unless_empty, is_empty_or, optional_field, pair_of_parts, pair_field, digest_of_parts, digest_field, prefix_field, are_alike, place_of, place_field, ask_of, ask_field, is_written, row_of_parts, row_field, are_page_parts, page_of, page_field, ask_status_field, short_text_field, identity_of_parts, identity_field, figure_of_parts, figure_field, peer_of_parts, peer_field, status_of_parts, status_field}
 use Rattle.sb_codec.proofs.Taken.{Takes, wide64, fits_takes, made_takes, then_takes, where_takes, byte_takes, number_takes, text_takes, list_takes}
 use Rattle.sb_codec.proofs.Again.{Again, made_again, then_again, where_again, byte_again, number_again, text_again, list_again}
 use Rattle.sb_codec.proofs.Parts.{name_takes, name_again, key_takes, key_again, flag_takes, flag_again, value_takes, value_reads, slot_takes, slot_again, between_parts, all_from, all_parts, count_below}
@@ -73,15 +74,15 @@ refused_again fault fits = where_again is_fault_number fits (byte_again fault)
 
 -- ---- what may be none
 
-optional_fits : (test : List ℕ → Bool) (t : List ℕ) → is_empty_or test t ≡ true → (is_optional test (unless_empty t) ≡ true) × (optional (unless_empty t) ≡ text t)
+optional_fits : (test : List ℕ → Bool) (t : List ℕ) → is_empty_or test t ≡ true → (is_optional test (unless_empty t) ≡ true) × (optional_text (unless_empty t) ≡ text t)
 optional_fits test [] fits = (refl, refl)
 optional_fits test (byte ∷ bytes) fits = (fits, refl)
 
-pub optional_takes : (test : List ℕ → Bool) → Takes (λ t. is_optional test t ≡ true) optional (optional_field test)
+pub optional_takes : (test : List ℕ → Bool) → Takes (λ t. is_optional test t ≡ true) optional_text (optional_field test)
 unfolding optional_field
 optional_takes test = made_takes unless_empty (where_takes text_takes) (λ t fits. optional_fits test t fits.1)
 
-pub optional_again : (test : List ℕ → Bool) → test [] ≡ false → (t : Option (List ℕ)) → is_optional test t ≡ true → Again (optional_field test) (optional t) t
+pub optional_again : (test : List ℕ → Bool) → test [] ≡ false → (t : Option (List ℕ)) → is_optional test t ≡ true → Again (optional_field test) (optional_text t) t
 unfolding optional_field
 optional_again test some None fits = made_again unless_empty (where_again (is_empty_or test) refl (text_again []))
 optional_again test some (Some []) fits = absurd cc
@@ -111,7 +112,7 @@ bound_from : (b : Option (List ℕ)) → is_optional is_name b ≡ true → is_b
 bound_from None fits = refl
 bound_from (Some t) fits = fits
 
-bound_again : (b : Option (List ℕ)) → is_bound b ≡ true → Again (optional_field is_name) (optional b) b
+bound_again : (b : Option (List ℕ)) → is_bound b ≡ true → Again (optional_field is_name) (optional_text b) b
 bound_again None fits = optional_again is_name refl None refl
 bound_again (Some t) fits = optional_again is_name refl (Some t) fits
 
@@ -153,7 +154,7 @@ unfolding prefix_field
 prefix_again t fits = where_again is_prefix fits (text_again t)
 
 place_fits : (owner key : Option (List ℕ)) → is_optional is_name owner ≡ true → is_optional is_key key ≡ true → are_alike (owner, key) ≡ true
-    → (is_optional is_place (place_of (owner, key)) ≡ true) × (place (place_of (owner, key)) ≡ optional owner ++ optional key)
+    → (is_optional is_place (place_of (owner, key)) ≡ true) × (place (place_of (owner, key)) ≡ optional_text owner ++ optional_text key)
 place_fits None None name key alike = (refl, refl)
 place_fits None (Some k) name key alike = absurd cc
 place_fits (Some o) None name key alike = absurd cc
@@ -218,3 +219,89 @@ page_again p fits =
     let made = and_parts (list_all is_row p.rows) (are_page_rows p.rows) fits in
     let rows = list_again row_again p.rows (few_rows p fits) (all_parts is_row p.rows made.0) in
     made_again page_of (where_again are_page_parts made.1 (then_again (flag_again p.more) rows))
+
+-- ---- the status of a node
+
+count_again : (n : ℕ) → is_count n ≡ true → Again (number_field w64) (number w64 n) n
+count_again n fits = number_again wide64 n (ltb-true n (2 ^ 64) fits)
+
+pub ask_status_takes : Takes (λ after. is_count after ≡ true) (number w64) ask_status_field
+unfolding ask_status_field
+ask_status_takes = fits_takes (number_takes wide64) (λ after lt. lt-ltb after (2 ^ 64) lt)
+
+pub ask_status_again : (after : ℕ) → is_count after ≡ true → Again ask_status_field (number w64 after) after
+unfolding ask_status_field
+ask_status_again after fits = count_again after fits
+
+short_takes : Takes (λ t. is_short_text t ≡ true) text short_text_field
+unfolding short_text_field
+short_takes = fits_takes (where_takes text_takes) (λ t fits. fits.1)
+
+short_again : (t : List ℕ) → is_short_text t ≡ true → Again short_text_field (text t) t
+unfolding short_text_field
+short_again t fits = where_again is_short_text fits (text_again t)
+
+identity_takes : Takes (λ i. is_identity i ≡ true) identity identity_field
+unfolding identity_field identity
+identity_takes = made_takes identity_of_parts (then_takes name_takes (then_takes name_takes short_takes)) (λ i fits. (and_from _ _ (and_from _ _ fits.0 fits.1.0) fits.1.1, refl))
+
+identity_again : (i : NodeIdentity) → is_identity i ≡ true → Again identity_field (identity i) i
+unfolding identity_field identity
+identity_again i fits =
+    let release = and_parts (is_name i.node && is_name i.cluster) (is_short_text i.release) fits in
+    let names = and_parts (is_name i.node) (is_name i.cluster) release.0 in
+    made_again identity_of_parts (then_again (name_again i.node names.0) (then_again (name_again i.cluster names.1) (short_again i.release release.1)))
+
+figure_takes : Takes (λ f. is_figure f ≡ true) figure figure_field
+unfolding figure_field figure
+figure_takes = made_takes figure_of_parts (then_takes byte_takes (number_takes wide64)) (λ f fits. (and_from _ _ (lt-ltb f.0 256 fits.0) (lt-ltb f.1 (2 ^ 64) fits.1), refl))
+
+figure_again : (f : Figure) → is_figure f ≡ true → Again figure_field (figure f) f
+unfolding figure_field figure
+figure_again f fits =
+    let parts = and_parts (nat_lt f.number 256) (is_count f.value) fits in
+    made_again figure_of_parts (then_again (byte_again f.number) (count_again f.value parts.1))
+
+peer_takes : Takes (λ p. is_peer p ≡ true) peer peer_field
+unfolding peer_field peer
+peer_takes =
+    made_takes peer_of_parts (then_takes short_takes (then_takes byte_takes (number_takes wide64)))
+    (λ p fits. (and_from _ _ (and_from _ _ fits.0 (lt-ltb p.1.0 256 fits.1.0)) (lt-ltb p.1.1 (2 ^ 64) fits.1.1), refl))
+
+peer_again : (p : Peer) → is_peer p ≡ true → Again peer_field (peer p) p
+unfolding peer_field peer
+peer_again p fits =
+    let round = and_parts (is_short_text p.path && nat_lt p.state 256) (is_count p.round) fits in
+    let path = and_parts (is_short_text p.path) (nat_lt p.state 256) round.0 in
+    made_again peer_of_parts (then_again (short_again p.path path.0) (then_again (byte_again p.state) (count_again p.round round.1)))
+
+pub status_takes : Takes (λ s. is_status s ≡ true) status status_field
+unfolding status_field status
+status_takes =
+    fits_takes
+    (where_takes
+    (made_takes {Q = λ s. (is_identity s.identity && list_all is_figure s.figures && list_all is_peer s.peers) ≡ true} status_of_parts
+    (then_takes flag_takes (then_takes identity_takes (then_takes (list_takes figure_takes) (list_takes peer_takes))))
+    (λ s fits. (and_from _ _ (and_from _ _ fits.1.0 (all_from is_figure s.1.1.0 fits.1.1.0.1)) (all_from is_peer s.1.1.1 fits.1.1.1.1), refl))))
+    (λ s fits. and_from _ _ fits.0 fits.1)
+
+pub status_within : (s : NodeStatus) → is_status s ≡ true → status_length s ≤ PAYLOAD_MOST
+status_within s fits =
+    let made = and_parts (is_identity s.identity && list_all is_figure s.figures && list_all is_peer s.peers) (are_status_parts s) fits in
+    leb-true (status_length s) PAYLOAD_MOST (and_parts (are_figures_above 0 s.figures) (nat_le (status_length s) PAYLOAD_MOST) made.1).1
+
+pub few_figures : (s : NodeStatus) → is_status s ≡ true → length s.figures < 2 ^ 16
+few_figures s fits = let within = status_within s fits in omega (arith, count_below figure_length (λ f. omega arith) s.figures)
+
+pub few_peers : (s : NodeStatus) → is_status s ≡ true → length s.peers < 2 ^ 16
+few_peers s fits = let within = status_within s fits in omega (arith, count_below peer_length (λ p. omega arith) s.peers)
+
+pub status_again : (s : NodeStatus) → is_status s ≡ true → Again status_field (status s) s
+unfolding status_field status
+status_again s fits =
+    let made = and_parts (is_identity s.identity && list_all is_figure s.figures && list_all is_peer s.peers) (are_status_parts s) fits in
+    let all = and_parts (is_identity s.identity && list_all is_figure s.figures) (list_all is_peer s.peers) made.0 in
+    let parts = and_parts (is_identity s.identity) (list_all is_figure s.figures) all.0 in
+    let figures = list_again figure_again s.figures (few_figures s fits) (all_parts is_figure s.figures parts.1) in
+    let peers = list_again peer_again s.peers (few_peers s fits) (all_parts is_peer s.peers all.1) in
+    where_again are_status_parts made.1 (made_again status_of_parts (then_again (flag_again s.more) (then_again (identity_again s.identity parts.0) (then_again figures peers))))

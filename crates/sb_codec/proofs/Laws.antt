@@ -9,14 +9,14 @@ use Rattle.sb_types.specs.declared.fault.Fault.{Fault}
 use Rattle.sb_types.specs.declared.fault.Fault.TheVariants.{UnknownKind, Malformed}
 use Rattle.sb_types.specs.Faults.{Gives}
 use Rattle.sb_codec.specs.declared.message.Message.{Message}
-use Rattle.sb_codec.specs.declared.message.Message.TheVariants.{Hello, Digest, Delta, Bye, Ask, Rows, Put, Done, Refused}
-use Rattle.sb_types.specs.declared.format.TheConstants.{KIND_HELLO, KIND_DIGEST, KIND_DELTA, KIND_BYE, KIND_ASK, KIND_ROWS, KIND_PUT, KIND_DONE, KIND_REFUSED}
-use Rattle.sb_codec.specs.Fields.{AreBytes, byte_field, case_field, whole}
+use Rattle.sb_codec.specs.declared.message.Message.TheVariants.{Hello, Digest, Delta, Bye, Ask, Rows, Put, Done, Refused, AskStatus, NodeStatus}
+use Rattle.sb_types.specs.declared.format.TheConstants.{KIND_HELLO, KIND_DIGEST, KIND_DELTA, KIND_BYE, KIND_ASK, KIND_ROWS, KIND_PUT, KIND_DONE, KIND_REFUSED, KIND_ASK_STATUS, KIND_NODE_STATUS}
+use Rattle.sb_codec.specs.Fields.{AreBytes, byte_field, case_field, whole_value}
 use Rattle.sb_codec.specs.Messages.{spelling, is_message, Spells, IsSole, is_kind, fault_of, message_cases, message_field, reading}
 use Rattle.sb_codec.proofs.Taken.{Takes, tagged_takes, made_case}
 use Rattle.sb_codec.proofs.Again.{Again, made_again, tagged_again}
 use Rattle.sb_codec.proofs.Parts.{delta_takes, delta_again}
-use Rattle.sb_codec.proofs.Bodies.{hello_takes, hello_again, digest_takes, digest_again, bye_takes, bye_again, ask_takes, ask_again, page_takes, page_again, write_takes, write_again, done_takes, done_again, refused_takes, refused_again}
+use Rattle.sb_codec.proofs.Bodies.{hello_takes, hello_again, digest_takes, digest_again, bye_takes, bye_again, ask_takes, ask_again, page_takes, page_again, write_takes, write_again, done_takes, done_again, refused_takes, refused_again, ask_status_takes, ask_status_again, status_takes, status_again}
 use Rattle.sb_codec.proofs.Sizes.{spelling-most}
 
 pub message_takes : Takes (λ m. is_message m ≡ true) spelling message_field
@@ -40,7 +40,10 @@ message_takes =
                     made_case KIND_DONE Done done_takes (λ version fits. (fits, refl)),
                     (
                       made_case KIND_REFUSED Refused refused_takes (λ fault fits. (fits, refl)),
-                      tt,
+                      (
+                        made_case KIND_ASK_STATUS AskStatus ask_status_takes (λ after fits. (fits, refl)),
+                        (made_case KIND_NODE_STATUS NodeStatus status_takes (λ told fits. (fits, refl)), tt),
+                      ),
                     ),
                   ),
                 ),
@@ -62,6 +65,8 @@ message_again (Rows p) fits = tagged_again message_cases KIND_ROWS (made_again R
 message_again (Put w) fits = tagged_again message_cases KIND_PUT (made_again Put (write_again w fits))
 message_again (Done version) fits = tagged_again message_cases KIND_DONE (made_again Done (done_again version fits))
 message_again (Refused fault) fits = tagged_again message_cases KIND_REFUSED (made_again Refused (refused_again fault fits))
+message_again (AskStatus after) fits = tagged_again message_cases KIND_ASK_STATUS (made_again AskStatus (ask_status_again after fits))
+message_again (NodeStatus told) fits = tagged_again message_cases KIND_NODE_STATUS (made_again NodeStatus (status_again told fits))
 
 nothing_behind : {A : Type 0} (read : Option (A × List ℕ)) (x : A) → option_and_then (λ y. if length y.1 == 0 then Some y.0 else None) read ≡ Some x → read ≡ Some (x, [])
 nothing_behind None x e = absurd cc
@@ -77,7 +82,7 @@ is_spelled payload m fits bytes = record { limits = fits; most = rw bytes (spell
 pub is_found : (payload : List ℕ) (m : Message) → AreBytes payload → reading payload ≡ Ok m → Spells payload m
 unfolding reading
 is_found payload m are e =
-    let read = nothing_behind (message_field payload) m (ok_some (whole message_field payload) (fault_of payload) m e) in
+    let read = nothing_behind (message_field payload) m (ok_some (whole_value message_field payload) (fault_of payload) m e) in
     let found = message_takes.parts payload m [] are read in
     let bytes : payload ≡ spelling m = found.1 ∙ append-nil (spelling m) in
     is_spelled payload m found.0 bytes
@@ -115,6 +120,8 @@ some_bytes payload (Rows rows) spells = rw spells.bytes (omega arith)
 some_bytes payload (Put wanted) spells = rw spells.bytes (omega arith)
 some_bytes payload (Done version) spells = rw spells.bytes (omega arith)
 some_bytes payload (Refused fault) spells = rw spells.bytes (omega arith)
+some_bytes payload (AskStatus after) spells = rw spells.bytes (omega arith)
+some_bytes payload (NodeStatus told) spells = rw spells.bytes (omega arith)
 
 -- ---- a kind that is not known
 
@@ -132,7 +139,7 @@ differs known first is other = is_never (first == known) (λ same. sym is ∙ ap
 no_case : (first : ℕ) (body : List ℕ) → is_kind first ≡ false → case_field message_cases first body ≡ None
 no_case first body other =
     rw
-    (differs KIND_HELLO first refl other, differs KIND_DIGEST first refl other, differs KIND_DELTA first refl other, differs KIND_BYE first refl other, differs KIND_ASK first refl other, differs KIND_ROWS first refl other, differs KIND_PUT first refl other, differs KIND_DONE first refl other, differs KIND_REFUSED first refl other)
+    (differs KIND_HELLO first refl other, differs KIND_DIGEST first refl other, differs KIND_DELTA first refl other, differs KIND_BYE first refl other, differs KIND_ASK first refl other, differs KIND_ROWS first refl other, differs KIND_PUT first refl other, differs KIND_DONE first refl other, differs KIND_REFUSED first refl other, differs KIND_ASK_STATUS first refl other, differs KIND_NODE_STATUS first refl other)
     refl
 
 pub is_unknown : (payload : List ℕ) (kind : ℕ) → fault_of payload ≡ UnknownKind kind → reading payload ≡ Err (UnknownKind kind)

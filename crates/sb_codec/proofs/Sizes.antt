@@ -19,16 +19,17 @@ use Rattle.sb_digest.specs.Digests as digests
 use Rattle.sb_digest.specs.Lengths.{bound_length, pair_length, digest_length}
 use Rattle.sb_codec.specs.declared.message.hello.Hello as messages
 use Rattle.sb_codec.specs.declared.message.ask.Ask as asks
+use Rattle.sb_codec.specs.declared.message.node_identity.NodeIdentity.{NodeIdentity}
 use Rattle.sb_codec.specs.Records as records
-use Rattle.sb_codec.specs.Lengths.{row_length, rows_length}
+use Rattle.sb_codec.specs.Lengths.{row_length, rows_length, identity_length, figure_length, peer_length, status_length}
 use Rattle.sb_codec.specs.Limits.{is_optional, is_place}
 use Rattle.sb_types.specs.Limits.{is_slot}
 use Rattle.sb_codec.specs.declared.message.Message.{Message}
-use Rattle.sb_codec.specs.declared.message.Message.TheVariants.{Hello, Digest, Delta, Bye, Ask, Rows, Put, Done, Refused}
-use Rattle.sb_codec.specs.Spelling.{number, text, list, content, value, slot, entry, block, optional, hello, pair, digest, place, ask, row, page, write}
+use Rattle.sb_codec.specs.declared.message.Message.TheVariants.{Hello, Digest, Delta, Bye, Ask, Rows, Put, Done, Refused, AskStatus, NodeStatus}
+use Rattle.sb_codec.specs.Spelling.{number, text, list, content, value, slot, entry, block, optional_text, hello, pair, digest, place, ask, row, page, write, identity, figure, peer, status}
 use Rattle.sb_codec.specs.Messages.{spelling, is_message}
 use Rattle.sb_codec.proofs.Parts.{between_parts, delta_parts}
-use Rattle.sb_codec.proofs.Bodies.{digest_within, page_within}
+use Rattle.sb_codec.proofs.Bodies.{digest_within, page_within, status_within}
 
 length-number16 : (n : ℕ) → length (number w16 n) ≡ 2
 unfolding number
@@ -79,7 +80,7 @@ block-length b =
       length-list entry entry_length entry-length b.entries,
     )
 
-optional-length : (t : Option (List ℕ)) → length (optional t) ≡ bound_length t
+optional-length : (t : Option (List ℕ)) → length (optional_text t) ≡ bound_length t
 optional-length None = refl
 optional-length (Some t) = omega arith
 
@@ -100,7 +101,7 @@ digest-length : (d : digests.Digest) → 1 + length (digest d) ≡ digest_length
 unfolding digest
 digest-length d =
     omega
-    (arith, length-append (optional d.from) (optional d.until ++ list pair d.pairs), length-append (optional d.until) (list pair d.pairs), optional-length d.from, optional-length d.until, length-list pair pair_length pair-length d.pairs)
+    (arith, length-append (optional_text d.from) (optional_text d.until ++ list pair d.pairs), length-append (optional_text d.until) (list pair d.pairs), optional-length d.from, optional-length d.until, length-list pair pair_length pair-length d.pairs)
 
 row-length : (r : records.Row) → length (row r) ≡ row_length r
 unfolding row
@@ -111,6 +112,30 @@ row-length r =
 page-length : (p : records.Rows) → 1 + length (page p) ≡ rows_length p.rows
 unfolding page
 page-length p = omega (arith, length-list row row_length row-length p.rows)
+
+identity-length : (i : NodeIdentity) → length (identity i) ≡ identity_length i
+unfolding identity
+identity-length i = omega (arith, length-append (text i.node) (text i.cluster ++ text i.release), length-append (text i.cluster) (text i.release))
+
+figure-length : (f : records.Figure) → length (figure f) ≡ figure_length f
+unfolding figure
+figure-length f = omega (arith, length-number64 f.value)
+
+peer-length : (p : records.Peer) → length (peer p) ≡ peer_length p
+unfolding peer
+peer-length p = omega (arith, length-append (text p.path) (p.state ∷ number w64 p.round), length-number64 p.round)
+
+status-length : (s : records.NodeStatus) → 1 + length (status s) ≡ status_length s
+unfolding status
+status-length s =
+    omega (
+      arith,
+      length-append (identity s.identity) (list figure s.figures ++ list peer s.peers),
+      length-append (list figure s.figures) (list peer s.peers),
+      identity-length s.identity,
+      length-list figure figure_length figure-length s.figures,
+      length-list peer peer_length peer-length s.peers,
+    )
 
 -- ---- the length of each kind
 
@@ -126,9 +151,9 @@ pub delta-spelled : (blocks : List Block) → length (spelling (Delta blocks)) �
 unfolding spelling
 delta-spelled blocks = omega (arith, length-list block block_length block-length blocks)
 
-pub ask-spelled : (a : asks.Ask) → length (spelling (Ask a)) ≡ 2 + length (optional a.owner) + length a.prefix + length (place a.after)
+pub ask-spelled : (a : asks.Ask) → length (spelling (Ask a)) ≡ 2 + length (optional_text a.owner) + length a.prefix + length (place a.after)
 unfolding spelling ask
-ask-spelled a = omega (arith, length-append (optional a.owner) (text a.prefix ++ place a.after), length-append (text a.prefix) (place a.after))
+ask-spelled a = omega (arith, length-append (optional_text a.owner) (text a.prefix ++ place a.after), length-append (text a.prefix) (place a.after))
 
 pub page-spelled : (p : records.Rows) → length (spelling (Rows p)) ≡ rows_length p.rows
 unfolding spelling
@@ -137,6 +162,10 @@ page-spelled p = omega (arith, page-length p)
 pub put-spelled : (w : Write) → length (spelling (Put w)) ≡ 3 + length w.key + slot_length w.slot
 unfolding spelling write
 put-spelled w = omega (arith, length-append (text w.key) (slot w.slot), slot-length w.slot)
+
+pub status-spelled : (s : records.NodeStatus) → length (spelling (NodeStatus s)) ≡ status_length s
+unfolding spelling
+status-spelled s = omega (arith, status-length s)
 
 -- ---- the longest of each
 
@@ -153,7 +182,7 @@ slot-most (Set v) fits = omega (arith, length_most v fits)
 prefix-most : (t : List ℕ) → is_prefix t ≡ true → length t ≤ 64
 prefix-most t fits = leb-true (length t) KEY_MOST (and_parts (nat_le (length t) KEY_MOST) (list_all is_key_byte t) fits).0
 
-optional-most : (t : Option (List ℕ)) → is_optional is_name t ≡ true → length (optional t) ≤ 33
+optional-most : (t : Option (List ℕ)) → is_optional is_name t ≡ true → length (optional_text t) ≤ 33
 optional-most None fits = omega arith
 optional-most (Some t) fits = omega (arith, name-most t fits)
 
@@ -183,3 +212,5 @@ spelling-most (Put w) fits =
     omega (arith, put-spelled w, key-most w.key parts.0, slot-most w.slot parts.1)
 spelling-most (Done version) fits = omega (arith, length-number64 version)
 spelling-most (Refused fault) fits = omega arith
+spelling-most (AskStatus after) fits = omega (arith, length-number64 after)
+spelling-most (NodeStatus s) fits = omega (arith, status-length s, status_within s fits)

@@ -73,5 +73,5 @@ abbrev pub tagged_field : {A : Type 0} → List (ℕ × Field A) → Field A
 tagged_field cases = lead_field byte_field (case_field cases)
 
 -- the value of a field that takes all bytes; else nothing
-abbrev pub whole : {A : Type 0} → Field A → List ℕ → Option A
-whole field bytes = option_and_then (λ x. if length x.1 == 0 then Some x.0 else None) (field bytes)
+abbrev pub whole_value : {A : Type 0} → Field A → List ℕ → Option A
+whole_value field bytes = option_and_then (λ x. if length x.1 == 0 then Some x.0 else None) (field bytes)

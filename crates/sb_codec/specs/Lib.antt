@@ -1,4 +1,5 @@
 pub mod Records
+pub mod Figures
 pub mod Lengths
 pub mod Limits
 pub mod Spelling

@@ -1,19 +1,20 @@
 -- Which parts make a message.
-use Rattle.std.specs.Prelude.{ℕ, ◌-◌, ◌^◌, Bool, true, ◌&&◌, nat_le, List, [], ◌∷◌, Option, Some, None}
+use Rattle.std.specs.Prelude.{ℕ, ◌-◌, ◌^◌, Bool, true, ◌&&◌, nat_le, nat_lt, List, [], ◌∷◌, Option, Some, None}
 use Rattle.std.specs.List.{list_all}
 use Rattle.std.specs.Ordering.{nat_cmp, is_lt, ordering_then}
 use Rattle.std.specs.Cmp.Lexicographic.{slice_cmp}
 use Rattle.sb_types.specs.declared.entry.Write.{Write}
 use Rattle.sb_types.specs.declared.limits.TheConstants.{PAYLOAD_MOST}
-use Rattle.sb_types.specs.Text.{is_between, is_name, is_key, is_prefix}
+use Rattle.sb_types.specs.Text.{is_between, is_name, is_key, is_prefix, is_short_text}
 use Rattle.sb_types.specs.Value.{is_value}
 use Rattle.sb_types.specs.Limits.{is_slot}
 use Rattle.sb_types.specs.declared.limits.TheConstants.{FAULT_NUMBER_MOST}
 use Rattle.sb_types.specs.declared.format.TheConstants.{REASON_MOST}
 use Rattle.sb_codec.specs.declared.message.hello.Hello.{Hello}
 use Rattle.sb_codec.specs.declared.message.ask.Ask.{Ask}
-use Rattle.sb_codec.specs.Records.{Row, Rows}
-use Rattle.sb_codec.specs.Lengths.{rows_length}
+use Rattle.sb_codec.specs.declared.message.node_identity.NodeIdentity.{NodeIdentity}
+use Rattle.sb_codec.specs.Records.{Row, Rows, Figure, Peer, NodeStatus}
+use Rattle.sb_codec.specs.Lengths.{rows_length, status_length}
 
 abbrev pub is_hello : Hello → Bool
 is_hello hello = is_name hello.cluster && is_name hello.node
@@ -56,3 +57,28 @@ are_page_rows rows = are_rows_above [] [] rows && nat_le (rows_length rows) PAYL
 
 abbrev pub is_page : Rows → Bool
 is_page page = list_all is_row page.rows && are_page_rows page.rows
+
+-- any number of eight bytes
+abbrev pub is_count : ℕ → Bool
+is_count count = nat_lt count (2 ^ 64)
+
+abbrev pub is_identity : NodeIdentity → Bool
+is_identity i = is_name i.node && is_name i.cluster && is_short_text i.release
+
+abbrev pub is_figure : Figure → Bool
+is_figure f = nat_lt f.number 256 && is_count f.value
+
+abbrev pub is_peer : Peer → Bool
+is_peer p = is_short_text p.path && nat_lt p.state 256 && is_count p.round
+
+-- each number is above the one before it, and the first is above this one
+abbrev pub are_figures_above : ℕ → List Figure → Bool
+are_figures_above last [] = true
+are_figures_above last (f ∷ fs) = nat_lt last f.number && are_figures_above f.number fs
+
+-- the numbers of the figures ascend from 1 on, and the payload is within its limit
+abbrev pub are_status_parts : NodeStatus → Bool
+are_status_parts s = are_figures_above 0 s.figures && nat_le (status_length s) PAYLOAD_MOST
+
+abbrev pub is_status : NodeStatus → Bool
+is_status s = is_identity s.identity && list_all is_figure s.figures && list_all is_peer s.peers && are_status_parts s

@@ -6,14 +6,14 @@ use Rattle.sb_types.specs.declared.limits.TheConstants.{PAYLOAD_MOST}
 use Rattle.sb_types.specs.Limits.{is_delta}
 use Rattle.sb_digest.specs.Limits.{is_digest}
 use Rattle.sb_codec.specs.declared.message.Message.{Message}
-use Rattle.sb_codec.specs.declared.message.Message.TheVariants.{Hello, Digest, Delta, Bye, Ask, Rows, Put, Done, Refused}
-use Rattle.sb_types.specs.declared.format.TheConstants.{KIND_HELLO, KIND_DIGEST, KIND_DELTA, KIND_BYE, KIND_ASK, KIND_ROWS, KIND_PUT, KIND_DONE, KIND_REFUSED}
-use Rattle.sb_codec.specs.Limits.{is_hello, is_reason, is_ask, is_page, is_write, is_version, is_fault_number}
+use Rattle.sb_codec.specs.declared.message.Message.TheVariants.{Hello, Digest, Delta, Bye, Ask, Rows, Put, Done, Refused, AskStatus, NodeStatus}
+use Rattle.sb_types.specs.declared.format.TheConstants.{KIND_HELLO, KIND_DIGEST, KIND_DELTA, KIND_BYE, KIND_ASK, KIND_ROWS, KIND_PUT, KIND_DONE, KIND_REFUSED, KIND_ASK_STATUS, KIND_NODE_STATUS}
+use Rattle.sb_codec.specs.Limits.{is_hello, is_reason, is_ask, is_page, is_write, is_version, is_fault_number, is_count, is_status}
 use Rattle.std.specs.Int.{w64}
 use Rattle.sb_types.specs.Text.{is_between}
-use Rattle.sb_codec.specs.Spelling.{number, list, block, hello, digest, ask, page, write}
-use Rattle.sb_codec.specs.Fields.{Field, made_field, tagged_field, whole}
-use Rattle.sb_codec.specs.Reading.{delta_field, hello_field, digest_field, bye_field, ask_field, page_field, write_field, done_field, refused_field}
+use Rattle.sb_codec.specs.Spelling.{number, list, block, hello, digest, ask, page, write, status}
+use Rattle.sb_codec.specs.Fields.{Field, made_field, tagged_field, whole_value}
+use Rattle.sb_codec.specs.Reading.{delta_field, hello_field, digest_field, bye_field, ask_field, page_field, write_field, done_field, refused_field, ask_status_field, status_field}
 
 -- the kind, and the body
 unfoldable pub spelling : Message → List ℕ
@@ -26,6 +26,8 @@ spelling (Rows rows) = KIND_ROWS ∷ page rows
 spelling (Put wanted) = KIND_PUT ∷ write wanted
 spelling (Done version) = KIND_DONE ∷ number w64 version
 spelling (Refused fault) = KIND_REFUSED ∷ fault ∷ []
+spelling (AskStatus after) = KIND_ASK_STATUS ∷ number w64 after
+spelling (NodeStatus told) = KIND_NODE_STATUS ∷ status told
 
 abbrev pub is_message : Message → Bool
 is_message (Hello greeting) = is_hello greeting
@@ -37,6 +39,8 @@ is_message (Rows rows) = is_page rows
 is_message (Put wanted) = is_write wanted
 is_message (Done version) = is_version version
 is_message (Refused fault) = is_fault_number fault
+is_message (AskStatus after) = is_count after
+is_message (NodeStatus told) = is_status told
 
 -- the payload is the spelling of the message, and both are within their limits
 pub record Spells (payload : List ℕ) (message : Message) : Type 0 where
@@ -50,11 +54,11 @@ pub record IsSole (payload : List ℕ) (message : Message) : Type 0 where
   pub sole_payload : (other : List ℕ) → Spells other message → other ≡ payload
 
 abbrev pub is_kind : ℕ → Bool
-is_kind kind = is_between KIND_HELLO KIND_BYE kind || is_between KIND_ASK KIND_REFUSED kind
+is_kind kind = is_between KIND_HELLO KIND_BYE kind || is_between KIND_ASK KIND_NODE_STATUS kind
 
 -- a message of such a kind has lists, addresses or texts, which are kept in allocated memory
 abbrev pub is_kept_in_memory : ℕ → Bool
-is_kept_in_memory kind = kind == KIND_DIGEST || kind == KIND_DELTA || kind == KIND_ROWS || kind == KIND_PUT
+is_kept_in_memory kind = kind == KIND_DIGEST || kind == KIND_DELTA || kind == KIND_ROWS || kind == KIND_PUT || kind == KIND_NODE_STATUS
 
 -- the payload begins with such a kind
 abbrev pub TakesMemory : List ℕ → Type 0
@@ -77,6 +81,8 @@ message_cases =
     ∷ (KIND_PUT, made_field Put write_field)
     ∷ (KIND_DONE, made_field Done done_field)
     ∷ (KIND_REFUSED, made_field Refused refused_field)
+    ∷ (KIND_ASK_STATUS, made_field AskStatus ask_status_field)
+    ∷ (KIND_NODE_STATUS, made_field NodeStatus status_field)
     ∷ []
 
 unfoldable pub message_field : Field Message
@@ -84,4 +90,4 @@ message_field = tagged_field message_cases
 
 -- the message that all of the payload spells, or the fault
 unfoldable pub reading : List ℕ → Result Message Fault
-reading payload = ok_or (whole message_field payload) (fault_of payload)
+reading payload = ok_or (whole_value message_field payload) (fault_of payload)

@@ -6,7 +6,7 @@ use Rattle.std.specs.Int.{w64}
 use Rattle.sb_types.specs.declared.entry.Write.{Write}
 use Rattle.sb_types.specs.declared.entry.Slot.{Slot}
 use Rattle.sb_types.specs.declared.entry.Slot.TheVariants.{Set, Removed}
-use Rattle.sb_types.specs.Text.{is_name, is_key, is_prefix}
+use Rattle.sb_types.specs.Text.{is_name, is_key, is_prefix, is_short_text}
 use Rattle.sb_types.specs.Value.{Value}
 use Rattle.sb_types.specs.Kinds.{Content, Word, Text, Number, Truth, form_of, kind_of_tag, value_of}
 use Rattle.sb_types.specs.declared.kind.Kind.{Kind}
@@ -20,8 +20,9 @@ use Rattle.sb_digest.specs.Digests.{Pair, Digest, digest_of}
 use Rattle.sb_digest.specs.Limits.{are_digest_parts}
 use Rattle.sb_codec.specs.declared.message.hello.Hello.{Hello}
 use Rattle.sb_codec.specs.declared.message.ask.Ask.{Ask}
-use Rattle.sb_codec.specs.Records.{Row, Rows, row_of, rows_of}
-use Rattle.sb_codec.specs.Limits.{is_reason, is_version, is_fault_number, are_page_rows}
+use Rattle.sb_codec.specs.declared.message.node_identity.NodeIdentity.{NodeIdentity}
+use Rattle.sb_codec.specs.Records.{Row, Rows, row_of, rows_of, Figure, figure_of, Peer, NodeStatus, status_of}
+use Rattle.sb_codec.specs.Limits.{is_reason, is_version, is_fault_number, are_page_rows, are_status_parts}
 use Rattle.sb_codec.specs.Fields.{Field, none_field, given_field, lead_field, made_field, then_field, where_field, byte_field, number_field, text_field, long_text_field, list_field, tagged_field}
 
 unfoldable pub name_field : Field (List ℕ)
@@ -174,3 +175,33 @@ page_of p = rows_of p.0 p.1
 
 unfoldable pub page_field : Field Rows
 page_field = made_field page_of (where_field are_page_parts (then_field flag_field (list_field row_field)))
+
+unfoldable pub ask_status_field : Field ℕ
+ask_status_field = number_field w64
+
+unfoldable pub short_text_field : Field (List ℕ)
+short_text_field = where_field is_short_text text_field
+
+abbrev pub identity_of_parts : List ℕ × (List ℕ × List ℕ) → NodeIdentity
+identity_of_parts i = record { node = i.0; cluster = i.1.0; release = i.1.1 }
+
+unfoldable pub identity_field : Field NodeIdentity
+identity_field = made_field identity_of_parts (then_field name_field (then_field name_field short_text_field))
+
+abbrev pub figure_of_parts : ℕ × ℕ → Figure
+figure_of_parts f = figure_of f.0 f.1
+
+unfoldable pub figure_field : Field Figure
+figure_field = made_field figure_of_parts (then_field byte_field (number_field w64))
+
+abbrev pub peer_of_parts : List ℕ × (ℕ × ℕ) → Peer
+peer_of_parts p = record { path = p.0; state = p.1.0; round = p.1.1 }
+
+unfoldable pub peer_field : Field Peer
+peer_field = made_field peer_of_parts (then_field short_text_field (then_field byte_field (number_field w64)))
+
+abbrev pub status_of_parts : Bool × (NodeIdentity × (List Figure × List Peer)) → NodeStatus
+status_of_parts s = status_of s.0 s.1.0 s.1.1.0 s.1.1.1
+
+unfoldable pub status_field : Field NodeStatus
+status_field = where_field are_status_parts (made_field status_of_parts (then_field flag_field (then_field identity_field (then_field (list_field figure_field) (list_field peer_field)))))

@@ -12,7 +12,8 @@ use Rattle.sb_types.specs.declared.format.TheConstants.{TAG_REMOVED}
 use Rattle.sb_digest.specs.Digests.{Pair, Digest}
 use Rattle.sb_codec.specs.declared.message.hello.Hello.{Hello}
 use Rattle.sb_codec.specs.declared.message.ask.Ask.{Ask}
-use Rattle.sb_codec.specs.Records.{Row, Rows}
+use Rattle.sb_codec.specs.declared.message.node_identity.NodeIdentity.{NodeIdentity}
+use Rattle.sb_codec.specs.Records.{Row, Rows, Figure, Peer, NodeStatus}
 
 -- a number of the width, high byte first
 unfoldable pub number : Width → ℕ → List ℕ
@@ -62,15 +63,15 @@ unfoldable pub write : Write → List ℕ
 write w = text w.key ++ slot w.slot
 
 -- a text; or the empty text, if there is none
-abbrev pub optional : Option (List ℕ) → List ℕ
-optional None = text []
-optional (Some bytes) = text bytes
+abbrev pub optional_text : Option (List ℕ) → List ℕ
+optional_text None = text []
+optional_text (Some bytes) = text bytes
 
 unfoldable pub pair : Pair → List ℕ
 pair p = text p.owner ++ (number w64 p.held ++ (number w64 p.floor ++ number w64 p.progress))
 
 unfoldable pub digest : Digest → List ℕ
-digest d = flag d.want ++ (optional d.from ++ (optional d.until ++ list pair d.pairs))
+digest d = flag d.want ++ (optional_text d.from ++ (optional_text d.until ++ list pair d.pairs))
 
 -- an owner and a key; or two empty texts, if there are none
 abbrev pub place : Option (List ℕ × List ℕ) → List ℕ
@@ -78,10 +79,22 @@ place None = text [] ++ text []
 place (Some p) = text p.0 ++ text p.1
 
 unfoldable pub ask : Ask → List ℕ
-ask a = optional a.owner ++ (text a.prefix ++ place a.after)
+ask a = optional_text a.owner ++ (text a.prefix ++ place a.after)
 
 unfoldable pub row : Row → List ℕ
 row r = text r.owner ++ (text r.key ++ (number w64 r.version ++ value r.value))
 
 unfoldable pub page : Rows → List ℕ
 page r = flag r.more ++ list row r.rows
+
+unfoldable pub identity : NodeIdentity → List ℕ
+identity i = text i.node ++ (text i.cluster ++ text i.release)
+
+unfoldable pub figure : Figure → List ℕ
+figure f = f.number ∷ number w64 f.value
+
+unfoldable pub peer : Peer → List ℕ
+peer p = text p.path ++ (p.state ∷ number w64 p.round)
+
+unfoldable pub status : NodeStatus → List ℕ
+status s = flag s.more ++ (identity s.identity ++ (list figure s.figures ++ list peer s.peers))

@@ -3,7 +3,7 @@
 ghost use Rattle.std.specs.Prelude.{◌≡◌, ◌↔◌, ℕ, true, IfOk, IfErr, Ok, Err};
 ghost use Rattle.sb_types.specs.Faults.{Gives};
 ghost use Rattle.sb_codec.specs.declared.message.Message.{Message};
-ghost use Rattle.sb_codec.specs.Fields.{whole};
+ghost use Rattle.sb_codec.specs.Fields.{whole_value};
 ghost use Rattle.sb_codec.specs.Messages.{Spells, IsSole, TakesMemory, is_kept_in_memory, is_kind, fault_of, message_field, reading};
 ghost use Rattle.sb_codec.specs.Refusal.{ReadsWhole};
 
@@ -12,8 +12,8 @@ use crate::message::Message;
 use crate::refusal::Refusal;
 use bytes::Bytes;
 use sb_types::{
-    Fault, KIND_ASK, KIND_BYE, KIND_DELTA, KIND_DIGEST, KIND_DONE, KIND_HELLO, KIND_PUT,
-    KIND_REFUSED, KIND_ROWS,
+    Fault, KIND_ASK, KIND_ASK_STATUS, KIND_BYE, KIND_DELTA, KIND_DIGEST, KIND_DONE, KIND_HELLO,
+    KIND_NODE_STATUS, KIND_PUT, KIND_REFUSED, KIND_ROWS,
 };
 use std::alloc::Global;
 
@@ -31,17 +31,22 @@ fn test_kind(kind: u8) -> bool
             | KIND_PUT
             | KIND_DONE
             | KIND_REFUSED
+            | KIND_ASK_STATUS
+            | KIND_NODE_STATUS
     )
 }
 
 fn is_kept(kind: u8) -> bool
     ensures { result ≡ is_kept_in_memory kind }
 {
-    matches!(kind, KIND_DIGEST | KIND_DELTA | KIND_ROWS | KIND_PUT)
+    matches!(
+        kind,
+        KIND_DIGEST | KIND_DELTA | KIND_ROWS | KIND_PUT | KIND_NODE_STATUS
+    )
 }
 
-/// Returns whether the payload begins with a kind whose messages take memory: a digest, a delta, a page of rows or a
-/// put.
+/// Returns whether the payload begins with a kind whose messages take memory. These are a digest, a delta, a page of
+/// rows, a put and the status of a node.
 pub fn takes_memory(payload: &[u8]) -> bool
     ensures { (result ≡ true) ↔ TakesMemory payload.now }
 {
@@ -64,7 +69,7 @@ fn fault(payload: &[u8]) -> Fault
 }
 
 fn read_whole(alloc: Global, payload: &[u8]) -> Result<Message, Refusal>
-    ensures read { ReadsWhole (whole message_field payload.now) result }
+    ensures read { ReadsWhole (whole_value message_field payload.now) result }
     ensures memory { IfErr result (λ refusal. refusal ≡ Refusal.Memory → TakesMemory payload.now) }
 {
     let mut fields = Fields::new(payload);
@@ -96,8 +101,8 @@ fn read(alloc: Global, payload: &[u8]) -> Result<Message, Fault>
 ///
 /// - `UnknownKind(byte)`: the first byte is not a kind. It is 0 for an empty payload. This takes no memory.
 /// - `Malformed(kind)`: the bytes spell no message of this kind.
-/// - `NoMemory`: only a digest, a delta, a page of rows or a put takes memory. This is the only fault of a payload that
-///   spells a message. A malformed payload of these kinds may have it too.
+/// - `NoMemory`: only a digest, a delta, a page of rows, a put or the status of a node takes memory. This is the only
+///   fault of a payload that spells a message. A malformed payload of these kinds may have it too.
 pub fn decode_payload(alloc: Global, payload: &[u8]) -> Result<Message, Fault>
     // What is read is spelled so, and nothing else is.
     ensures found { IfOk result (λ message. Spells payload.now message) }

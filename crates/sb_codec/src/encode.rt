@@ -3,20 +3,20 @@
 ghost use Rattle.std.specs.Prelude.{◌≡◌, ◌∷◌, ◌++◌, true, IfOk, IfErr, OnOk, OnErr};
 ghost use Rattle.sb_types.specs.Text.{is_name};
 ghost use Rattle.sb_codec.specs.Limits.{is_optional};
-ghost use Rattle.sb_codec.specs.Spelling.{flag, list, optional, pair};
+ghost use Rattle.sb_codec.specs.Spelling.{flag, list, optional_text, pair, figure, peer};
 ghost use Rattle.sb_codec.specs.Messages.{Spells, IsSole, spelling, is_message};
 ghost use Rattle.sb_codec.specs.Standing.{StandsFirst};
 
 use crate::lengths::payload_length;
-use crate::message::{Ask, Bye, Done, Hello, Message, Refused, Rows};
+use crate::message::{Ask, AskStatus, Bye, Done, Hello, Message, NodeStatus, Refused, Rows};
 use crate::writing::{
-    write_byte, write_bytes, write_flag, write_list, write_optional_name, write_place, write_slot,
-    write_text, write_u64,
+    write_byte, write_bytes, write_flag, write_identity, write_list, write_optional_name,
+    write_place, write_slot, write_text, write_u64,
 };
 use sb_digest::Digest;
 use sb_types::{
-    Delta, Fault, KIND_ASK, KIND_BYE, KIND_DELTA, KIND_DIGEST, KIND_DONE, KIND_HELLO, KIND_PUT,
-    KIND_REFUSED, KIND_ROWS, Name, Write,
+    Delta, Fault, KIND_ASK, KIND_ASK_STATUS, KIND_BYE, KIND_DELTA, KIND_DIGEST, KIND_DONE,
+    KIND_HELLO, KIND_NODE_STATUS, KIND_PUT, KIND_REFUSED, KIND_ROWS, Name, Write,
 };
 use std::alloc::{AllocError, Global};
 
@@ -44,7 +44,7 @@ fn write_flagged(out: &mut Vec<u8>, kind: u8, set: bool) -> Result<(), AllocErro
 /// Writes the names between which the digest's range is.
 #[tactic(auto, using(crate::proofs::Standings::stands_on))]
 fn write_range(out: &mut Vec<u8>, from: Option<Name>, until: Option<Name>) -> Result<(), AllocError>
-    ensures written { OnOk result (out.new.items ≡ out.old.items ++ (optional from ++ optional until)) }
+    ensures written { OnOk result (out.new.items ≡ out.old.items ++ (optional_text from ++ optional_text until)) }
     ensures stands { StandsFirst out.old.items out.new.items }
     ensures names { OnOk result ((is_optional is_name from ≡ true) × (is_optional is_name until ≡ true)) }
 {
@@ -93,7 +93,7 @@ fn write_bye(out: &mut Vec<u8>, bye: &Bye) -> Result<(), AllocError>
 /// Writes the kind of a message, and the name after it, if there is one.
 #[tactic(auto, using(crate::proofs::Standings::stands_on))]
 fn write_named(out: &mut Vec<u8>, kind: u8, name: Option<Name>) -> Result<(), AllocError>
-    ensures written { OnOk result (out.new.items ≡ out.old.items ++ kind ∷ optional name) }
+    ensures written { OnOk result (out.new.items ≡ out.old.items ++ kind ∷ optional_text name) }
     ensures stands { StandsFirst out.old.items out.new.items }
     ensures name { OnOk result (is_optional is_name name ≡ true) }
 {
@@ -152,6 +152,37 @@ fn write_refused(out: &mut Vec<u8>, refused: &Refused) -> Result<(), AllocError>
     write_bytes(out, &[KIND_REFUSED, refused.number()])
 }
 
+#[tactic(auto, using(crate::proofs::Standings::stands_on), unfolding(crate::specs::Messages::spelling))]
+fn write_ask_status(out: &mut Vec<u8>, asked: &AskStatus) -> Result<(), AllocError>
+    ensures written { OnOk result (out.new.items ≡ out.old.items ++ spelling (Message.AskStatus asked.now)) }
+    ensures stands { StandsFirst out.old.items out.new.items }
+    ensures limits { OnOk result (is_message (Message.AskStatus asked.now) ≡ true) }
+{
+    write_byte(out, KIND_ASK_STATUS)?;
+    write_u64(out, asked.after())
+}
+
+/// Writes the figures and the peers of a node.
+#[tactic(auto, using(crate::proofs::Standings::stands_on))]
+fn write_figures_and_peers(out: &mut Vec<u8>, status: &NodeStatus) -> Result<(), AllocError>
+    ensures written { OnOk result (out.new.items ≡ out.old.items ++ (list figure status.now.figures ++ list peer status.now.peers)) }
+    ensures stands { StandsFirst out.old.items out.new.items }
+{
+    write_list(out, status.figures())?;
+    write_list(out, status.peers())
+}
+
+#[tactic(auto, using(crate::proofs::Standings::stands_on), unfolding(crate::specs::Messages::spelling, crate::specs::Spelling::status))]
+fn write_node_status(out: &mut Vec<u8>, status: &NodeStatus) -> Result<(), AllocError>
+    ensures written { OnOk result (out.new.items ≡ out.old.items ++ spelling (Message.NodeStatus status.now)) }
+    ensures stands { StandsFirst out.old.items out.new.items }
+    ensures limits { OnOk result (is_message (Message.NodeStatus status.now) ≡ true) }
+{
+    write_flagged(out, KIND_NODE_STATUS, status.more())?;
+    write_identity(out, status.identity())?;
+    write_figures_and_peers(out, status)
+}
+
 fn write_message(out: &mut Vec<u8>, message: &Message) -> Result<(), AllocError>
     ensures written { OnOk result (out.new.items ≡ out.old.items ++ spelling message.now) }
     ensures stands { StandsFirst out.old.items out.new.items }
@@ -167,6 +198,8 @@ fn write_message(out: &mut Vec<u8>, message: &Message) -> Result<(), AllocError>
         Message::Put(write) => write_put(out, write),
         Message::Done(done) => write_done(out, done),
         Message::Refused(refused) => write_refused(out, refused),
+        Message::AskStatus(asked) => write_ask_status(out, asked),
+        Message::NodeStatus(status) => write_node_status(out, status),
     }
 }
 

@@ -10,16 +10,20 @@ ghost use Rattle.sb_types.specs.Kinds.{shown};
 ghost use Rattle.sb_codec.specs.Reading.{name_field, key_field, flag_field, content_field, tag_field, slot_field, entry_field, block_field, delta_field};
 ghost use Rattle.sb_codec.specs.Reading.{hello_field, bye_field, write_field, done_field, refused_field, optional_field, pair_field};
 ghost use Rattle.sb_codec.specs.Reading.{digest_field, prefix_field, place_field, ask_field, value_field, row_field, page_field};
+ghost use Rattle.sb_codec.specs.Reading.{ask_status_field, short_text_field, identity_field, figure_field, peer_field, status_field};
 ghost use Rattle.sb_codec.specs.Messages.{message_field, TakesMemory};
 
 use crate::list_item::ListItem;
-use crate::message::{Ask, Bye, Done, Hello, Message, Refused, Row, Rows};
+use crate::message::{
+    Ask, AskStatus, Bye, Done, Figure, Hello, Message, NodeIdentity, NodeStatus, PeerStatus,
+    Refused, Row, Rows,
+};
 use crate::refusal::Refusal;
 use sb_digest::{Digest, Pair};
 use sb_types::{
-    Block, ContentRef, Delta, Entry, Form, KIND_ASK, KIND_BYE, KIND_DELTA, KIND_DIGEST, KIND_DONE,
-    KIND_HELLO, KIND_PUT, KIND_REFUSED, KIND_ROWS, Key, Kind, Name, Prefix, Slot, TAG_REMOVED,
-    Value, Write,
+    Block, ContentRef, Delta, Entry, Form, KIND_ASK, KIND_ASK_STATUS, KIND_BYE, KIND_DELTA,
+    KIND_DIGEST, KIND_DONE, KIND_HELLO, KIND_NODE_STATUS, KIND_PUT, KIND_REFUSED, KIND_ROWS, Key,
+    Kind, Name, Prefix, ShortText, Slot, TAG_REMOVED, Value, Write,
 };
 use std::alloc::Global;
 use std::marker::Model;
@@ -363,6 +367,64 @@ impl<'a> Fields<'a> {
         Ok(Refused::new(self.byte()?)?)
     }
 
+    #[tactic(auto, unfolding(crate::specs::Reading::ask_status_field))]
+    fn ask_status(&mut self) -> Result<AskStatus, Refusal>
+        ensures { ReadsWithoutMemory (λ x. x) (ask_status_field self.old) result self.new }
+    {
+        Ok(AskStatus::new(self.u64()?))
+    }
+
+    #[tactic(auto, unfolding(crate::specs::Reading::short_text_field))]
+    fn short_text(&mut self) -> Result<ShortText, Refusal>
+        ensures { ReadsWithoutMemory (λ x. x) (short_text_field self.old) result self.new }
+    {
+        Ok(ShortText::read(self.text()?)?)
+    }
+
+    #[tactic(auto, unfolding(crate::specs::Reading::identity_field))]
+    fn identity(&mut self) -> Result<NodeIdentity, Refusal>
+        ensures { ReadsWithoutMemory (λ x. x) (identity_field self.old) result self.new }
+    {
+        let node = self.name()?;
+        let cluster = self.name()?;
+        let release = self.short_text()?;
+        Ok(NodeIdentity {
+            node,
+            cluster,
+            release,
+        })
+    }
+
+    #[tactic(auto, unfolding(crate::specs::Reading::figure_field))]
+    pub(crate) fn figure(&mut self) -> Result<Figure, Refusal>
+        ensures { ReadsWithoutMemory (λ x. x) (figure_field self.old) result self.new }
+    {
+        let number = self.byte()?;
+        let value = self.u64()?;
+        Ok(Figure { number, value })
+    }
+
+    #[tactic(auto, unfolding(crate::specs::Reading::peer_field))]
+    pub(crate) fn peer(&mut self) -> Result<PeerStatus, Refusal>
+        ensures { ReadsWithoutMemory (λ x. x) (peer_field self.old) result self.new }
+    {
+        let path = self.short_text()?;
+        let state = self.byte()?;
+        let round = self.u64()?;
+        Ok(PeerStatus { path, state, round })
+    }
+
+    #[tactic(auto, unfolding(crate::specs::Reading::status_field))]
+    fn status(&mut self, alloc: Global) -> Result<NodeStatus, Refusal>
+        ensures { Reads (λ x. x) (status_field self.old) result self.new }
+    {
+        let more = self.flag()?;
+        let identity = self.identity()?;
+        let figures = self.list(alloc)?;
+        let peers = self.list(alloc)?;
+        Ok(NodeStatus::new(more, identity, figures, peers)?)
+    }
+
     #[tactic(auto, unfolding(crate::specs::Messages::message_field, crate::specs::Fields::byte_field))]
     pub(crate) fn message(&mut self, alloc: Global) -> Result<Message, Refusal>
         ensures read { Reads (λ x. x) (message_field self.old) result self.new }
@@ -378,6 +440,8 @@ impl<'a> Fields<'a> {
             KIND_PUT => Ok(Message::Put(self.write(alloc)?)),
             KIND_DONE => Ok(Message::Done(self.done()?)),
             KIND_REFUSED => Ok(Message::Refused(self.refused()?)),
+            KIND_ASK_STATUS => Ok(Message::AskStatus(self.ask_status()?)),
+            KIND_NODE_STATUS => Ok(Message::NodeStatus(self.status(alloc)?)),
             _ => Err(Refusal::Malformed),
         }
     }

@@ -3,7 +3,7 @@
 ghost use Rattle.std.specs.Prelude.{◌≡◌, ◌+◌, ◌*◌, ◌≤◌, length};
 ghost use Rattle.sb_types.specs.declared.format.TheConstants.{HEADER_LENGTH};
 ghost use Rattle.sb_types.specs.declared.limits.TheConstants.{PAYLOAD_MOST, BUDGET_MOST};
-ghost use Rattle.sb_codec.specs.Spelling.{optional, place};
+ghost use Rattle.sb_codec.specs.Spelling.{optional_text, place};
 ghost use Rattle.sb_codec.specs.Messages.{spelling};
 
 use crate::message::{Ask, Hello, Message};
@@ -19,7 +19,7 @@ const ASK_LENGTH_MOST: u64 = BYTE_LENGTH + 2 * NAME_LENGTH_MOST + 2 * KEY_LENGTH
 const PUT_LENGTH_MOST: u64 = BYTE_LENGTH + KEY_LENGTH_MOST + BYTE_LENGTH + VALUE_LENGTH_MOST;
 
 fn optional_name_length(name: Option<Name>) -> u64
-    ensures length { result ≡ length (optional name) }
+    ensures length { result ≡ length (optional_text name) }
     ensures most { result ≤ NAME_LENGTH_MOST }
 {
     match name {
@@ -79,6 +79,8 @@ pub(crate) fn payload_length(message: &Message) -> u64
         Message::Put(write) => put_length(write),
         Message::Done(_) => BYTE_LENGTH + NUMBER_LENGTH,
         Message::Refused(_) => BYTE_LENGTH + BYTE_LENGTH,
+        Message::AskStatus(_) => BYTE_LENGTH + NUMBER_LENGTH,
+        Message::NodeStatus(status) => status.encoded_length(),
     }
 }
 

@@ -45,5 +45,8 @@ mod writing;
 pub use decode::{decode_payload, decode_shared, takes_memory};
 pub use encode::{append_payload, encode_payload};
 pub use lengths::length;
-pub use message::{Ask, Bye, Done, Hello, Message, Refused, Row, Rows};
+pub use message::{
+    Ask, AskStatus, Bye, Done, Figure, FigureKind, Hello, Message, NodeIdentity, NodeStatus,
+    PeerStatus, Refused, Row, Rows,
+};
 pub use payloads::{one_payload_each, payloads_have_these_lengths};

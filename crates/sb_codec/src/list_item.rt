@@ -1,9 +1,9 @@
 //! What counted lists contain.
 
 use crate::fields::Fields;
-use crate::message::Row;
+use crate::message::{Figure, PeerStatus, Row};
 use crate::refusal::Refusal;
-use crate::writing::{write_block, write_entry, write_pair, write_row};
+use crate::writing::{write_block, write_entry, write_figure, write_pair, write_peer, write_row};
 use sb_digest::Pair;
 use sb_types::{Block, Entry};
 use std::alloc::{AllocError, Global};
@@ -152,5 +152,63 @@ impl ListItem for Row {
 
     fn write(&self, out: &mut Vec<u8>) -> Result<(), AllocError> {
         write_row(out, self)
+    }
+}
+
+impl ListItem for Figure {
+    ghost use Rattle.std.specs.Prelude.{◌<◌};
+    ghost use Rattle.std.proofs.Common.{lit<};
+    ghost use Rattle.sb_codec.specs.Spelling.{figure};
+    ghost use Rattle.sb_codec.specs.Reading.{figure_field};
+    ghost use Rattle.sb_codec.specs.Least.{figure_reached};
+
+    ghost spelling = { figure };
+
+    ghost field = { figure_field };
+
+    ghost LEAST = { 9 };
+
+    // The number of the kind, and the value.
+    const LEAST: usize = 9;
+
+    ghost least = { lit< tt };
+
+    ghost reached = { figure_reached };
+
+    fn read(_: Global, fields: &mut Fields<'_>) -> Result<Figure, Refusal> {
+        fields.figure()
+    }
+
+    fn write(&self, out: &mut Vec<u8>) -> Result<(), AllocError> {
+        write_figure(out, self)
+    }
+}
+
+impl ListItem for PeerStatus {
+    ghost use Rattle.std.specs.Prelude.{◌<◌};
+    ghost use Rattle.std.proofs.Common.{lit<};
+    ghost use Rattle.sb_codec.specs.Spelling.{peer};
+    ghost use Rattle.sb_codec.specs.Reading.{peer_field};
+    ghost use Rattle.sb_codec.specs.Least.{peer_reached};
+
+    ghost spelling = { peer };
+
+    ghost field = { peer_field };
+
+    ghost LEAST = { 11 };
+
+    // A path of one byte with its length, the state, and the number of a round.
+    const LEAST: usize = 11;
+
+    ghost least = { lit< tt };
+
+    ghost reached = { peer_reached };
+
+    fn read(_: Global, fields: &mut Fields<'_>) -> Result<PeerStatus, Refusal> {
+        fields.peer()
+    }
+
+    fn write(&self, out: &mut Vec<u8>) -> Result<(), AllocError> {
+        write_peer(out, self)
     }
 }

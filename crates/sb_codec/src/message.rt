@@ -4,22 +4,32 @@ ghost use Rattle.std.specs.Prelude.{◌≡◌, [], ◌∷◌, take};
 ghost use Rattle.sb_codec.specs.Messages.{spelling};
 
 mod ask;
+mod ask_status;
 mod bye;
 mod done;
+mod figure;
 mod hello;
+mod node_identity;
+mod node_status;
+mod peer_status;
 mod refused;
 mod rows;
 
 pub use ask::Ask;
+pub use ask_status::AskStatus;
 pub use bye::Bye;
 pub use done::Done;
+pub use figure::{Figure, FigureKind};
 pub use hello::Hello;
+pub use node_identity::NodeIdentity;
+pub use node_status::NodeStatus;
+pub use peer_status::PeerStatus;
 pub use refused::Refused;
 pub use rows::{Row, Rows};
 use sb_digest::Digest;
 use sb_types::{
-    Delta, KIND_ASK, KIND_BYE, KIND_DELTA, KIND_DIGEST, KIND_DONE, KIND_HELLO, KIND_PUT,
-    KIND_REFUSED, KIND_ROWS, Write,
+    Delta, KIND_ASK, KIND_ASK_STATUS, KIND_BYE, KIND_DELTA, KIND_DIGEST, KIND_DONE, KIND_HELLO,
+    KIND_NODE_STATUS, KIND_PUT, KIND_REFUSED, KIND_ROWS, Write,
 };
 
 /// A message between two nodes, or between a control socket and its caller.
@@ -52,6 +62,10 @@ pub enum Message {
     Done(Done),
     /// What was asked for is refused.
     Refused(Refused),
+    /// The question how a node is.
+    AskStatus(AskStatus),
+    /// The answer to an AskStatus.
+    NodeStatus(NodeStatus),
 }
 
 impl Message {
@@ -70,6 +84,8 @@ impl Message {
             Message::Put(_) => KIND_PUT,
             Message::Done(_) => KIND_DONE,
             Message::Refused(_) => KIND_REFUSED,
+            Message::AskStatus(_) => KIND_ASK_STATUS,
+            Message::NodeStatus(_) => KIND_NODE_STATUS,
         }
     }
 }

@@ -8,10 +8,10 @@ ghost use Rattle.sb_types.specs.Kinds.{Fits, shown};
 ghost use Rattle.sb_types.specs.Limits.{is_slot};
 ghost use Rattle.sb_codec.specs.Limits.{is_optional, is_place};
 ghost use Rattle.sb_codec.specs.Standing.{StandsFirst};
-ghost use Rattle.sb_codec.specs.Spelling.{number, text, long_text, list, flag, content, value, slot, entry, block, optional, pair, place, row};
+ghost use Rattle.sb_codec.specs.Spelling.{number, text, long_text, list, flag, content, value, slot, entry, block, optional_text, pair, place, row, identity, figure, peer};
 
 use crate::list_item::ListItem;
-use crate::message::Row;
+use crate::message::{Figure, NodeIdentity, PeerStatus, Row};
 use sb_digest::Pair;
 use sb_types::{Block, ContentRef, Entry, Key, Name, Slot, TAG_REMOVED, Value};
 use std::alloc::AllocError;
@@ -161,7 +161,7 @@ pub(crate) fn write_list<T: ListItem>(out: &mut Vec<u8>, items: &[T]) -> Result<
 }
 
 pub(crate) fn write_optional_name(out: &mut Vec<u8>, name: Option<Name>) -> Result<(), AllocError>
-    ensures written { OnOk result (out.new.items ≡ out.old.items ++ optional name) }
+    ensures written { OnOk result (out.new.items ≡ out.old.items ++ optional_text name) }
     ensures stands { StandsFirst out.old.items out.new.items }
     ensures name { is_optional is_name name ≡ true }
 {
@@ -222,4 +222,34 @@ pub(crate) fn write_row(out: &mut Vec<u8>, written: &Row) -> Result<(), AllocErr
 {
     write_text(out, written.owner().bytes())?;
     write_under_key(out, written)
+}
+
+/// Writes the names of a node and of its cluster, and the release that the node runs.
+#[tactic(auto, using(crate::proofs::Standings::stands_on), unfolding(crate::specs::Spelling::identity))]
+pub(crate) fn write_identity(out: &mut Vec<u8>, written: &NodeIdentity) -> Result<(), AllocError>
+    ensures written { OnOk result (out.new.items ≡ out.old.items ++ identity written.now) }
+    ensures stands { StandsFirst out.old.items out.new.items }
+{
+    write_text(out, written.node.bytes())?;
+    write_text(out, written.cluster.bytes())?;
+    write_text(out, written.release.bytes())
+}
+
+#[tactic(auto, using(crate::proofs::Standings::stands_on), unfolding(crate::specs::Spelling::figure))]
+pub(crate) fn write_figure(out: &mut Vec<u8>, written: &Figure) -> Result<(), AllocError>
+    ensures written { OnOk result (out.new.items ≡ out.old.items ++ figure written.now) }
+    ensures stands { StandsFirst out.old.items out.new.items }
+{
+    write_byte(out, written.number)?;
+    write_u64(out, written.value)
+}
+
+#[tactic(auto, using(crate::proofs::Standings::stands_on), unfolding(crate::specs::Spelling::peer))]
+pub(crate) fn write_peer(out: &mut Vec<u8>, written: &PeerStatus) -> Result<(), AllocError>
+    ensures written { OnOk result (out.new.items ≡ out.old.items ++ peer written.now) }
+    ensures stands { StandsFirst out.old.items out.new.items }
+{
+    write_text(out, written.path.bytes())?;
+    write_byte(out, written.state)?;
+    write_u64(out, written.round)
 }

@@ -9,7 +9,7 @@ use Rattle.std.proofs.lemmas.Cmp.{nat_list_cmp_total, tied_itself}
 use Rattle.std.proofs.lemmas.List.Sorted.{searchable_from_sorted}
 use Rattle.std.proofs.lemmas.List.Sums.{sum_by-cons}
 use Rattle.std.proofs.lemmas.Map.Keys.{Less-from_sorted, sorted_tail}
-use Rattle.sb_digest.specs.Digests.{Pair, Digest, pair_at, number_by, number_in, at_or_below}
+use Rattle.sb_digest.specs.Digests.{Pair, Digest, pair_at, at_or_below}
 use Rattle.sb_digest.specs.Limits.{are_pairs_above, is_range, are_digest_parts, is_digest}
 use Rattle.sb_types.proofs.Texts.{apart-from_Less, apart-from_Greater, same-from_Equal, same_text}
 use Rattle.sb_digest.proofs.Ascending.{by_owner, by_owner_total, rises_from_above}
@@ -79,11 +79,11 @@ above-from_is_digest d is =
     let parts = (and_parts _ (are_digest_parts d) is).1 in
     (and_parts (is_range d.from d.until) _ (and_parts _ _ (and_parts _ _ parts).0).0).1
 
-pub number-found : (d : Digest) (name : List ℕ) (floor i : ℕ) (p : Pair) → is_digest d ≡ true → IsSearchInRange (Ok i) (length d.pairs) → IsBinarySearchResult (λ p. slice_cmp nat_cmp p.owner name) d.pairs (Ok i) → p ≡ get_or d.pairs i p → number_in d name floor ≡ number_by floor (Some p)
-number-found d name floor i p is l same at = ap (number_by floor) (found_at name d.pairs i p (above-from_is_digest d is) l same ∙ ap Some (sym at))
+pub pair-found : (d : Digest) (name : List ℕ) (i : ℕ) (p : Pair) → is_digest d ≡ true → IsSearchInRange (Ok i) (length d.pairs) → IsBinarySearchResult (λ p. slice_cmp nat_cmp p.owner name) d.pairs (Ok i) → p ≡ get_or d.pairs i p → pair_at name d.pairs ≡ Some p
+pair-found d name i p is l same at = found_at name d.pairs i p (above-from_is_digest d is) l same ∙ ap Some (sym at)
 
-pub number-missing : (d : Digest) (name : List ℕ) (floor i : ℕ) → is_digest d ≡ true → IsSearchInRange (Err i) (length d.pairs) → IsBinarySearchResult (λ p. slice_cmp nat_cmp p.owner name) d.pairs (Err i) → number_in d name floor ≡ 0
-number-missing d name floor i is l parted = ap (number_by floor) (not_found name d.pairs i (above-from_is_digest d is) l parted)
+pub pair-missing : (d : Digest) (name : List ℕ) (i : ℕ) → is_digest d ≡ true → IsSearchInRange (Err i) (length d.pairs) → IsBinarySearchResult (λ p. slice_cmp nat_cmp p.owner name) d.pairs (Err i) → pair_at name d.pairs ≡ None
+pair-missing d name i is l parted = not_found name d.pairs i (above-from_is_digest d is) l parted
 
 equal-at : (ps : List Pair) (name : List ℕ) (i : ℕ) (p : Pair) → ((e : Pair) → p ≡ get_or ps i e) → pointwise nat_eq p.owner name ≡ true → (e : Pair) → slice_cmp nat_cmp (get_or ps i e).owner name ≡ Equal
 equal-at ps name i p at same e =
@@ -91,8 +91,8 @@ equal-at ps name i p at same e =
     subst (λ q. slice_cmp nat_cmp q.owner name ≡ Equal) (at e) equal
 
 -- the pair at a place is the name's
-pub number-at : (d : Digest) (name : List ℕ) (floor i : ℕ) (p : Pair) → is_digest d ≡ true → i < length d.pairs → ((e : Pair) → p ≡ get_or d.pairs i e) → pointwise nat_eq p.owner name ≡ true → number_in d name floor ≡ number_by floor (Some p)
-number-at d name floor i p is l at same = number-found d name floor i p is l (equal-at d.pairs name i p at same) (at p)
+pub pair-there : (d : Digest) (name : List ℕ) (i : ℕ) (p : Pair) → is_digest d ≡ true → i < length d.pairs → ((e : Pair) → p ≡ get_or d.pairs i e) → pointwise nat_eq p.owner name ≡ true → pair_at name d.pairs ≡ Some p
+pair-there d name i p is l at same = pair-found d name i p is l (equal-at d.pairs name i p at same) (at p)
 
 pub place-found : (d : Digest) (name : List ℕ) (i : ℕ) → is_digest d ≡ true → IsSearchInRange (Ok i) (length d.pairs) → IsBinarySearchResult (λ p. slice_cmp nat_cmp p.owner name) d.pairs (Ok i) → at_or_below name d.pairs ≡ i + 1
 place-found d name i is l same = behind-found name d.pairs i (above-from_is_digest d is) l same

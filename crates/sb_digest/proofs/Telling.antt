@@ -1,6 +1,6 @@
 -- What the pairs of what is held tell of an owner.
-use Rattle.std.proofs.Common.{◌≡◌, ℕ, zero, suc, ◌<◌, Bool, true, false, ◌&&◌, List, [], ◌∷◌, map, take, length, get_or, Option, Some, None, refl, sym, ap, ◌∙◌, subst, arith, inl, inr, nat_cmp, nat_eq, Ordering, Less, Equal, Greater, is_lt}
-use Rattle.std.specs.Prelude.{filter, cond, unwrap_or, nat_le, if◌then◌else◌}
+use Rattle.std.proofs.Common.{◌≡◌, ℕ, zero, suc, ◌≤◌, ◌<◌, Bool, true, false, ◌&&◌, List, [], ◌∷◌, map, take, length, get_or, Option, Some, None, refl, sym, ap, ◌∙◌, subst, arith, inl, inr, nat_cmp, nat_eq, Ordering, Less, Equal, Greater, is_lt}
+use Rattle.std.specs.Prelude.{filter, cond, unwrap_or}
 use lib.Dec.{T}
 use Rattle.std.specs.List.{slice_get, AllByRecursion}
 use Rattle.std.specs.List.Sorted.{IsStrictlySortedBy}
@@ -15,9 +15,9 @@ use Rattle.std.proofs.lemmas.Cmp.{nat_list_cmp_total, nat_list_eq_equiv}
 use Rattle.std.proofs.lemmas.Map.Keys.{Less-from_sorted, sorted_tail}
 use Rattle.sb_types.specs.Records.{Holder}
 use Rattle.sb_types.specs.Limits.{text_lt}
-use Rattle.sb_holdings.specs.Held.{Held, nothing, holder_of}
+use Rattle.sb_holdings.specs.Held.{Held, empty_holder, holder_of}
 use Rattle.sb_holdings.specs.Plain.{is_from}
-use Rattle.sb_digest.specs.Digests.{Pair, Digest, is_below, covers, pair_at, held_in, number_by, number_in}
+use Rattle.sb_digest.specs.Digests.{Pair, Digest, is_below, covers, pair_at, held_in, number_by, number_in, floor_by, floor_in}
 use Rattle.sb_digest.specs.Lengths.{digest_frame_length}
 use Rattle.sb_digest.specs.Builders.{digest_of_first, IsLongestFront}
 use Rattle.sb_digest.specs.Pairs.{pair_of, pairs_from}
@@ -95,8 +95,29 @@ cut_keeps owner [] (suc count) rises below = refl
 cut_keeps owner (p ∷ ps) zero rises below = sym (missing owner (p ∷ ps) (λ k d l. past_end owner p ps k d below rises l))
 cut_keeps owner (p ∷ ps) (suc count) rises below = ap (λ o. cond (pointwise nat_eq p.owner owner) (Some p) o) (cut_keeps owner ps count (sorted_tail by_owner p ps rises) below)
 
-from_nothing : (floor : ℕ) → ◌≡◌ {A = ℕ} 0 (if nat_le floor 0 then 0 else (if nat_eq 0 floor then 0 else 0))
-from_nothing floor = grind (arith, nat_tests)
+number_of_nothing : (owner : List ℕ) (floor held : ℕ) → number_by floor held None ≡ number_by floor held (Some (pair_of (owner, empty_holder)))
+number_of_nothing owner floor held = grind (arith, nat_tests)
+
+floor_of_nothing : (owner : List ℕ) (floor held : ℕ) → floor_by floor held None ≡ floor_by floor held (Some (pair_of (owner, empty_holder)))
+floor_of_nothing owner floor held = grind (arith, nat_tests)
+
+-- a sender's floor is never lowered, and never raised above what it holds
+floor_of_pair : (floor held : ℕ) (o : Option Pair) → floor ≤ held → (floor ≤ floor_by floor held o) × (floor_by floor held o ≤ held)
+floor_of_pair floor held None l = grind (arith, nat_tests, l)
+floor_of_pair floor held (Some p) l = grind (arith, nat_tests, l)
+
+floor_kept : (floor held : ℕ) (o : Option Pair) → floor ≤ version_of o → floor_by floor held o ≡ floor
+floor_kept floor held None l = grind (arith, nat_tests, l)
+floor_kept floor held (Some p) l = grind (arith, nat_tests, l)
+
+pub start-least : (d : Digest) (owner : List ℕ) (floor held : ℕ) → floor ≤ held → floor ≤ floor_in d owner floor held
+start-least d owner floor held l = (floor_of_pair floor held (pair_at owner d.pairs) l).0
+
+pub start-most : (d : Digest) (owner : List ℕ) (floor held : ℕ) → floor ≤ held → floor_in d owner floor held ≤ held
+start-most d owner floor held l = (floor_of_pair floor held (pair_at owner d.pairs) l).1
+
+pub start-own : (d : Digest) (owner : List ℕ) (floor held : ℕ) → floor ≤ held_in d owner → floor_in d owner floor held ≡ floor
+start-own d owner floor held l = floor_kept floor held (pair_at owner d.pairs) l
 
 -- the digest's pair of an owner that it covers is that of what is held of it
 module _ (held : Held) (budget : ℕ) (want : Bool) (from : Option (List ℕ)) (d : Digest) (owner : List ℕ) (longest : IsLongestFront budget want from (pairs_from from held) d) (covered : covers d owner ≡ true) where
@@ -108,7 +129,7 @@ module _ (held : Held) (budget : ℕ) (want : Bool) (from : Option (List ℕ)) (
       ap (λ (e : Digest). pair_at owner e.pairs) longest.front ∙ cut_keeps owner ps longest.count rises parts.1 ∙ found_passed (is_from from) owner parts.0 (entries held.owners)
       ∙ ap (found_pair owner) (sym (get-entries held.owners owner))
 
-  version-found : (o : Option Holder) → version_of (found_pair owner o) ≡ (unwrap_or o nothing).shown.held
+  version-found : (o : Option Holder) → version_of (found_pair owner o) ≡ (unwrap_or o empty_holder).shown.held
   version-found None = refl
   version-found (Some h) = refl
 
@@ -116,9 +137,16 @@ module _ (held : Held) (budget : ℕ) (want : Bool) (from : Option (List ℕ)) (
   number-held = ap version_of pair-held ∙ version-found (get held.owners owner)
 
   -- of an owner that is not held the whole table is offered, as where nothing is said of it
-  by-found : (floor : ℕ) (o : Option Holder) → number_by floor (found_pair owner o) ≡ number_by floor (Some (pair_of (owner, unwrap_or o nothing)))
-  by-found floor None = from_nothing floor
-  by-found floor (Some h) = refl
+  by-found : (floor upto : ℕ) (o : Option Holder) → number_by floor upto (found_pair owner o) ≡ number_by floor upto (Some (pair_of (owner, unwrap_or o empty_holder)))
+  by-found floor upto None = number_of_nothing owner floor upto
+  by-found floor upto (Some h) = refl
 
-  pub number-above : (floor : ℕ) → number_in d owner floor ≡ number_by floor (Some (pair_of (owner, holder_of held.owners owner)))
-  number-above floor = ap (number_by floor) pair-held ∙ by-found floor (get held.owners owner)
+  pub number-above : (floor upto : ℕ) → number_in d owner floor upto ≡ number_by floor upto (Some (pair_of (owner, holder_of held.owners owner)))
+  number-above floor upto = ap (number_by floor upto) pair-held ∙ by-found floor upto (get held.owners owner)
+
+  under-found : (floor upto : ℕ) (o : Option Holder) → floor_by floor upto (found_pair owner o) ≡ floor_by floor upto (Some (pair_of (owner, unwrap_or o empty_holder)))
+  under-found floor upto None = floor_of_nothing owner floor upto
+  under-found floor upto (Some h) = refl
+
+  pub floor-under : (floor upto : ℕ) → floor_in d owner floor upto ≡ floor_by floor upto (Some (pair_of (owner, holder_of held.owners owner)))
+  floor-under floor upto = ap (floor_by floor upto) pair-held ∙ under-found floor upto (get held.owners owner)

@@ -48,13 +48,27 @@ pair_at owner pairs = find (λ pair. pointwise nat_eq pair.owner owner) pairs
 abbrev pub held_in : Digest → List ℕ → ℕ
 held_in d owner = option_map_or (λ pair. pair.held) (pair_at owner d.pairs) 0
 
--- the number above which a sender with this floor offers entries
-abbrev pub number_by : ℕ → Option Pair → ℕ
-number_by floor None = 0
-number_by floor (Some p) = if nat_le floor p.held then p.held else (if nat_eq p.floor floor then p.progress else 0)
+-- the stage can go on from a sender with this floor that holds up to this version: the sender's floor is at or below the
+-- stage's, and the sender holds as far as that
+abbrev pub goes_on_at : ℕ → ℕ → Pair → Bool
+goes_on_at floor held p = nat_le floor p.floor && nat_le p.floor held
 
-abbrev pub number_in : Digest → List ℕ → ℕ → ℕ
-number_in d owner floor = number_by floor (pair_at owner d.pairs)
+-- the number above which a sender with this floor and this held version offers entries
+abbrev pub number_by : ℕ → ℕ → Option Pair → ℕ
+number_by floor held None = 0
+number_by floor held (Some p) = if nat_le floor p.held then p.held else (if goes_on_at floor held p then p.progress else 0)
+
+-- the floor under which it offers them: its own if the peer holds as far as that, else the floor of the stage that goes
+-- on, else its held version
+abbrev pub floor_by : ℕ → ℕ → Option Pair → ℕ
+floor_by floor held None = if nat_le floor 0 then floor else held
+floor_by floor held (Some p) = if nat_le floor p.held then floor else (if goes_on_at floor held p then p.floor else held)
+
+abbrev pub number_in : Digest → List ℕ → ℕ → ℕ → ℕ
+number_in d owner floor held = number_by floor held (pair_at owner d.pairs)
+
+abbrev pub floor_in : Digest → List ℕ → ℕ → ℕ → ℕ
+floor_in d owner floor held = floor_by floor held (pair_at owner d.pairs)
 
 -- how many pairs are of the owner or of owners before it
 abbrev pub at_or_below : List ℕ → List Pair → ℕ

@@ -3,7 +3,7 @@ ghost use Rattle.std.specs.Prelude.{◌≡◌, ◌≤◌, ◌+◌, ◌*◌, ◌&
 ghost use Rattle.std.specs.List.{list_all};
 ghost use Rattle.std.specs.Option.{option_copied};
 ghost use Rattle.sb_holdings.specs.Plain.{is_from};
-ghost use Rattle.sb_digest.specs.Digests.{digest_of, staged_pair, is_below, covers, number_by, number_in, at_or_below};
+ghost use Rattle.sb_digest.specs.Digests.{digest_of, staged_pair, is_below, covers, goes_on_at, number_by, number_in, floor_by, floor_in, at_or_below};
 ghost use Rattle.sb_digest.specs.Lengths.{bound_length, pair_length, digest_length};
 ghost use Rattle.sb_digest.specs.Limits.{are_pairs_above, is_range, are_digest_parts, is_bound, is_pair, is_digest};
 
@@ -37,6 +37,26 @@ impl Model for Pair {
     ghost inverse = { λ p. record { owner = p.owner; upto = p.held; staged_floor = p.floor; progress = p.progress } };
 }
 
+/// How a sender begins to offer an owner's table to a peer whose digest it has.
+#[derive(Clone, Copy, Debug)]
+pub struct Start {
+    /// The version above which it offers entries.
+    pub after: u64,
+    /// The purge floor under which it offers them: tombstones (markers of removed keys) up to it are left out.
+    pub floor: u64,
+}
+
+impl Start {
+    /// Returns the start for a peer that reports nothing of the owner.
+    fn of_unknown(floor: u64, upto: u64) -> Start
+        ensures after { result.after ≡ number_by floor upto None }
+        ensures floor { result.floor ≡ floor_by floor upto None }
+    {
+        let floor = if floor == 0 { floor } else { upto };
+        Start { after: 0, floor }
+    }
+}
+
 /// How far a node holds the writes of the owners in a range of names. The range has the names at or after `from`, and
 /// before `until` if that is given. An owner in the range that has no pair is held up to 0. The payload has at most
 /// 65,530 bytes.
@@ -48,7 +68,7 @@ impl Model for Pair {
 /// let pairs = vec![in alloc; Pair::new(a, 3, None)]?;
 /// let digest = Digest::new(true, None, Some(b), pairs)?;
 /// assert!(rt; digest.covers(&a) && !digest.covers(&b));
-/// assert_eq!(rt; digest.number(&a, 0), 3);
+/// assert_eq!(rt; digest.start(&a, 0, 5).after, 3);
 /// assert_eq!(rt; digest.next_from(), Some(b));
 /// ```
 #[derive(Debug, Drop)]
@@ -193,20 +213,39 @@ impl Pair {
         }
     }
 
-    /// Returns the version above which a sender offers entries, if the sender's table has this floor:
+    /// Returns whether a sender whose table has this floor and this held version can go on with the stage. The sender's
+    /// floor is then at or below the stage's, and the sender holds at least up to the stage's floor.
+    fn goes_on_from(&self, floor: u64, upto: u64) -> bool
+        ensures { result ≡ goes_on_at floor upto self.now }
+    {
+        floor <= self.staged_floor && self.staged_floor <= upto
+    }
+
+    /// Returns where a sender starts with the owner's table, if that has this floor and this held version, `upto`:
     ///
-    /// - the held version, if the floor is at or below it;
-    /// - else the progress of the stage, if the stage has this floor;
-    /// - else 0, so the sender offers the whole table.
-    pub fn number(&self, floor: u64) -> u64
-        ensures { result ≡ number_by floor (Some self.now) }
+    /// - above the held version of the pair and under its own floor, if the pair is held at least up to that floor;
+    /// - else above the progress of the stage and under the stage's floor, if that is between the sender's floor and
+    ///   `upto`;
+    /// - else above 0, so it offers the whole table, under the floor `upto`.
+    pub fn start(&self, floor: u64, upto: u64) -> Start
+        ensures after { result.after ≡ number_by floor upto (Some self.now) }
+        ensures floor { result.floor ≡ floor_by floor upto (Some self.now) }
     {
         if floor <= self.upto {
-            self.upto
-        } else if self.staged_floor == floor {
-            self.progress
+            Start {
+                after: self.upto,
+                floor,
+            }
+        } else if self.goes_on_from(floor, upto) {
+            Start {
+                after: self.progress,
+                floor: self.staged_floor,
+            }
         } else {
-            0
+            Start {
+                after: 0,
+                floor: upto,
+            }
         }
     }
 
@@ -331,36 +370,38 @@ impl Digest {
         is_covered(self.from.as_ref(), self.until.as_ref(), owner)
     }
 
-    /// Returns the version above which a sender offers entries of the owner, if the sender's table has this floor. It
-    /// is that of `Pair::number`, or 0 if the owner has no pair.
-    pub fn number(&self, owner: &Name, floor: u64) -> u64
-        ensures { result ≡ number_in self.now owner.now floor }
+    /// Returns where a sender starts with the owner's table, if that has this floor and this held version, `upto`. It
+    /// is that of `Pair::start`. An owner without a pair is held up to 0, without a stage.
+    pub fn start(&self, owner: &Name, floor: u64, upto: u64) -> Start
+        ensures after { result.after ≡ number_in self.now owner.now floor upto }
+        ensures floor { result.floor ≡ floor_in self.now owner.now floor upto }
     {
-        let (number, _) = self.number_from(owner, floor, 0);
-        number
+        let (start, _) = self.start_from(owner, floor, upto, 0);
+        start
     }
 
-    /// Returns the same number, and the place at which to look for the next owner's pair. The place is the number of
+    /// Returns the same start, and the place at which to look for the next owner's pair. The place is the number of
     /// pairs whose owners are at or before this one.
     ///
     /// `place` is where this call looks first, and may be any number. If the owner's pair is there, the call takes one
     /// step, and otherwise a binary search. If all owners are asked for in turn and have pairs, each call takes one
     /// step. A walk over both lists would save the search, but it needs a proof that the owners are asked for in order.
-    pub fn number_from(&self, owner: &Name, floor: u64, place: usize) -> (u64, usize)
-        ensures number { result.0 ≡ number_in self.now owner.now floor }
+    pub fn start_from(&self, owner: &Name, floor: u64, upto: u64, place: usize) -> (Start, usize)
+        ensures after { result.0.after ≡ number_in self.now owner.now floor upto }
+        ensures floor { result.0.floor ≡ floor_in self.now owner.now floor upto }
         ensures place { result.1 ≡ at_or_below owner.now self.now.pairs }
     {
         if let Some(pair) = self.pairs.get(place) {
             if pair.owner == *owner {
-                return (pair.number(floor), place + 1);
+                return (pair.start(floor, upto), place + 1);
             }
         }
         match self
             .pairs
             .binary_search_by_key(owner, |pair| owner_of(pair))
         {
-            Ok(found) => (self.pairs[found].number(floor), found + 1),
-            Err(next) => (0, next),
+            Ok(found) => (self.pairs[found].start(floor, upto), found + 1),
+            Err(next) => (Start::of_unknown(floor, upto), next),
         }
     }
 }

@@ -12,7 +12,7 @@
 //!     table.push(Entry::new(key, 1, Slot::Set(Value::flag(true))))?;
 //!     let holdings = Holdings::new(alloc, me, table)?;
 //!     let digest = build(alloc, &holdings, None, true, BUDGET_LEAST)?;
-//!     Ok(digest.number(&me, 0))
+//!     Ok(digest.start(&me, 0, 1).after)
 //! }
 //! ```
 //!
@@ -20,7 +20,7 @@
 //!
 //! - `build` reports `NoMemory` without need. Tests run it with ample memory, and once at full size. They compare exact
 //!   answers.
-//! - `number_from` searches although the owner's pair is at the place, or the pairs take more room than they need.
+//! - `start_from` searches although the owner's pair is at the place, or the pairs take more room than they need.
 //!   Nothing refuses it: no contract mentions time. `attrdir_bench` measures.
 //! - `Debug` prints another text. Nothing refuses it.
 #![tactic(auto)]
@@ -30,6 +30,6 @@ mod digest_builder;
 mod digest_building;
 mod laws;
 
-pub use digest::{Digest, Pair};
+pub use digest::{Digest, Pair, Start};
 pub use digest_building::build;
-pub use laws::{digests_are_true, digests_have_few_pairs, one_front_is_longest};
+pub use laws::{digests_are_true, digests_have_few_pairs, one_front_is_longest, starts_are_within};

@@ -9,9 +9,10 @@ use Rattle.sb_types.specs.Limits.{is_entry, is_delta}
 use Rattle.sb_types.specs.Records.{Entry, Block}
 use Rattle.sb_types.proofs.Texts.{text_same}
 use Rattle.sb_holdings.specs.declared.ends.BlockEnd.{BlockEnd}
-use Rattle.sb_holdings.specs.Held.{Held, shown_of, written}
+use Rattle.sb_holdings.specs.Held.{Held, shown_of, held_after_write, purged_own}
 use Rattle.sb_holdings.specs.Plain.{IsHoldings, next_version, own_answer}
 use Rattle.sb_holdings.specs.Nodes.{Node, NodeEvent, Wrote, node_after_event, replay_node}
+use Rattle.sb_holdings.specs.Nodes as node_events
 use Rattle.sb_holdings.specs.Treats.{Treats, took_each}
 use Rattle.sb_holdings.proofs.Changed.{entry-next}
 use Rattle.sb_holdings.proofs.Nodes.{replay_node-append}
@@ -21,7 +22,7 @@ use Rattle.sb_watch.specs.Records.{Hub}
 use Rattle.sb_watch.specs.Hubs.{AllNotes}
 use Rattle.sb_watch.proofs.KeptNotes.{weaker_keeps}
 use Rattle.sb_views.specs.declared.event.Event.{Event}
-use Rattle.sb_views.specs.declared.event.Event.TheVariants.{TookOwn, Applied}
+use Rattle.sb_views.specs.declared.event.Event.TheVariants.{TookOwn, Applied, Purged}
 use Rattle.sb_views.specs.declared.change.Change.{Change}
 use Rattle.sb_views.specs.declared.change.Change.TheVariants.{Enter}
 use Rattle.sb_views.specs.Changes.{table_with_all}
@@ -31,10 +32,11 @@ use Rattle.sb_views.specs.Publishing.{Views}
 use Rattle.sb_views.proofs.Prefixes.{prefix_self, prefix_trans}
 use Rattle.sb_views.proofs.Growing.{grown-on, own-grown, delta-grown}
 use Rattle.sb_views.proofs.Leading.{own-leads}
+use Rattle.sb_views.proofs.Purged.{purged-grown}
 use Rattle.sb_directory.specs.Lacking.{LackingOwners, since_of, with_owner, HasOwners, AreSince}
 use Rattle.sb_directory.specs.Notes.{note_of, with_notes, entered_of, versions_of, is_held}
-use Rattle.sb_directory.specs.ViewedNodes.{ViewedNode, IsViewedNode, after_own, after_delta, with_published, with_hub}
-use Rattle.sb_directory.proofs.Lacking.{add-has, added-since, own-since, delta-since}
+use Rattle.sb_directory.specs.ViewedNodes.{ViewedNode, IsViewedNode, after_own, after_purge, after_delta, with_published, with_hub}
+use Rattle.sb_directory.proofs.Lacking.{add-has, added-since, own-since, purge-since, delta-since}
 use Rattle.sb_directory.proofs.Noting.{noted-held, since-held}
 
 -- ---- the history
@@ -42,6 +44,10 @@ use Rattle.sb_directory.proofs.Noting.{noted-held, since-held}
 pub node-own : (opening : Node) (history : List Event) (e : Entry) → node_after opening (history ++ TookOwn e ∷ []) ≡ node_after_event (node_after opening history) (Wrote e)
 node-own opening history e =
     ap (replay_node opening) (flat_map-append node_events_of history (TookOwn e ∷ [])) ∙ replay_node-append opening (flat_map node_events_of history) (Wrote e ∷ [])
+
+pub node-purge : (opening : Node) (history : List Event) (floor : ℕ) → node_after opening (history ++ Purged floor ∷ []) ≡ node_after_event (node_after opening history) (node_events.Purged floor)
+node-purge opening history floor =
+    ap (replay_node opening) (flat_map-append node_events_of history (Purged floor ∷ [])) ∙ replay_node-append opening (flat_map node_events_of history) (node_events.Purged floor ∷ [])
 
 pub node-delta : (opening : Node) (history : List Event) (blocks : List Block) (ends : List BlockEnd)
     → node_after opening (history ++ Applied blocks ends ∷ []) ≡ replay_node (node_after opening history) (took_each blocks ends)
@@ -93,13 +99,13 @@ pub own-turn : (held : Held) (e : Entry) → own_answer held e ≡ Ok tt → e.v
 own-turn held e answer =
     turn-case e (next_version (shown_of held held.me).held) (e.version == next_version (shown_of held held.me).held) _ refl answer
 
-own-held : (held : Held) (e : Entry) → e.version ≡ (shown_of held held.me).held + 1 → (shown_of (written held e) held.me).held ≡ e.version
+own-held : (held : Held) (e : Entry) → e.version ≡ (shown_of held held.me).held + 1 → (shown_of (held_after_write held e) held.me).held ≡ e.version
 own-held held e next =
     sym (own-leads held e next held.me).held
     ∙ ap (λ (b : Bool). (table_with_all (shown_of held held.me) (map (λ (p : List ℕ × Change). p.1) (cond b ((held.me, Enter e) ∷ []) []))).held) (text_same held.me held.me refl)
 
-own-noted : (held : Held) (e : Entry) → e.version ≡ (shown_of held held.me).held + 1 → is_held (written held e) (note_of (held.me, e)) ≡ true
-own-noted held e next = le-leb e.version (shown_of (written held e) held.me).held (omega (arith, own-held held e next))
+own-noted : (held : Held) (e : Entry) → e.version ≡ (shown_of held held.me).held + 1 → is_held (held_after_write held e) (note_of (held.me, e)) ≡ true
+own-noted held e next = le-leb e.version (shown_of (held_after_write held e) held.me).held (omega (arith, own-held held e next))
 
 module _ (opening : Node) (queued : List Event) (lacking : LackingOwners) (old : ViewedNode) (is : IsViewedNode opening queued lacking old) (holds : IsHoldings old.core.node.held) where
   module _ (e : Entry) (turn : own_answer old.core.node.held e ≡ Ok tt) (entry : is_entry e ≡ true) (few : (shown_of old.core.node.held old.core.node.held.me).held < 2 ^ 64)
@@ -111,10 +117,10 @@ module _ (opening : Node) (queued : List Event) (lacking : LackingOwners) (old :
     own-locked published = record {
       node = ap (λ (n : Node). node_after_event n (Wrote e)) is.node ∙ sym (node-own opening old.history e);
       begins = begins-longer queued old.history (TookOwn e) is.begins;
-      grown = grown-on (node_after opening queued).held old.core.node.held (written old.core.node.held e) is.grown (own-grown old.core.node.held e holds);
+      grown = grown-on (node_after opening queued).held old.core.node.held (held_after_write old.core.node.held e) is.grown (own-grown old.core.node.held e holds);
       since = own-since lacking (node_after opening queued).held old.core.node.held e has is.since;
-      notes = noted-held (written old.core.node.held e) old.hub ((old.core.node.held.me, e) ∷ [])
-          (notes-raised old.core.node.held (written old.core.node.held e) old.hub (own-grown old.core.node.held e holds) is.notes)
+      notes = noted-held (held_after_write old.core.node.held e) old.hub ((old.core.node.held.me, e) ∷ [])
+          (notes-raised old.core.node.held (held_after_write old.core.node.held e) old.hub (own-grown old.core.node.held e holds) is.notes)
           (own-noted old.core.node.held e next, tt);
     }
 
@@ -124,6 +130,25 @@ module _ (opening : Node) (queued : List Event) (lacking : LackingOwners) (old :
         → IsViewedNode opening queued lacking (record { core = core; hub = hub; history = history; published = published })
     own-there core history hub published taken longer seen =
         subst (IsViewedNode opening queued lacking) (λ i. record { core = sym taken i; hub = sym seen i; history = sym longer i; published = published }) (own-locked published)
+
+  module _ (floor : ℕ) (has : contains_key lacking old.core.node.held.me ≡ true) where
+    pub purge-locked : (published : List Event) → IsViewedNode opening queued lacking (after_purge old floor published)
+    purge-locked published =
+        let grown = purged-grown old.core.node.held floor holds in
+        record {
+          node = ap (λ (n : Node). node_after_event n (node_events.Purged floor)) is.node ∙ sym (node-purge opening old.history floor);
+          begins = begins-longer queued old.history (Purged floor) is.begins;
+          grown = grown-on (node_after opening queued).held old.core.node.held (purged_own old.core.node.held floor) is.grown grown;
+          since = purge-since lacking (node_after opening queued).held old.core.node.held floor has is.since;
+          notes = notes-raised old.core.node.held (purged_own old.core.node.held floor) old.hub grown is.notes;
+        }
+
+    -- so it is wherever the core and the history are these
+    pub purge-there : (core : Core) (history : List Event) (published : List Event) → core ≡ with_node old.core (node_after_event old.core.node (node_events.Purged floor))
+        → history ≡ old.history ++ Purged floor ∷ []
+        → IsViewedNode opening queued lacking (record { core = core; hub = old.hub; history = history; published = published })
+    purge-there core history published purged longer =
+        subst (IsViewedNode opening queued lacking) (λ i. record { core = sym purged i; hub = old.hub; history = sym longer i; published = published }) (purge-locked published)
 
   module _ (blocks : List Block) (ends : List BlockEnd) (delta : is_delta blocks ≡ true) (treats : Treats old.core.node blocks ends)
       (after : IsHoldings (replay_node old.core.node (took_each blocks ends)).held) (has : HasOwners lacking blocks) where

@@ -10,10 +10,10 @@ use Rattle.sb_types.specs.Records.{Entry, Table, Block, Holder}
 use Rattle.sb_types.proofs.Texts.{same_text, text_same, apart-from_Less}
 use Rattle.sb_holdings.specs.declared.ends.BlockEnd.{BlockEnd}
 use Rattle.sb_holdings.specs.declared.ends.BlockEnd.TheVariants.{Own, OwnAhead, Gap, Stale, OwnersFull, Taken, TooManyKeys, NoMemory}
-use Rattle.sb_holdings.specs.Held.{Held, holder_of, shown_of, with_owner as held_with, written, held_after_taking}
+use Rattle.sb_holdings.specs.Held.{Held, holder_of, shown_of, with_owner as held_with, held_after_write, purged_own, held_after_taking}
 use Rattle.sb_holdings.specs.Nodes.{Node, held_by, node_after_block, replay_node}
 use Rattle.sb_holdings.specs.Plain.{IsHoldings}
-use Rattle.sb_holdings.specs.Shown.{own}
+use Rattle.sb_holdings.specs.Shown.{holder_after_write, own_purged}
 use Rattle.sb_holdings.specs.Taken.{holder_after_block}
 use Rattle.sb_holdings.specs.Treats.{took_each}
 use Rattle.sb_holdings.proofs.Changed.{IsHolder-held}
@@ -139,10 +139,17 @@ module _ (m : LackingOwners) where
   moved-since : (old mid new : Held) → AreSince old mid m → ((q : List ℕ) → get m q ≡ None → shown_of new q ≡ shown_of mid q) → AreSince old new m
   moved-since old mid new since same = λ q. since-case (shown_of old q) (shown_of mid q) (shown_of new q) (get m q) (since q) (same q)
 
-  pub own-since : (old held : Held) (e : Entry) → contains_key m held.me ≡ true → AreSince old held m → AreSince old (written held e) m
+  pub own-since : (old held : Held) (e : Entry) → contains_key m held.me ≡ true → AreSince old held m → AreSince old (held_after_write held e) m
   own-since old held e has since =
-      let k = own (holder_of held.owners held.me) e in
-      moved-since old held (written held e) since
+      let k = holder_after_write (holder_of held.owners held.me) e in
+      moved-since old held (held_after_write held e) since
+      (λ q none. ap (λ (h : Holder). h.shown)
+      (put-apart held.owners (insert held.owners held.me k) held.me k (put-owner held.owners held.me k) q (key-apart q held.me none has)))
+
+  pub purge-since : (old held : Held) (floor : ℕ) → contains_key m held.me ≡ true → AreSince old held m → AreSince old (purged_own held floor) m
+  purge-since old held floor has since =
+      let k = own_purged floor (holder_of held.owners held.me) in
+      moved-since old held (purged_own held floor) since
       (λ q none. ap (λ (h : Holder). h.shown)
       (put-apart held.owners (insert held.owners held.me k) held.me k (put-owner held.owners held.me k) q (key-apart q held.me none has)))
 

@@ -7,3 +7,4 @@ pub mod Keeping
 pub mod Polling
 pub mod Sharing
 pub mod Entering
+pub mod Purging

@@ -4,16 +4,16 @@ use Rattle.std.specs.List.{AllByRecursion}
 use Rattle.std.specs.Option.{option_map}
 use Rattle.std.specs.FinMap.{get}
 use Rattle.sb_types.specs.Records.{Entry, Table, Block, Holder}
-use Rattle.sb_types.specs.Runs.{Stands, above}
+use Rattle.sb_types.specs.Runs.{Stands, newer_entries}
 use Rattle.sb_types.proofs.Standing.{of_above}
-use Rattle.sb_holdings.specs.Held.{Held, nothing, shown_of}
+use Rattle.sb_holdings.specs.Held.{Held, empty_holder, shown_of}
 use Rattle.sb_holdings.specs.Plain.{IsHoldings, table_of}
 use Rattle.sb_holdings.proofs.Changed.{IsHolder-held}
 use Rattle.sb_table.proofs.Order.{run_upto}
 use Rattle.sb_watch.specs.Records.{Hub}
 use Rattle.sb_watch.specs.Hubs.{AllNotes, with_push}
 use Rattle.sb_watch.proofs.KeptNotes.{pushed_keeps}
-use Rattle.sb_directory.specs.Notes.{note_of, with_notes, owned_above, entries_since, is_held}
+use Rattle.sb_directory.specs.Notes.{note_of, with_notes, entries_of_owner, entries_since, is_held}
 
 pub notes-append : (hub : Hub) (xs ys : List (List ℕ × Entry)) → with_notes hub (xs ++ ys) ≡ with_notes (with_notes hub xs) ys
 notes-append hub [] ys = refl
@@ -44,28 +44,28 @@ pub record IsTellingAll (held : Held) (from : Hub) (all : List (List ℕ × ℕ)
 pub telling_all-begins : (held : Held) (from : Hub) (all rest : List (List ℕ × ℕ)) → rest ≡ all → IsTellingAll held from all from rest
 telling_all-begins held from all rest is = record { left = ap (λ (vs : List (List ℕ × ℕ)). with_notes from (entries_since vs held)) is }
 
-pub held-table : (o : Option Holder) (t : Table) → Some t ≡ option_map (λ (h : Holder). h.shown) o → t ≡ (unwrap_or o nothing).shown
+pub held-table : (o : Option Holder) (t : Table) → Some t ≡ option_map (λ (h : Holder). h.shown) o → t ≡ (unwrap_or o empty_holder).shown
 held-table None t is = absurd (cc)
 held-table (Some h) t is = cc
 
-pub no-table : (o : Option Holder) → None ≡ option_map (λ (h : Holder). h.shown) o → (unwrap_or o nothing).shown ≡ nothing.shown
+pub no-table : (o : Option Holder) → None ≡ option_map (λ (h : Holder). h.shown) o → (unwrap_or o empty_holder).shown ≡ empty_holder.shown
 no-table None is = refl
 no-table (Some h) is = absurd (cc)
 
 pub telling_all-goes_on : (held : Held) (from : Hub) (all : List (List ℕ × ℕ)) (hub new : Hub) (p : List ℕ × ℕ) (rest : List (List ℕ × ℕ)) (t : Table)
-    → IsTellingAll held from all hub (p ∷ rest) → Some t ≡ table_of held p.0 → new ≡ with_notes hub (owned_above p.1 p.0 t) → IsTellingAll held from all new rest
+    → IsTellingAll held from all hub (p ∷ rest) → Some t ≡ table_of held p.0 → new ≡ with_notes hub (entries_of_owner p.1 p.0 t) → IsTellingAll held from all new rest
 telling_all-goes_on held from all hub new p rest t is found step =
     let same : t ≡ shown_of held p.0 = held-table (get held.owners p.0) t found in
     record {
-      left = ap (λ (h : Hub). with_notes h (entries_since rest held)) (step ∙ ap (λ (u : Table). with_notes hub (owned_above p.1 p.0 u)) same)
-          ∙ sym (notes-append hub (owned_above p.1 p.0 (shown_of held p.0)) (entries_since rest held)) ∙ is.left;
+      left = ap (λ (h : Hub). with_notes h (entries_since rest held)) (step ∙ ap (λ (u : Table). with_notes hub (entries_of_owner p.1 p.0 u)) same)
+          ∙ sym (notes-append hub (entries_of_owner p.1 p.0 (shown_of held p.0)) (entries_since rest held)) ∙ is.left;
     }
 
 pub telling_all-passes : (held : Held) (from : Hub) (all : List (List ℕ × ℕ)) (hub : Hub) (p : List ℕ × ℕ) (rest : List (List ℕ × ℕ))
     → IsTellingAll held from all hub (p ∷ rest) → None ≡ table_of held p.0 → IsTellingAll held from all hub rest
 telling_all-passes held from all hub p rest is none =
     record {
-      left = sym (ap (λ (t : Table). with_notes hub (owned_above p.1 p.0 t ++ entries_since rest held)) (no-table (get held.owners p.0) none)) ∙ is.left;
+      left = sym (ap (λ (t : Table). with_notes hub (entries_of_owner p.1 p.0 t ++ entries_since rest held)) (no-table (get held.owners p.0) none)) ∙ is.left;
     }
 
 pub telling_all-ends : (held : Held) (from : Hub) (all : List (List ℕ × ℕ)) (hub : Hub) (rest : List (List ℕ × ℕ))
@@ -117,7 +117,7 @@ owned-held held o (e ∷ es) each =
 pub since-held : (held : Held) (versions : List (List ℕ × ℕ)) → IsHoldings held → AreHeld held (entries_since versions held)
 since-held held [] is = tt
 since-held held (p ∷ ps) is =
-    both-held held (owned_above p.1 p.0 (shown_of held p.0)) (entries_since ps held)
-    (owned-held held p.0 (above p.1 (shown_of held p.0).entries)
+    both-held held (entries_of_owner p.1 p.0 (shown_of held p.0)) (entries_since ps held)
+    (owned-held held p.0 (newer_entries p.1 (shown_of held p.0).entries)
     (λ e s. run_upto e (IsHolder-held held is p.0).shown.run (of_above p.1 (shown_of held p.0).entries e s).0))
     (since-held held ps is)

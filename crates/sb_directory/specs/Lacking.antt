@@ -6,7 +6,7 @@ use Rattle.std.specs.FinMap.{FinMap, get, contains_key, insert, entries, from_so
 use Rattle.sb_types.specs.Records.{Table, Block}
 use Rattle.sb_holdings.specs.Held.{Held, shown_of}
 use Rattle.sb_views.specs.declared.change.Change.{Change}
-use Rattle.sb_views.specs.Changes.{owned, lacked_of}
+use Rattle.sb_views.specs.Changes.{changes_of_owner, lacked_of}
 
 -- the owners of whom views may lack something, each with the version up to which they have it and the floor that its table had
 abbrev pub LackingOwners : Type 0
@@ -31,7 +31,7 @@ HasOwners lacking (b ∷ bs) = (contains_key lacking b.owner ≡ true) × HasOwn
 
 -- what views lack of these owners that have them up to these versions and with these floors
 abbrev pub lacked_since : List (List ℕ × (ℕ × ℕ)) → Held → List (List ℕ × Change)
-lacked_since owners held = flat_map (λ p. owned p.0 (lacked_of p.1.0 p.1.1 (shown_of held p.0))) owners
+lacked_since owners held = flat_map (λ p. changes_of_owner p.0 (lacked_of p.1.0 p.1.1 (shown_of held p.0))) owners
 
 -- all that views lack, owner by owner
 abbrev pub all_lacked : LackingOwners → Held → List (List ℕ × Change)

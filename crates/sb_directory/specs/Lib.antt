@@ -5,3 +5,4 @@ pub mod Seats
 pub mod Serving
 pub mod Handling
 pub mod Risen
+pub mod Purging

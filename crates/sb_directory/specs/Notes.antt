@@ -1,7 +1,7 @@
 -- What is noted in watches.
 use Rattle.std.specs.Prelude.{ℕ, Bool, nat_le, List, [], ◌∷◌, map, flat_map}
 use Rattle.sb_types.specs.Records.{Entry, Table, Block}
-use Rattle.sb_types.specs.Runs.{above}
+use Rattle.sb_types.specs.Runs.{newer_entries}
 use Rattle.sb_holdings.specs.Held.{Held, shown_of}
 use Rattle.sb_watch.specs.declared.note.Note.{Note}
 use Rattle.sb_watch.specs.Records.{Hub}
@@ -17,12 +17,12 @@ with_notes hub [] = hub
 with_notes hub (p ∷ ps) = with_notes (with_push hub (note_of p)) ps
 
 -- an owner's entries above a version, each with the owner
-abbrev pub owned_above : ℕ → List ℕ → Table → List (List ℕ × Entry)
-owned_above version owner t = map (λ e. (owner, e)) (above version t.entries)
+abbrev pub entries_of_owner : ℕ → List ℕ → Table → List (List ℕ × Entry)
+entries_of_owner version owner t = map (λ e. (owner, e)) (newer_entries version t.entries)
 
 -- what is held of these owners above these versions
 abbrev pub entries_since : List (List ℕ × ℕ) → Held → List (List ℕ × Entry)
-entries_since versions held = flat_map (λ p. owned_above p.1 p.0 (shown_of held p.0)) versions
+entries_since versions held = flat_map (λ p. entries_of_owner p.1 p.0 (shown_of held p.0)) versions
 
 -- the owners of these blocks, each with the version up to which it is held
 abbrev pub versions_of : Held → List Block → List (List ℕ × ℕ)

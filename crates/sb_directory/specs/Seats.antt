@@ -61,7 +61,7 @@ abbrev pub delta_due_after : List Event → Result (Unit {0}) Fault
 delta_due_after history = unless_spent history (Ok tt)
 
 -- a refusal is what is due; where nothing is due it is want of memory
-abbrev pub Refuses : Result (Unit {0}) Fault → Fault → Type 0
+abbrev pub Refuses : {X : Type 0} → Result X Fault → Fault → Type 0
 Refuses due fault = IfErr due (λ other. fault ≡ other) × (fault ≢ NoMemory → due ≡ Err fault)
 
 -- all that happened is published where that is said; where it is not said, that may be so too, or what is published stays

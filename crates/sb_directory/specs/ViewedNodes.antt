@@ -1,17 +1,18 @@
 -- A node with its history, its views and its watches, and what calls make of it.
-use Rattle.std.specs.Prelude.{◌≡◌, ◌-◌, ◌^◌, ◌==◌, Bool, MatchBool, if◌then◌else◌, List, [], ◌∷◌, ◌++◌, length, Result, Ok, Err}
+use Rattle.std.specs.Prelude.{◌≡◌, ℕ, ◌-◌, ◌^◌, ◌==◌, Bool, MatchBool, if◌then◌else◌, List, [], ◌∷◌, ◌++◌, length, Result, Ok, Err}
 use mathlib.Core.List.{IsPrefix}
 use Rattle.sb_types.specs.declared.fault.Fault.{Fault}
 use Rattle.sb_types.specs.declared.fault.Fault.TheVariants.{TurnsSpent}
 use Rattle.sb_types.specs.Records.{Entry, Block}
 use Rattle.sb_holdings.specs.declared.ends.BlockEnd.{BlockEnd}
 use Rattle.sb_holdings.specs.Nodes.{Node, Wrote, node_after_event, replay_node}
+use Rattle.sb_holdings.specs.Nodes as node_events
 use Rattle.sb_holdings.specs.Treats.{took_each}
 use Rattle.sb_node.specs.Cores.{Core, with_node}
 use Rattle.sb_watch.specs.Records.{Hub}
 use Rattle.sb_watch.specs.Hubs.{AllNotes}
 use Rattle.sb_views.specs.declared.event.Event.{Event}
-use Rattle.sb_views.specs.declared.event.Event.TheVariants.{TookOwn, Applied}
+use Rattle.sb_views.specs.declared.event.Event.TheVariants.{TookOwn, Applied, Purged}
 use Rattle.sb_views.specs.Growing.{AreGrown}
 use Rattle.sb_views.specs.Histories.{node_after}
 use Rattle.sb_directory.specs.Lacking.{LackingOwners, AreSince}
@@ -43,7 +44,16 @@ after_own l e published = record {
   published = published;
 }
 
--- the same of a delta whose blocks ended so
+-- the own table is purged up to this version, no watch gets a note, and it is the last event of the history
+abbrev pub after_purge : ViewedNode → ℕ → List Event → ViewedNode
+after_purge l floor published = record {
+  core = with_node l.core (node_after_event l.core.node (node_events.Purged floor));
+  hub = l.hub;
+  history = l.history ++ Purged floor ∷ [];
+  published = published;
+}
+
+-- the delta's blocks ended so, what they entered is noted in watches, and it is the last event of the history
 abbrev pub after_delta : ViewedNode → List Block → List BlockEnd → List Event → ViewedNode
 after_delta l blocks ends published = (
     let node = replay_node l.core.node (took_each blocks ends) in

@@ -1,5 +1,6 @@
 //! The directory: a node that threads share.
-ghost use Rattle.std.specs.Prelude.{◌≡◌, ◌≢◌, ◌≤◌, ◌+◌, ◌++◌, ◌∷◌, List, [], true, length, replicate, if◌then◌else◌, Ok, Err, MatchResult, IfOk, IfErr, OnOk, OnErr};
+ghost use Rattle.std.specs.Prelude.{◌≡◌, ◌≢◌, ◌≤◌, ◌+◌, ◌++◌, ◌∷◌, List, [], true, length, replicate, if◌then◌else◌, None, Ok, Err, MatchResult, IfOk, IfErr, IfSome, IsSome, OnOk, OnErr};
+ghost use Rattle.std.specs.Option.{option_map};
 ghost use mathlib.Core.List.{IsPrefix};
 ghost use Rattle.sb_types.specs.Faults.{Gives};
 ghost use Rattle.sb_holdings.specs.Held.{shown_of};
@@ -14,10 +15,11 @@ ghost use Rattle.sb_watch.specs.declared.note.Polled.TheVariants as answers;
 ghost use Rattle.sb_watch.specs.declared.note.Note.{Note};
 ghost use Rattle.sb_watch.specs.Records.{Hub};
 ghost use Rattle.sb_watch.specs.Hubs.{new_hub, next_id, has_watch, answer_at};
+ghost use Rattle.sb_directory.specs.Purging as purging;
 ghost use Rattle.sb_directory.specs.Seats as spec;
 ghost use Rattle.sb_directory.specs.Serving.{AnswersAfter};
 
-use crate::receipt::{Applied, Closing, Receipt};
+use crate::receipt::{Applied, Closing, Purge, Receipt};
 use crate::seat::ReaderSeat;
 use crate::shares::seat_all;
 use crate::tag::DirectoryTag;
@@ -179,6 +181,36 @@ impl<S: DirectoryTag, R: Wait + Drop> Directory<S, R> {
         self.node.lock(rt).apply(seat, delta)
     }
 
+    /// Purges the node's own table if that is due, and then publishes all that happened. It is due if the table has `least` removed
+    /// keys, or if it is full and has 64 of them. If `least` is 0, it never is. Then the older half of the removed keys goes:
+    /// those up to the version of the middle one, which becomes the purge floor. Readers and watches see no difference.
+    ///
+    /// It returns the new floor, and whether the seat has seen the purge. If it has not, the next call that publishes makes up for it.
+    /// If no purge is due it returns `None`, and changes nothing except the seat's last call. Its faults, in this order, change nothing
+    /// else either:
+    ///
+    /// - `TurnsSpent` after 2^64 - 1 events.
+    /// - `NoMemory`.
+    ///
+    /// It takes one step for each key. It publishes all own rows, and takes memory in proportion to them.
+    pub fn purge<Q: Wait>(
+        &self,
+        rt: &Q,
+        seat: &mut ReaderSeat<S>,
+        least: u64,
+    ) -> Result<Option<Purge>, Fault>
+        ensures purges { IfOk result (λ purge. purging.Purges S.opening least seat.old (option_map (λ p. p.floor) purge) seat.new) }
+        ensures shown { IfOk result (λ purge. IfSome purge (λ p. p.shown ≡ true → seat.new.seen ≡ seat.new.last_call)) }
+        ensures still { result ≡ Ok None → seat.new ≡ spec.with_last_call seat.old seat.new.last_call }
+        ensures refused { IfErr result (spec.Refuses (purging.purge_due_after S.opening least seat.new.last_call)) }
+        ensures due { OnErr result (IsSome (purging.own_due_floor least (node_after S.opening seat.new.last_call))) }
+        ensures begins { OnErr result (spec.Begins seat.new.last_call seat.old) }
+        ensures seat { OnErr result (seat.new ≡ spec.with_last_call seat.old seat.new.last_call) }
+        ensures grows { IsPrefix seat.old.seen seat.new.seen }
+    {
+        self.node.lock(rt).purge(seat, least)
+    }
+
     /// The digest of the owners from a name on, or of all, as of the node. `want` says whether a digest is wanted in answer.
     /// `NoMemory`. Either way it is the seat's last call.
     pub fn digest<Q: Wait>(
@@ -255,14 +287,14 @@ impl<S: DirectoryTag, R: Wait + Drop> Directory<S, R> {
     }
 
     /// How many keys the node's own table has, removed ones counted. It is the seat's last call.
-    pub fn keys<Q: Wait>(&self, rt: &Q, seat: &mut ReaderSeat<S>) -> usize
+    pub fn key_count<Q: Wait>(&self, rt: &Q, seat: &mut ReaderSeat<S>) -> usize
         ensures answer { result ≡ own_keys (node_after S.opening seat.new.last_call) }
         ensures begins { spec.Begins seat.new.last_call seat.old }
         ensures seat { seat.new ≡ spec.with_last_call seat.old seat.new.last_call }
     {
         let mut node = self.node.lock(rt);
         node.note_call(seat);
-        node.core().keys()
+        node.core().key_count()
     }
 
     /// Adds a watch with room for 1 to 1,024 notes, and gives its id, by which any seat may poll it. `BadSetting` if the room is

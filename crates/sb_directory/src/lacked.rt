@@ -1,9 +1,9 @@
 //! What views lack.
 ghost use Rattle.std.specs.Prelude.{◌≡◌, ◌++◌, map, MatchBool, IfOk, IfErr, OnOk};
 ghost use mathlib.Core.List.{IsPrefix};
-ghost use Rattle.sb_types.specs.Runs.{above, last_version};
+ghost use Rattle.sb_types.specs.Runs.{newer_entries, last_version};
 ghost use Rattle.sb_views.specs.declared.change.Change.TheVariants as changes;
-ghost use Rattle.sb_views.specs.Changes.{owned, changes_above, lacked_of};
+ghost use Rattle.sb_views.specs.Changes.{changes_of_owner, changes_above, lacked_of};
 ghost use Rattle.sb_views.specs.Growing.{AreGrown};
 ghost use Rattle.sb_views.specs.Histories.{node_after};
 ghost use Rattle.sb_directory.specs.Lacking as spec;
@@ -26,8 +26,8 @@ fn push_entries(
     table: &Table,
     version: u64,
 ) -> Result<u64, Fault>
-    ensures ok { OnOk result (batch.new ≡ batch.old ++ owned owner.now (map changes.Enter (above version table.now.entries))) }
-    ensures last { IfOk result (λ last. last ≡ last_version version (above version table.now.entries)) }
+    ensures ok { OnOk result (batch.new ≡ batch.old ++ changes_of_owner owner.now (map changes.Enter (newer_entries version table.now.entries))) }
+    ensures last { IfOk result (λ last. last ≡ last_version version (newer_entries version table.now.entries)) }
     ensures memory { IfErr result (λ fault. fault ≡ Fault.NoMemory) }
 {
     let mut last = version;
@@ -46,7 +46,7 @@ fn push_above(
     table: &Table,
     version: u64,
 ) -> Result<(), Fault>
-    ensures ok { OnOk result (batch.new ≡ batch.old ++ owned owner.now (changes_above version table.now)) }
+    ensures ok { OnOk result (batch.new ≡ batch.old ++ changes_of_owner owner.now (changes_above version table.now)) }
     ensures memory { IfErr result (λ fault. fault ≡ Fault.NoMemory) }
 {
     let last = push_entries(alloc, batch, owner, table, version)?;
@@ -65,7 +65,7 @@ fn push_lacked(
     table: &Table,
     since: (u64, u64),
 ) -> Result<(), Fault>
-    ensures ok { OnOk result (batch.new ≡ batch.old ++ owned owner.now (lacked_of since.0 since.1 table.now)) }
+    ensures ok { OnOk result (batch.new ≡ batch.old ++ changes_of_owner owner.now (lacked_of since.0 since.1 table.now)) }
     ensures memory { IfErr result (λ fault. fault ≡ Fault.NoMemory) }
 {
     let (version, floor) = since;

@@ -1,8 +1,8 @@
 //! The directory: one node that threads share, each from a seat of its own.
 //!
 //! From its seat a thread reads a snapshot of the node without the lock. It also makes its calls from there, and each call takes the
-//! one lock. Each write of the node's own is an event of its history, and so is each delta that it takes. Watches get a note of what
-//! an event entered, and readers get its view.
+//! one lock. Each write of the node's own is an event of its history, and so is each delta that it takes. So is each purge of its
+//! own table. Watches get a note of what an event entered, and readers get its view. A purge enters nothing, and readers see no difference.
 //!
 //! ```rust
 //! /// Takes a write from a seat, and gives how far the seat then sees the node's own writes, without the lock.
@@ -89,7 +89,7 @@ mod viewed_node;
 
 pub use directory::Directory;
 pub use laws::held_never_falls;
-pub use receipt::{Applied, Closing, Receipt};
+pub use receipt::{Applied, Closing, Purge, Receipt};
 pub use seat::{EnteredSeat, ReaderSeat};
 pub use seat_handler::SeatHandler;
 pub use tag::DirectoryTag;

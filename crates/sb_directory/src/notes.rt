@@ -21,7 +21,7 @@ pub(crate) fn push_note(hub: &mut Hub, owner: &Name, entry: &Entry)
 
 /// Notes an owner's writes above a version in watches.
 fn push_notes_above(hub: &mut Hub, owner: &Name, table: &Table, version: u64)
-    ensures { hub.new ≡ spec.with_notes hub.old (spec.owned_above version owner.now table.now) }
+    ensures { hub.new ≡ spec.with_notes hub.old (spec.entries_of_owner version owner.now table.now) }
 {
     for entry in table.after(version) {
         push_note(hub, owner, entry);

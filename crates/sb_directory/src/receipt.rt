@@ -11,6 +11,14 @@ pub struct Receipt {
     pub shown: bool,
 }
 
+/// The own table was purged: its purge floor is `floor` from now on, and it has no removed key up to that version. `shown` says the
+/// same as of a [`Receipt`].
+#[derive(Clone, Copy, PartialEq, Eq, Debug)]
+pub struct Purge {
+    pub floor: u64,
+    pub shown: bool,
+}
+
 /// How the blocks of a delta ended, in their order. `shown` is true if the seat has seen what was taken of them. If it is false,
 /// that was taken all the same, as with a [`Receipt`].
 #[derive(Drop)]

@@ -1,5 +1,6 @@
 //! What the lock of a directory guards: a node with its history, its views, its watches and the book of its seats.
-ghost use Rattle.std.specs.Prelude.{◌≡◌, ◌≤◌, ◌+◌, ◌++◌, ◌∷◌, [], true, false, length, if◌then◌else◌, Ok, Err, IfOk, IfErr, OnOk, OnErr};
+ghost use Rattle.std.specs.Prelude.{◌≡◌, ◌≤◌, ◌+◌, ◌++◌, ◌∷◌, [], true, false, length, if◌then◌else◌, None, Ok, Err, IfOk, IfErr, IfSome, IsSome, OnOk, OnErr};
+ghost use Rattle.std.specs.Option.{option_map};
 ghost use mathlib.Core.List.{IsPrefix};
 ghost use Rattle.sb_types.specs.Faults.{Gives};
 ghost use Rattle.sb_holdings.specs.Held.{shown_of};
@@ -12,12 +13,14 @@ ghost use Rattle.sb_watch.specs.Hubs.{new_hub, next_id, has_watch, answer_at, wi
 ghost use Rattle.sb_views.specs.declared.event.Event.TheVariants as events;
 ghost use Rattle.sb_views.specs.Histories.{node_after};
 ghost use Rattle.sb_directory.specs.ViewedNodes as nodes;
+ghost use Rattle.sb_node.specs.Purging.{purge_answer};
+ghost use Rattle.sb_directory.specs.Purging as purging;
 ghost use Rattle.sb_directory.specs.Seats as spec;
 
 use crate::lacked::catch_up;
 use crate::lacking_owners::LackingOwners;
 use crate::notes::{push_note, push_notes_since, versions_of};
-use crate::receipt::{Applied, Closing, Receipt};
+use crate::receipt::{Applied, Closing, Purge, Receipt};
 use crate::risen::add_risen;
 use crate::seat::ReaderSeat;
 use crate::shares::join_all;
@@ -185,6 +188,69 @@ impl<S: DirectoryTag, R: Wait + Drop> ViewedNode<S, R> {
         ensures { self.new ≡ self.old }
     {
         mem::replace(&mut self.news, Backlog::new(self.alloc))
+    }
+
+    /// Purges the own table for a seat if a purge is due, and then publishes all that happened. Its faults are those of
+    /// `Directory::purge`.
+    #[tactic(auto, using(crate::proofs::Purging::purge_refused, crate::proofs::Purging::purge_taken, crate::proofs::Purging::purge_none))]
+    pub(crate) fn purge(
+        &mut self,
+        seat: &mut ReaderSeat<S>,
+        least: u64,
+    ) -> Result<Option<Purge>, Fault>
+        ensures due { IfOk result (λ purge. purging.purge_due_after S.opening least self.old.history ≡ Ok (option_map (λ p. p.floor) purge)) }
+        ensures none { result ≡ Ok None → self.new ≡ self.old }
+        ensures taken { IfOk result (λ purge. IfSome purge (λ p. self.new ≡ nodes.after_purge self.old p.floor self.new.published)) }
+        ensures shown { IfOk result (λ purge. IfSome purge (λ p. spec.PublishesWhereSaid p.shown self.old self.new)) }
+        ensures err { OnErr result (self.new ≡ self.old) }
+        ensures last_call { IfOk result (λ purge. seat.new.last_call ≡ self.old.history ++ purging.purge_events (option_map (λ p. p.floor) purge)) }
+        ensures count { IfOk result (λ purge. seat.new.events ≡ seat.old.events + length (purging.purge_events (option_map (λ p. p.floor) purge))) }
+        ensures seen { IfOk result (λ purge. IfSome purge (λ p. p.shown ≡ true → seat.new.seen ≡ seat.new.last_call)) }
+        ensures refused { IfErr result (spec.Refuses (purging.purge_due_after S.opening least self.old.history)) }
+        ensures some { OnErr result (IsSome (purging.own_due_floor least (node_after S.opening self.old.history))) }
+        ensures seat { OnErr result (seat.new ≡ spec.with_last_call seat.old self.old.history) }
+        ensures still { result ≡ Ok None → seat.new ≡ spec.with_last_call seat.old self.old.history }
+        ensures begins { spec.Begins self.old.history seat.old }
+        ensures grows { IsPrefix seat.old.seen seat.new.seen }
+    {
+        seat.call_at(&mut self.history);
+        match self.core.due_floor(least) {
+            Some(floor) => Ok(Some(self.purge_to(seat, floor)?)),
+            None => Ok(None),
+        }
+    }
+
+    /// Purges the own table up to a version that it may be purged to, as a call of a seat, and publishes all that happened.
+    fn purge_to(&mut self, seat: &mut ReaderSeat<S>, floor: u64) -> Result<Purge, Fault>
+        requires allowed { purge_answer self.old.core.node floor ≡ Ok tt }
+        ensures floor { IfOk result (λ purge. purge.floor ≡ floor) }
+        ensures taken { OnOk result (self.new ≡ nodes.after_purge self.old floor self.new.published) }
+        ensures shown { IfOk result (λ purge. spec.PublishesWhereSaid purge.shown self.old self.new) }
+        ensures err { OnErr result (self.new ≡ self.old) }
+        ensures last_call { OnOk result (seat.new.last_call ≡ self.old.history ++ events.Purged floor ∷ []) }
+        ensures count { OnOk result (seat.new.events ≡ seat.old.events + 1) }
+        ensures seen { IfOk result (λ purge. purge.shown ≡ true → seat.new.seen ≡ seat.new.last_call) }
+        ensures refused { IfErr result (spec.Refuses (spec.delta_due_after self.old.history)) }
+        ensures due { OnOk result (spec.delta_due_after self.old.history ≡ Ok tt) }
+        ensures seat { OnErr result (seat.new ≡ spec.with_last_call seat.old self.old.history) }
+        ensures begins { spec.Begins self.old.history seat.old }
+        ensures grows { IsPrefix seat.old.seen seat.new.seen }
+    {
+        seat.call_at(&mut self.history);
+        if self.history.len() == u64::MAX {
+            return Err(Fault::TurnsSpent);
+        }
+        let me = *self.core.name();
+        let (upto, lowest) = (self.core.upto(&me), self.core.holdings().floor(&me));
+        self.lacking.add(me, (upto, lowest))?;
+        self.core.purge(floor)?;
+        self.history.add(EventRef::Purged(floor));
+        seat.count(&mut self.book);
+        let is_shown = self.refresh(seat);
+        Ok(Purge {
+            floor,
+            shown: is_shown,
+        })
     }
 
     /// Notes a call of a seat, which changes nothing else.

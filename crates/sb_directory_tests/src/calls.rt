@@ -168,6 +168,36 @@ fn a_floor_takes_rows(rt: HostRuntime) {
     answers(&rt, rt.alloc(), &cases);
 }
 
+/// A purge lets the older half of the removed keys go. It is an event. Watches and readers see nothing of it.
+#[test]
+fn a_purge_shows_nothing(rt: HostRuntime) {
+    let first = noted(&rt, b"a", b"y", 6);
+    let cases = [
+        (Call::Write(b"x"), Answer::Shown),
+        (Call::Write(b"y"), Answer::Shown),
+        (Call::Remove(b"x"), Answer::Shown),
+        (Call::Write(b"z"), Answer::Shown),
+        (Call::Remove(b"z"), Answer::Shown),
+        (Call::Watch(b"", 4), Answer::Done),
+        (Call::Purge(3), Answer::Purged(None)),
+        (Call::Purge(0), Answer::Purged(None)),
+        (Call::Read, Answer::Read(5, 5, 0)),
+        (Call::Purge(2), Answer::Purged(Some(3))),
+        (Call::Keys, Answer::Keys(2)),
+        (Call::OwnRows, Answer::Rows(1)),
+        (Call::Read, Answer::Read(6, 5, 0)),
+        (Call::Purge(2), Answer::Purged(None)),
+        (Call::Purge(1), Answer::Purged(Some(5))),
+        (Call::Keys, Answer::Keys(1)),
+        (Call::Poll(0), Answer::Polled(Polled::Empty)),
+        (Call::Write(b"y"), Answer::Shown),
+        (Call::Poll(0), first),
+        (Call::OwnRows, Answer::Rows(1)),
+        (Call::Read, Answer::Read(8, 6, 0)),
+    ];
+    answers(&rt, rt.alloc(), &cases);
+}
+
 /// The log's next write, its 4,097th, is under a key that the node has no room for.
 #[test]
 fn a_full_table_takes_no_new_key(rt: HostRuntime) {

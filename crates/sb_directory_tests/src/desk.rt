@@ -1,6 +1,8 @@
 //! A node, with its log and watches. Its calls as data, with what they answer.
 
-use crate::making::{commit, delta_of, delta_with_floor, first_of, key, name, node_of, prefix};
+use crate::making::{
+    commit, commit_removal, delta_of, delta_with_floor, first_of, key, name, node_of, prefix,
+};
 use crate::reached::Seated;
 use crate::{got, same_at, there};
 use sb_budget::Backlog;
@@ -20,6 +22,8 @@ use std::sync::Wait;
 pub(crate) enum Call {
     /// The log's next write, under this key, is committed and taken.
     Write(&'static [u8]),
+    /// The same of a removal of this key.
+    Remove(&'static [u8]),
     /// The log's next write is committed, and not taken.
     Commit(&'static [u8]),
     /// The write that was committed last is taken.
@@ -49,6 +53,10 @@ pub(crate) enum Call {
     Read,
     /// The reader counts the rows of b.
     Rows,
+    /// The reader counts the rows of a.
+    OwnRows,
+    /// The own table is purged if it has so many removed keys.
+    Purge(u64),
     /// A digest of all owners is made, and the delta for a peer that holds nothing.
     Tell,
     /// The news is taken, and the delta for a peer with that backlog is made.
@@ -71,6 +79,8 @@ pub(crate) enum Answer {
     /// How many events the reader has seen, and how far a and b are held.
     Read(u64, u64, u64),
     Rows(usize),
+    /// The new floor, if a purge was due. It is shown.
+    Purged(Option<u64>),
     /// How far the digest reports that a and b are held, and how many blocks the delta has.
     Told(u64, u64, usize),
     /// Up to which versions the news says that a and b were held, if it has them. Then how many owners it has, and how many
@@ -161,6 +171,7 @@ impl<S: DirectoryTag, H: Wait + Drop> Desk<S, H> {
     pub(crate) fn perform<Q: Wait + Abort>(&mut self, rt: &Q, call: Call) -> Answer {
         match call {
             Call::Write(text) => self.write(rt, text),
+            Call::Remove(text) => self.remove(rt, text),
             Call::Commit(text) => self.commit(rt, text),
             Call::Take => self.take(rt),
             Call::TakeOfAnother => self.take_of_another(rt),
@@ -173,9 +184,11 @@ impl<S: DirectoryTag, H: Wait + Drop> Desk<S, H> {
             Call::Poll(place) => self.poll(rt, place),
             Call::Refresh => shown(self.node.refresh(rt), Answer::Shown),
             Call::Conflict => Answer::Conflict(self.node.conflict(rt)),
-            Call::Keys => Answer::Keys(self.node.keys(rt)),
+            Call::Keys => Answer::Keys(self.node.key_count(rt)),
             Call::Read => self.read(rt),
-            Call::Rows => Answer::Rows(self.node.read(rt).2),
+            Call::Rows => Answer::Rows(self.node.read(rt).2[1]),
+            Call::OwnRows => Answer::Rows(self.node.read(rt).2[0]),
+            Call::Purge(least) => self.purge(rt, least),
             Call::Tell => self.tell(rt),
             Call::News => self.news(rt),
         }
@@ -196,6 +209,19 @@ impl<S: DirectoryTag, H: Wait + Drop> Desk<S, H> {
     fn write<Q: Wait + Abort>(&mut self, rt: &Q, text: &[u8]) -> Answer {
         self.commit(rt, text);
         self.take(rt)
+    }
+
+    fn remove<Q: Wait + Abort>(&mut self, rt: &Q, text: &[u8]) -> Answer {
+        self.committed = Some(commit_removal(rt, &mut self.log, text));
+        self.take(rt)
+    }
+
+    fn purge<Q: Wait + Abort>(&mut self, rt: &Q, least: u64) -> Answer {
+        match self.node.purge(rt, least) {
+            Ok(Some((floor, is_shown))) => shown(is_shown, Answer::Purged(Some(floor))),
+            Ok(None) => Answer::Purged(None),
+            Err(fault) => Answer::Refused(fault),
+        }
     }
 
     fn take_of_another<Q: Wait + Abort>(&mut self, rt: &Q) -> Answer {
@@ -305,8 +331,8 @@ impl<S: DirectoryTag, H: Wait + Drop> Desk<S, H> {
     fn told<Q: Wait + Abort>(&mut self, rt: &Q) -> (u64, u64) {
         let digest = got(rt, self.node.digest(rt, true));
         (
-            digest.number(&name(rt, b"a"), 0),
-            digest.number(&name(rt, b"b"), 0),
+            digest.start(&name(rt, b"a"), 0, 0).after,
+            digest.start(&name(rt, b"b"), 0, 0).after,
         )
     }
 

@@ -60,6 +60,11 @@ pub(crate) fn commit(rt: &impl Abort, log: &mut PlainLog, text: &[u8]) -> Commit
     got(rt, log.put(&key(rt, text), &weight(rt, 5)))
 }
 
+/// The log's next write: the removal of the key.
+pub(crate) fn commit_removal(rt: &impl Abort, log: &mut PlainLog, text: &[u8]) -> Committed {
+    got(rt, log.put(&key(rt, text), &Slot::Removed))
+}
+
 /// The first write of an owner.
 pub(crate) fn first_of(rt: &impl Abort, alloc: Global, owner: &[u8], text: &[u8]) -> Committed {
     commit(rt, &mut log_of(rt, alloc, owner), text)

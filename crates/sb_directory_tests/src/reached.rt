@@ -9,7 +9,7 @@ use sb_directory::{Directory, DirectoryTag, ReaderSeat};
 use sb_holdings::Report;
 use sb_log::Committed;
 use sb_node::NodeCore;
-use sb_types::{Delta, Fault};
+use sb_types::{Delta, Fault, Name};
 use sb_views::{NewHistory, NodeTag, Snapshot};
 use sb_watch::{Filter, Polled, WatchId};
 use std::alloc::Global;
@@ -17,16 +17,22 @@ use std::process::Abort;
 use std::sync::Wait;
 use std::sync::ledger::Blank;
 
-/// What a reader sees: how many events, how far a and b are held, and how many rows b has.
-pub(crate) type ReaderFindings = (u64, [u64; 2], usize);
+/// What a reader sees: how many events, how far a and b are held, and how many rows each of them has.
+pub(crate) type ReaderFindings = (u64, [u64; 2], [usize; 2]);
+
+/// How many rows an owner has.
+fn rows_of(rt: &impl Abort, owner: Name, snapshot: &Snapshot<'_>) -> usize {
+    let mut rows: usize = 0;
+    for _ in snapshot.rows(Some(owner), prefix(rt, b"")) {
+        rows = rows.saturating_add(1);
+    }
+    rows
+}
 
 /// What is seen after so many events.
 fn findings_of(rt: &impl Abort, events: u64, snapshot: &Snapshot<'_>) -> ReaderFindings {
     let (a, b) = (name(rt, b"a"), name(rt, b"b"));
-    let mut rows: usize = 0;
-    for _ in snapshot.rows(Some(b), prefix(rt, b"")) {
-        rows = rows.saturating_add(1);
-    }
+    let rows = [rows_of(rt, a, snapshot), rows_of(rt, b, snapshot)];
     (events, [snapshot.upto(&a), snapshot.upto(&b)], rows)
 }
 
@@ -123,14 +129,27 @@ impl<S: DirectoryTag, H: Wait + Drop> Seated<S, H> {
         self.directory.news(rt, seat, backlog)
     }
 
+    /// The new floor, if a purge was due, and whether it is shown.
+    pub(crate) fn purge<Q: Wait + Abort>(
+        &mut self,
+        rt: &Q,
+        least: u64,
+    ) -> Result<Option<(u64, bool)>, Fault> {
+        let seat = there(rt, self.seat.as_mut());
+        match self.directory.purge(rt, seat, least)? {
+            Some(purge) => Ok(Some((purge.floor, purge.shown))),
+            None => Ok(None),
+        }
+    }
+
     pub(crate) fn conflict<Q: Wait + Abort>(&mut self, rt: &Q) -> Option<u64> {
         let seat = there(rt, self.seat.as_mut());
         self.directory.conflict(rt, seat)
     }
 
-    pub(crate) fn keys<Q: Wait + Abort>(&mut self, rt: &Q) -> usize {
+    pub(crate) fn key_count<Q: Wait + Abort>(&mut self, rt: &Q) -> usize {
         let seat = there(rt, self.seat.as_mut());
-        self.directory.keys(rt, seat)
+        self.directory.key_count(rt, seat)
     }
 
     pub(crate) fn watch<Q: Wait + Abort>(

@@ -1,9 +1,10 @@
 //! The seats of a directory: how many it can have, and how it is closed with them.
 ghost use Rattle.std.specs.Prelude.{◌≡◌};
 
-use crate::making::{first_of, name, new_node};
+use crate::making::{commit, commit_removal, first_of, log_of, name, new_node};
 use crate::{got, same, same_at, there};
 use sb_directory::{Closing, Directory, DirectoryTag, ReaderSeat};
+use sb_log::Committed;
 use sb_node::NodeCore;
 use sb_types::Fault;
 use sb_views::NewHistory;
@@ -161,7 +162,7 @@ fn write_and_close<S: DirectoryTag, R: Wait + Abort>(
     let (directory, mut seats) = got(rt, made);
     let mut kept = there(rt, seats.pop());
     let version = write(rt, alloc, &directory, &mut kept);
-    let keys = directory.keys(rt, &mut kept);
+    let keys = directory.key_count(rt, &mut kept);
     (version, keys, close_twice(rt, directory, seats, kept))
 }
 
@@ -171,4 +172,67 @@ fn a_directory_is_closed_with_all_seats(rt: HostRuntime) {
     let core = new_node(&rt, alloc);
     let closed = write_and_close::<Brand, _>(&rt, alloc, NewHistory::new(), Blank::new(2), core);
     same(&rt, &closed, &(1, 1, (5, 1, 1, 1)));
+}
+
+/// Enters a write of the node's own from a seat that sees it.
+fn enter<S: DirectoryTag, H: Wait + Drop, R: Wait + Abort>(
+    rt: &R,
+    directory: &Directory<S, H>,
+    seat: &mut ReaderSeat<S>,
+    committed: &Committed,
+) {
+    let receipt = got(rt, directory.take_own(rt, seat, committed));
+    all_shown(rt, receipt.shown);
+}
+
+/// Purges the node's table from a seat that sees it, if one key is removed. Returns the new floor.
+fn purge<S: DirectoryTag, H: Wait + Drop, R: Wait + Abort>(
+    rt: &R,
+    directory: &Directory<S, H>,
+    seat: &mut ReaderSeat<S>,
+) -> Option<u64> {
+    let purge = got(rt, directory.purge(rt, seat, 1))?;
+    all_shown(rt, purge.shown);
+    Some(purge.floor)
+}
+
+/// Sets and removes a key from one of two seats, and purges twice from the other one. Returns the new floors and how
+/// many keys are left. Then how the directory closes: with one seat alone, and with both.
+fn purge_and_close<S: DirectoryTag, R: Wait + Abort>(
+    rt: &R,
+    alloc: Global,
+    history: NewHistory,
+    blank: Blank,
+    core: NodeCore,
+) -> ([Option<u64>; 2], usize, Closed)
+    requires history { history.seen.book ≡ S.history }
+    requires opening { S.opening ≡ core.node }
+    requires settings { S.settings ≡ core.settings }
+    requires name { blank.name ≡ S.name }
+    requires parts { blank.parts ≡ S.parts }
+    requires all { (2 ≡ S.seats) × (2 ≡ S.parts) }
+{
+    let made = Directory::<S, &R>::make(rt, alloc, history, blank, core, 2);
+    let (directory, mut seats) = got(rt, made);
+    let mut kept = there(rt, seats.pop());
+    let mut other = there(rt, seats.pop());
+    let mut log = log_of(rt, alloc, b"a");
+    let set = commit(rt, &mut log, b"x");
+    enter(rt, &directory, &mut kept, &set);
+    let removed = commit_removal(rt, &mut log, b"x");
+    enter(rt, &directory, &mut kept, &removed);
+    let first = purge(rt, &directory, &mut other);
+    let floors = [first, purge(rt, &directory, &mut other)];
+    let keys = directory.key_count(rt, &mut kept);
+    got(rt, seats.push(other));
+    (floors, keys, close_twice(rt, directory, seats, kept))
+}
+
+/// A purge is an event of the seat that makes it. If it is not due, nothing is counted.
+#[test]
+fn a_purge_is_counted(rt: HostRuntime) {
+    let alloc = rt.alloc();
+    let core = new_node(&rt, alloc);
+    let found = purge_and_close::<Brand, _>(&rt, alloc, NewHistory::new(), Blank::new(2), core);
+    same(&rt, &found, &([Some(2), None], 0, (5, 1, 3, 2)));
 }

@@ -14,12 +14,12 @@ use Rattle.sb_types.specs.declared.format.TheConstants.{FRAME_MARK, FRAME_VERSIO
 use Rattle.sb_types.specs.declared.limits.TheConstants.{PAYLOAD_MOST}
 use Rattle.sb_codec.specs.declared.message.Message.{Message}
 use Rattle.sb_codec.specs.Spelling.{number}
-use Rattle.sb_codec.specs.Fields.{Field, byte_field, number_field, bytes_field, whole as whole_field}
+use Rattle.sb_codec.specs.Fields.{Field, byte_field, number_field, bytes_field, whole_value as whole_field}
 use Rattle.sb_codec.specs.Messages.{spelling, is_message, Spells, TakesMemory, is_kind, fault_of, message_field, reading}
 use Rattle.sb_codec.proofs.Taken.{AreBytes, IsWide, byte_takes, bytes_takes, number_takes}
 use Rattle.sb_codec.proofs.Again.{bytes_again, number_again}
 use Rattle.sb_codec.proofs.Laws.{is_spelled, is_found, is_read}
-use Rattle.sb_frames.specs.Frames.{framed, frame, is_payload_length, IsFramed, HasPayload, Leads, Extends, Front, short, whole, bad, once, front_by, front_of_payload, front_after_length, front_after_version, front_after_mark, front_of}
+use Rattle.sb_frames.specs.Frames.{frame_of_payload, frame, is_payload_length, IsFramed, HasPayload, Leads, Extends, Front, short, whole, bad, front_after_field, front_by, front_of_payload, front_after_length, front_after_version, front_after_mark, front_of}
 use Rattle.sb_frames.specs.Receiving.{is_frame_fault}
 
 wide32 : IsWide w32 (2 ^ 32)
@@ -35,8 +35,8 @@ fits_length count fits = let parts = and_parts _ _ fits in (leb-true _ _ parts.0
 
 -- ---- a payload behind its header
 
-pub front_framed : (payload rest : List ℕ) → is_payload_length (length payload) ≡ true → front_of (framed payload ++ rest) ≡ front_of_payload payload rest
-unfolding framed front_of byte_field
+pub front_framed : (payload rest : List ℕ) → is_payload_length (length payload) ≡ true → front_of (frame_of_payload payload ++ rest) ≡ front_of_payload payload rest
+unfolding frame_of_payload front_of byte_field
 front_framed payload rest fits =
     let short : length payload < 2 ^ 32 = omega (arith, (fits_length (length payload) fits).1) in
     let count : number_field w32 (number w32 (length payload) ++ payload ++ rest) ≡ Some (length payload, payload ++ rest) =
@@ -127,30 +127,30 @@ in_front bytes front rest e are i =
       | inr le ↦ rw (get_or_past front i 0 le) (omega arith)
     ]
 
-pub length-framed : (payload : List ℕ) → length (framed payload) ≡ 6 + length payload
-unfolding framed number
+pub length-framed : (payload : List ℕ) → length (frame_of_payload payload) ≡ 6 + length payload
+unfolding frame_of_payload number
 length-framed payload = omega (arith, length-append (number w32 (length payload)) payload, wide32.len (length payload))
 
 -- the rest of what is framed is what stands behind the frame
 pub framed_rest : (bytes payload rest : List ℕ) → IsFramed bytes payload rest → drop (6 + length payload) bytes ≡ rest
-framed_rest bytes payload rest is = rw is.laid (drop_at (framed payload) rest (6 + length payload) (length-framed payload))
+framed_rest bytes payload rest is = rw is.laid (drop_at (frame_of_payload payload) rest (6 + length payload) (length-framed payload))
 
 pub has_payload : (bytes count body payload : List ℕ) (n : ℕ) → AreBytes bytes → HasLength bytes count body → n ≡ from_be_bytes w32 count → payload ≡ take n body → length payload ≡ n → 1 ≤ n → n ≤ PAYLOAD_MOST
     → IsFramed bytes payload (drop (6 + length payload) bytes)
-unfolding framed number
+unfolding frame_of_payload number
 has_payload bytes count body payload n are has is front len some most =
     let rest = drop n body in
     let parts : payload ++ rest ≡ body = rw front (take-append-drop n body) in
     let few : AreBytes count = in_front _ count body refl (behind bytes (FRAME_MARK ∷ FRAME_VERSION ∷ []) (count ++ body) has.laid are) in
     let same : number w32 (length payload) ≡ count = be_bytes_4 count (length payload) has.four few (len ∙ is) in
-    let laid : framed payload ++ rest ≡ FRAME_MARK ∷ FRAME_VERSION ∷ (count ++ body) =
+    let laid : frame_of_payload payload ++ rest ≡ FRAME_MARK ∷ FRAME_VERSION ∷ (count ++ body) =
     ap (λ (x : List ℕ). FRAME_MARK ∷ FRAME_VERSION ∷ (x ++ payload ++ rest)) same ∙ ap (λ (x : List ℕ). FRAME_MARK ∷ FRAME_VERSION ∷ x) (append_assoc count payload rest ∙ ap (λ (x : List ℕ). count ++ x) parts) in
     let framed : IsFramed bytes payload rest = record { limits = rw len (length_fits n some most); laid = has.laid ∙ sym laid } in
     subst (IsFramed bytes payload) (sym (framed_rest bytes payload rest framed)) framed
 
 -- ---- what is whole is a frame
 
-once_whole : {A : Type 0} (read : Option (A × List ℕ)) (next : A → List ℕ → Front) (m : Message) (rest : List ℕ) → once read next ≡ whole m rest
+once_whole : {A : Type 0} (read : Option (A × List ℕ)) (next : A → List ℕ → Front) (m : Message) (rest : List ℕ) → front_after_field read next ≡ whole m rest
     → (x : A) × (more : List ℕ) × (read ≡ Some (x, more)) × (next x more ≡ whole m rest)
 once_whole None next m rest e = absurd cc
 once_whole (Some x) next m rest e = (x.0, x.1, refl, e)
@@ -163,7 +163,7 @@ read_whole : (r : Result Message Fault) (rest : List ℕ) (m : Message) (more : 
 read_whole (Ok x) rest m more e = (cc, cc)
 read_whole (Err fault) rest m more e = absurd cc
 
-whole_payload : (count : ℕ) (bytes : List ℕ) (m : Message) (rest : List ℕ) → AreBytes bytes → once (bytes_field count bytes) front_of_payload ≡ whole m rest
+whole_payload : (count : ℕ) (bytes : List ℕ) (m : Message) (rest : List ℕ) → AreBytes bytes → front_after_field (bytes_field count bytes) front_of_payload ≡ whole m rest
     → (is_message m ≡ true) × (length (spelling m) ≡ count) × (bytes ≡ spelling m ++ rest)
 whole_payload count bytes m rest are e =
     let one = once_whole (bytes_field count bytes) front_of_payload m rest e in
@@ -172,29 +172,29 @@ whole_payload count bytes m rest are e =
     let spells = is_found one.0 m cut.0.1 read.0 in
     (spells.limits, sym (ap length spells.bytes) ∙ cut.0.0, cut.1 ∙ rw (spells.bytes, read.1) refl)
 
-whole_length : (bytes : List ℕ) (m : Message) (rest : List ℕ) → AreBytes bytes → once (number_field w32 bytes) front_after_length ≡ whole m rest
+whole_length : (bytes : List ℕ) (m : Message) (rest : List ℕ) → AreBytes bytes → front_after_field (number_field w32 bytes) front_after_length ≡ whole m rest
     → (is_message m ≡ true) × (bytes ≡ number w32 (length (spelling m)) ++ spelling m ++ rest)
 whole_length bytes m rest are e =
     let one = once_whole (number_field w32 bytes) front_after_length m rest e in
-    let fits = chosen_whole (is_payload_length one.0) (once (bytes_field one.0 one.1) front_of_payload) BadLength m rest one.3 in
+    let fits = chosen_whole (is_payload_length one.0) (front_after_field (bytes_field one.0 one.1) front_of_payload) BadLength m rest one.3 in
     let cut = ((number_takes wide32).parts bytes one.0 one.1 are one.2).1 in
     let back = whole_payload one.0 one.1 m rest (behind bytes (number w32 one.0) one.1 cut are) fits.1 in
     (back.0, cut ∙ ap (λ (x : List ℕ). number w32 one.0 ++ x) back.2 ∙ sym (append_assoc (number w32 one.0) (spelling m) rest) ∙ ap (λ n. number w32 n ++ spelling m ++ rest) (sym back.1))
 
-whole_version : (bytes : List ℕ) (m : Message) (rest : List ℕ) → AreBytes bytes → once (byte_field bytes) front_after_version ≡ whole m rest
+whole_version : (bytes : List ℕ) (m : Message) (rest : List ℕ) → AreBytes bytes → front_after_field (byte_field bytes) front_after_version ≡ whole m rest
     → (is_message m ≡ true) × (bytes ≡ FRAME_VERSION ∷ (number w32 (length (spelling m)) ++ spelling m ++ rest))
 whole_version bytes m rest are e =
     let one = once_whole (byte_field bytes) front_after_version m rest e in
-    let fits = chosen_whole (one.0 == FRAME_VERSION) (once (number_field w32 one.1) front_after_length) BadVersion m rest one.3 in
+    let fits = chosen_whole (one.0 == FRAME_VERSION) (front_after_field (number_field w32 one.1) front_after_length) BadVersion m rest one.3 in
     let cut = (byte_takes.parts bytes one.0 one.1 are one.2).1 in
     let back = whole_length one.1 m rest (behind bytes (one.0 ∷ []) one.1 cut are) fits.1 in
     (back.0, cut ∙ ap (λ n. n ∷ one.1) (eqb-true one.0 FRAME_VERSION fits.0) ∙ ap (λ (x : List ℕ). FRAME_VERSION ∷ x) back.1)
 
 pub whole_frame : (bytes : List ℕ) (m : Message) (rest : List ℕ) → AreBytes bytes → front_of bytes ≡ whole m rest → Leads bytes m rest
-unfolding front_of frame framed
+unfolding front_of frame frame_of_payload
 whole_frame bytes m rest are e =
     let one = once_whole (byte_field bytes) front_after_mark m rest e in
-    let fits = chosen_whole (one.0 == FRAME_MARK) (once (byte_field one.1) front_after_version) BadMark m rest one.3 in
+    let fits = chosen_whole (one.0 == FRAME_MARK) (front_after_field (byte_field one.1) front_after_version) BadMark m rest one.3 in
     let cut = (byte_takes.parts bytes one.0 one.1 are one.2).1 in
     let back = whole_version one.1 m rest (behind bytes (one.0 ∷ []) one.1 cut are) fits.1 in
     record { limits = back.0; laid = cut ∙ ap (λ n. n ∷ one.1) (eqb-true one.0 FRAME_MARK fits.0) ∙ ap (λ (x : List ℕ). FRAME_MARK ∷ x) back.1 }
@@ -210,10 +210,10 @@ are_bytes bytes all i =
 
 pub leads : (bytes payload rest : List ℕ) (m : Message) → IsFramed bytes payload rest → Spells payload m → Leads bytes m rest
 unfolding frame
-leads bytes payload rest m is spells = record { limits = spells.limits; laid = is.laid ∙ ap (λ p. framed p ++ rest) spells.bytes }
+leads bytes payload rest m is spells = record { limits = spells.limits; laid = is.laid ∙ ap (λ p. frame_of_payload p ++ rest) spells.bytes }
 
 pub within_bytes : (bytes payload rest : List ℕ) → IsFramed bytes payload rest → 6 + length payload ≤ length bytes
-within_bytes bytes payload rest is = omega (arith, ap length is.laid, length-append (framed payload) rest, length-framed payload)
+within_bytes bytes payload rest is = omega (arith, ap length is.laid, length-append (frame_of_payload payload) rest, length-framed payload)
 
 memory_or_not : (fault : Fault) → (fault ≡ NoMemory) ⊎ (fault ≢ NoMemory)
 memory_or_not NoMemory = inl refl
@@ -236,7 +236,7 @@ IsFault (bad fault) = is_frame_fault fault ≡ true
 IsFault short = Unit {0}
 IsFault (whole m rest) = Unit {0}
 
-once_known : {A : Type 0} (read : Option (A × List ℕ)) (next : A → List ℕ → Front) → ((x : A) (more : List ℕ) → IsFault (next x more)) → IsFault (once read next)
+once_known : {A : Type 0} (read : Option (A × List ℕ)) (next : A → List ℕ → Front) → ((x : A) (more : List ℕ) → IsFault (next x more)) → IsFault (front_after_field read next)
 once_known None next each = tt
 once_known (Some x) next each = each x.0 x.1
 
@@ -317,9 +317,9 @@ number_stays = record {
 }
 
 once_extends : {A : Type 0} {field : Field A} (bytes more : List ℕ) (next : A → List ℕ → Front) → Stays field → ((x : A) (rest : List ℕ) → Extends (next x rest) more (next x (rest ++ more)))
-    → Extends (once (field bytes) next) more (once (field (bytes ++ more)) next)
+    → Extends (front_after_field (field bytes) next) more (front_after_field (field (bytes ++ more)) next)
 once_extends {A} {field} bytes more next stays each = at (field bytes) refl where
-  at : (read : Option (A × List ℕ)) → field bytes ≡ read → Extends (once read next) more (once (field (bytes ++ more)) next)
+  at : (read : Option (A × List ℕ)) → field bytes ≡ read → Extends (front_after_field read next) more (front_after_field (field (bytes ++ more)) next)
   at None e = tt
   at (Some x) e = rw (stays.more bytes x.0 x.1 more e) (each x.0 x.1)
 

@@ -9,7 +9,7 @@ use Rattle.sb_types.specs.declared.format.TheConstants.{FRAME_MARK, FRAME_VERSIO
 use Rattle.sb_codec.specs.declared.message.Message.{Message}
 use Rattle.sb_codec.specs.Spelling.{number}
 use Rattle.sb_codec.specs.Messages.{TakesMemory}
-use Rattle.sb_frames.specs.Frames.{framed, IsFramed, IsLoneFrame, Leads, HasPayload, Extends, bad, front_of}
+use Rattle.sb_frames.specs.Frames.{frame_of_payload, IsFramed, IsLoneFrame, Leads, HasPayload, Extends, bad, front_of}
 use Rattle.sb_frames.specs.Streams.{open_with, shut, Takes, TakesFirst}
 use Rattle.sb_frames.proofs.Fronts.{front_frame, not_for_memory, front_extends, length-framed}
 
@@ -19,16 +19,16 @@ IsRefused held fault = (front_of held ≡ bad fault) ⊎ ((fault ≡ NoMemory) �
 -- ---- one whole frame, and what stands behind it
 
 pub lone_payload : (bytes payload : List ℕ) → IsFramed bytes payload [] → drop 6 bytes ≡ payload
-unfolding framed number
+unfolding frame_of_payload number
 lone_payload bytes payload is =
-    ap (drop 6) (is.laid ∙ append-nil (framed payload)) ∙ drop_at (FRAME_MARK ∷ FRAME_VERSION ∷ number w32 (length payload)) payload 6 refl
+    ap (drop 6) (is.laid ∙ append-nil (frame_of_payload payload)) ∙ drop_at (FRAME_MARK ∷ FRAME_VERSION ∷ number w32 (length payload)) payload 6 refl
 
 -- what was split off is the frame, and no byte more
 pub is_lone : (bytes payload rest : List ℕ) → IsFramed bytes payload rest → TakesMemory payload → IsLoneFrame (take (6 + length payload) bytes)
 is_lone bytes payload rest is takes =
-    let front : take (6 + length payload) bytes ≡ framed payload =
-    ap (take (6 + length payload)) is.laid ∙ ap (λ n. take n (framed payload ++ rest)) (sym (length-framed payload)) ∙ take-append_seam (framed payload) rest in
-    (payload, record { limits = is.limits; laid = front ∙ sym (append-nil (framed payload)) }, takes)
+    let front : take (6 + length payload) bytes ≡ frame_of_payload payload =
+    ap (take (6 + length payload)) is.laid ∙ ap (λ n. take n (frame_of_payload payload ++ rest)) (sym (length-framed payload)) ∙ take-append_seam (frame_of_payload payload) rest in
+    (payload, record { limits = is.limits; laid = front ∙ sym (append-nil (frame_of_payload payload)) }, takes)
 
 pub leads_before : (bytes rest : List ℕ) (m : Message) → Leads bytes m [] → Leads (bytes ++ rest) m rest
 leads_before bytes rest m leads = record { limits = leads.limits; laid = ap (λ (x : List ℕ). x ++ rest) leads.laid ∙ append_assoc _ [] rest }

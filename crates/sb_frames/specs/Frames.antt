@@ -12,11 +12,11 @@ use Rattle.sb_codec.specs.Fields.{byte_field, number_field, bytes_field}
 use Rattle.sb_codec.specs.Messages.{spelling, is_message, TakesMemory, reading}
 
 -- the mark, the version and the payload's length, and the payload
-unfoldable pub framed : List ℕ → List ℕ
-framed payload = FRAME_MARK ∷ FRAME_VERSION ∷ (number w32 (length payload) ++ payload)
+unfoldable pub frame_of_payload : List ℕ → List ℕ
+frame_of_payload payload = FRAME_MARK ∷ FRAME_VERSION ∷ (number w32 (length payload) ++ payload)
 
 unfoldable pub frame : Message → List ℕ
-frame message = framed (spelling message)
+frame message = frame_of_payload (spelling message)
 
 -- a payload may be so long
 abbrev pub is_payload_length : ℕ → Bool
@@ -25,7 +25,7 @@ is_payload_length count = is_between 1 PAYLOAD_MOST count
 -- the bytes are a payload behind its header, and then a rest
 pub record IsFramed (bytes payload rest : List ℕ) : Type 0 where
   pub limits : is_payload_length (length payload) ≡ true
-  pub laid : bytes ≡ framed payload ++ rest
+  pub laid : bytes ≡ frame_of_payload payload ++ rest
 
 -- a whole payload of a kind of message that takes memory stands in front
 abbrev pub HasPayload : List ℕ → Type 0
@@ -47,9 +47,9 @@ pub data Front : Type 0 where
   bad : Fault → Front
 
 -- a field, once it has come, and what its value and the bytes behind it lead to
-abbrev pub once : {A : Type 0} → Option (A × List ℕ) → (A → List ℕ → Front) → Front
-once None next = short
-once (Some x) next = next x.0 x.1
+abbrev pub front_after_field : {A : Type 0} → Option (A × List ℕ) → (A → List ℕ → Front) → Front
+front_after_field None next = short
+front_after_field (Some x) next = next x.0 x.1
 
 abbrev pub front_by : Result Message Fault → List ℕ → Front
 front_by (Ok message) rest = whole message rest
@@ -59,17 +59,17 @@ abbrev pub front_of_payload : List ℕ → List ℕ → Front
 front_of_payload payload rest = front_by (reading payload) rest
 
 abbrev pub front_after_length : ℕ → List ℕ → Front
-front_after_length count bytes = if is_payload_length count then once (bytes_field count bytes) front_of_payload else bad BadLength
+front_after_length count bytes = if is_payload_length count then front_after_field (bytes_field count bytes) front_of_payload else bad BadLength
 
 abbrev pub front_after_version : ℕ → List ℕ → Front
-front_after_version version bytes = if version == FRAME_VERSION then once (number_field w32 bytes) front_after_length else bad BadVersion
+front_after_version version bytes = if version == FRAME_VERSION then front_after_field (number_field w32 bytes) front_after_length else bad BadVersion
 
 abbrev pub front_after_mark : ℕ → List ℕ → Front
-front_after_mark mark bytes = if mark == FRAME_MARK then once (byte_field bytes) front_after_version else bad BadMark
+front_after_mark mark bytes = if mark == FRAME_MARK then front_after_field (byte_field bytes) front_after_version else bad BadMark
 
 -- The mark is looked at as soon as it has come, then the version, the length and the payload.
 unfoldable pub front_of : List ℕ → Front
-front_of bytes = once (byte_field bytes) front_after_mark
+front_of bytes = front_after_field (byte_field bytes) front_after_mark
 
 -- what stands at the front once more bytes have come: only what was too short may become something else
 abbrev pub Extends : Front → List ℕ → Front → Type 0

@@ -5,7 +5,7 @@ ghost use Rattle.sb_frames.specs.Frames.{short, bad, front_of, IsLoneFrame, HasP
 ghost use Rattle.sb_frames.specs.Streams.{open_with, Feeds, TakesFirst, TakesNext};
 ghost use Rattle.sb_frames.specs.Receiving.{is_shut, held_of, end_of, Fills, OnlyWhereReadFailed};
 
-use crate::front::payload_in;
+use crate::first_payload::payload_in;
 use crate::last_read::LastRead;
 use crate::steps::{Steps, read_telling};
 use bytes::{Bytes, BytesMut};

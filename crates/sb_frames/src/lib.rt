@@ -36,8 +36,8 @@
 #![tactic(auto)]
 
 mod connection;
+mod first_payload;
 mod frames;
-mod front;
 mod last_read;
 mod last_write;
 mod laws;

@@ -1,5 +1,5 @@
 -- What is held of all owners, as a map, and how it changes at one owner.
-use Rattle.std.proofs.Common.{◌≡◌, ℕ, ◌+◌, ◌-◌, ◌≤◌, ◌<◌, Bool, true, false, cond, ◌&&◌, ◌||◌, List, [], ◌∷◌, map, filter, length, Option, Some, None, IfSome, IsSomeAnd, is_some, unwrap_or, Result, Ok, Err, OnOk, OnErr, refl, sym, ap, subst, ◌∙◌, nat_eq, nat_lt, arith, ltb-true, lt-ltb, eq-eqb, T}
+use Rattle.std.proofs.Common.{◌≡◌, ℕ, ◌+◌, ◌-◌, ◌≤◌, ◌<◌, Bool, true, false, cond, ◌&&◌, ◌||◌, List, [], ◌∷◌, map, filter, length, Option, Some, None, IfSome, IsSomeAnd, is_some, unwrap_or, Result, Ok, Err, OnOk, OnErr, refl, sym, ap, subst, ◌∙◌, nat_eq, nat_lt, nat_le, arith, ltb-true, lt-ltb, eq-eqb, T}
 use Rattle.std.proofs.lemmas.Bool.{cond_both, cond-true, cond-false, false≢true, or_left, or_right}
 use Rattle.std.proofs.lemmas.Cmp.{nat_list_cmp_total, tied_itself}
 use Rattle.std.specs.FinMap.Entries.{below_all}
@@ -25,10 +25,11 @@ use Rattle.std.proofs.lemmas.Map.Steps.{set_value_same}
 use Rattle.sb_types.specs.declared.fault.Fault.{Fault}
 use Rattle.sb_types.specs.Records.{Entry, Stage, Holder}
 use Rattle.sb_table.specs.Plain.{with_entry}
-use Rattle.sb_holdings.specs.Shown.{own, stage_beyond}
-use Rattle.sb_holdings.specs.Plain.{alone, held_of, IsKeptHolder, IsHoldings, is_from, each_shown, holders_from}
+use Rattle.sb_table.specs.Floors.{table_at_floor}
+use Rattle.sb_holdings.specs.Shown.{holder_after_write, own_purged, stage_beyond}
+use Rattle.sb_holdings.specs.Plain.{table_holder, held_of, IsKeptHolder, IsHoldings, is_from, each_shown, holders_from}
 use Rattle.sb_types.proofs.Texts.{same_text, text_same}
-use Rattle.sb_holdings.specs.Held.{Held, nothing, is_nothing, holder_of, with_holder, with_owner, written}
+use Rattle.sb_holdings.specs.Held.{Held, empty_holder, is_nothing, holder_of, with_holder, with_owner, held_after_write, purged_own}
 use Rattle.sb_holdings.specs.Ends.{has_place}
 use Rattle.sb_holdings.specs.Holders.{Dropped}
 
@@ -118,7 +119,7 @@ module _ (held : Held) (owner : List ℕ) (h : Holder) (is : IsHoldings held) (o
     limit = len-with held.owners owner h is.limit place;
   }
 
-  kept-same : (o : Option Holder) → IfSome o (λ x. is_nothing x ≡ false) → standing (unwrap_or o nothing) ≡ o
+  kept-same : (o : Option Holder) → IfSome o (λ x. is_nothing x ≡ false) → standing (unwrap_or o empty_holder) ≡ o
   kept-same None some = refl
   kept-same (Some x) some = cond-false (is_nothing x) None (Some x) some
 
@@ -209,11 +210,11 @@ own-some me holders up is = some-there (found holders me) (own-there me holders 
 pub own-alone : (me : List ℕ) (holders : List (List ℕ × Holder)) (t : Holder) → Rise holders → IsHoldings (held_of me holders) → found holders me ≡ Some t → t.stage ≡ None
 own-alone me holders t up is at = subst (λ (o : Option Holder). IsSomeAnd o (λ x. x.stage ≡ None)) at (own-there me holders up is)
 
-pub own-now : (held : Held) (me : List ℕ) (holders : List (List ℕ × Holder)) → Rise holders → held_of me holders ≡ held → holder_of held.owners held.me ≡ unwrap_or (found holders me) nothing
-own-now held me holders up view = ap (λ (h : Held). holder_of h.owners h.me) (sym view) ∙ ap (λ (o : Option Holder). unwrap_or o nothing) (get-from me holders up me)
+pub own-now : (held : Held) (me : List ℕ) (holders : List (List ℕ × Holder)) → Rise holders → held_of me holders ≡ held → holder_of held.owners held.me ≡ unwrap_or (found holders me) empty_holder
+own-now held me holders up view = ap (λ (h : Held). holder_of h.owners h.me) (sym view) ∙ ap (λ (o : Option Holder). unwrap_or o empty_holder) (get-from me holders up me)
 
 module _ (held : Held) (me : List ℕ) (old new : BTreeMap (List ℕ) Holder) (t w : Holder) (up : Rise old.entries) (up_new : Rise new.entries) (at : found old.entries me ≡ Some t) (through : WritesThrough by_text (by_text me) old w new)
-    (is : IsHoldings (held_of me old.entries)) (view : held_of me old.entries ≡ held) (e : Entry) where
+    (is : IsHoldings (held_of me old.entries)) (view : held_of me old.entries ≡ held) where
   abbrev before : Held
   before = held_of me old.entries
 
@@ -241,28 +242,40 @@ module _ (held : Held) (me : List ℕ) (old new : BTreeMap (List ℕ) Holder) (t
             (ap is_some (get-from me old.entries up me) ∙ ap is_some at))) is.limit;
       })
 
-  own-written : e.version ≡ t.shown.held + 1 → ◌≡◌ {A = Holder} (own t e) (alone (with_entry t.shown e))
-  own-written next =
+  own-written : (e : Entry) → e.version ≡ t.shown.held + 1 → ◌≡◌ {A = Holder} (holder_after_write t e) (table_holder (with_entry t.shown e))
+  own-written e next =
       cond-true (nat_eq e.version (t.shown.held + 1)) (record { shown = with_entry t.shown e; stage = stage_beyond e.version t.stage }) t (eq-eqb e.version _ next)
       ∙ ap (λ (o : Option Stage). let h : Holder = record { shown = with_entry t.shown e; stage = stage_beyond e.version o } in h) (own-alone me old.entries t up is at)
 
-  pub own-ok : (r : Result (Unit {0}) Fault) → OnOk r (w ≡ alone (with_entry t.shown e)) → e.version ≡ t.shown.held + 1 → OnOk r (held_of me new.entries ≡ written held e)
-  own-ok (Err fault) ok next = tt
-  own-ok (Ok u) ok next =
+  pub own-ok : (e : Entry) (r : Result (Unit {0}) Fault) → OnOk r (w ≡ table_holder (with_entry t.shown e)) → e.version ≡ t.shown.held + 1 → OnOk r (held_of me new.entries ≡ held_after_write held e)
+  own-ok e (Err fault) ok next = tt
+  own-ok e (Ok u) ok next =
       lent ∙ ap (λ (x : Holder). let h : Held = record { me = me; owners = insert before.owners me x } in h)
-      (ok ∙ sym (own-written next) ∙ ap (λ (o : Option Holder). own (unwrap_or o nothing) e) (sym (get-from me old.entries up me ∙ at)))
-      ∙ ap (λ (h : Held). written h e) view
+      (ok ∙ sym (own-written e next) ∙ ap (λ (o : Option Holder). holder_after_write (unwrap_or o empty_holder) e) (sym (get-from me old.entries up me ∙ at)))
+      ∙ ap (λ (h : Held). held_after_write h e) view
 
   lent-same : w ≡ t → held_of me new.entries ≡ held_of me old.entries
   lent-same same = ap (held_of me) (through.0 ∙ set_value_same _ old.entries w (at ∙ ap (λ (u : Holder). Some u) (sym same)))
 
-  pub own-err : (r : Result (Unit {0}) Fault) → OnErr r (w ≡ t) → OnErr r (held_of me new.entries ≡ held)
-  own-err (Ok u) err = tt
-  own-err (Err fault) err = lent-same err ∙ view
+  pub own-err : (e : Entry) (r : Result (Unit {0}) Fault) → OnErr r (w ≡ t) → OnErr r (held_of me new.entries ≡ held)
+  own-err e (Ok u) err = tt
+  own-err e (Err fault) err = lent-same err ∙ view
 
-  pub own-kept : (r : Result (Unit {0}) Fault) → OnOk r (w ≡ alone (with_entry t.shown e)) → OnErr r (w ≡ t) → IsKeptHolder w → IsHoldings (held_of me new.entries)
-  own-kept (Err fault) ok err kept = subst IsHoldings (sym (lent-same err)) is
-  own-kept (Ok u) ok err kept = kept-own kept (ap (λ (h : Holder). h.stage) ok)
+  pub own-kept : (e : Entry) (r : Result (Unit {0}) Fault) → OnOk r (w ≡ table_holder (with_entry t.shown e)) → OnErr r (w ≡ t) → IsKeptHolder w → IsHoldings (held_of me new.entries)
+  own-kept e (Err fault) ok err kept = subst IsHoldings (sym (lent-same err)) is
+  own-kept e (Ok u) ok err kept = kept-own kept (ap (λ (h : Holder). h.stage) ok)
+
+  pub own-purged : (floor : ℕ) → w ≡ own_purged floor t → held_of me new.entries ≡ purged_own held floor
+  own-purged floor is_purged =
+      lent ∙ ap (λ (x : Holder). let h : Held = record { me = me; owners = insert before.owners me x } in h)
+      (is_purged ∙ ap (λ (o : Option Holder). own_purged floor (unwrap_or o empty_holder)) (sym (get-from me old.entries up me ∙ at)))
+      ∙ ap (λ (h : Held). purged_own h floor) view
+
+  pub own-purged_kept : (floor : ℕ) → w ≡ own_purged floor t → IsKeptHolder w → IsHoldings (held_of me new.entries)
+  own-purged_kept floor is_purged kept =
+      kept-own kept (ap (λ (h : Holder). h.stage) is_purged
+      ∙ cond_both (nat_lt t.shown.floor floor && nat_le floor t.shown.held) (record { shown = table_at_floor t.shown.held floor t.shown; stage = t.stage }) t (λ (h : Holder). h.stage ≡ t.stage) (λ _. refl) (λ _. refl)
+      ∙ own-alone me old.entries t up is at)
 
 -- ---- the tables from an owner on
 

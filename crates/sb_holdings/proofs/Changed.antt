@@ -11,21 +11,21 @@ use Rattle.sb_types.specs.Limits.{is_entry}
 use Rattle.sb_types.specs.Writes.{IsHolder}
 use Rattle.sb_table.specs.Plain.{IsPlainTable}
 use Rattle.sb_table.proofs.Plain.{nothing_plain}
-use Rattle.sb_holdings.specs.Held.{Held, nothing, holder_of, shown_of, written}
-use Rattle.sb_holdings.specs.Plain.{alone, IsKeptHolder, IsHoldings, next_version}
+use Rattle.sb_holdings.specs.Held.{Held, empty_holder, holder_of, shown_of, held_after_write}
+use Rattle.sb_holdings.specs.Plain.{table_holder, IsKeptHolder, IsHoldings, next_version}
 use Rattle.sb_types.proofs.Texts.{same_text}
 use Rattle.sb_holdings.proofs.ByOwner.{by_text, some-there}
 
 -- ---- what is held of an owner
 
-IsHolder-plain : (t : Table) → IsPlainTable t → IsHolder (alone t)
+IsHolder-plain : (t : Table) → IsPlainTable t → IsHolder (table_holder t)
 IsHolder-plain t plain = record {
   shown = record { run = plain.run; floor = omega (arith, plain.floor); live = live-above t.floor 0 t.entries (omega (arith, plain.floor)) plain.run.ascending };
   stage = tt;
 }
 
-kept_or_nothing : (o : Option Holder) → IfSome o IsKeptHolder → IsHolder (unwrap_or o nothing)
-kept_or_nothing None is = IsHolder-plain nothing.shown nothing_plain
+kept_or_nothing : (o : Option Holder) → IfSome o IsKeptHolder → IsHolder (unwrap_or o empty_holder)
+kept_or_nothing None is = IsHolder-plain empty_holder.shown nothing_plain
 kept_or_nothing (Some h) is = is.is
 
 pub IsHolder-held : (held : Held) → IsHoldings held → (owner : List ℕ) → IsHolder (holder_of held.owners owner)
@@ -39,7 +39,7 @@ same_owners = same_map nat_list_cmp_total (slice_cmp-IsAntisymmetric nat_cmp-IsA
 abbrev pub with_own : Held → Holder → Held
 with_own held h = record { me = held.me; owners = insert held.owners held.me h }
 
-stands : (o : Option Holder) → is_some o ≡ true → Some (unwrap_or o nothing) ≡ o
+stands : (o : Option Holder) → is_some o ≡ true → Some (unwrap_or o empty_holder) ≡ o
 stands None there = absurd (false≢true there)
 stands (Some h) there = refl
 
@@ -52,7 +52,7 @@ with_own-same held is =
     ∙ cond_both (eq_by_cmp by_text q held.me) (Some h) (get held.owners q) (λ (o : Option Holder). o ≡ get held.owners q)
     (λ tied. stands (get held.owners held.me) (some-there (get held.owners held.me) is.own) ∙ sym (ap (get held.owners) (same_text q held.me (texts_ties q held.me ∙ tied)))) (λ _. refl)))
 
-pub written-unfit : (held : Held) (e : Entry) → IsHoldings held → (e.version ≡ (shown_of held held.me).held + 1 → ⊥) → written held e ≡ held
+pub written-unfit : (held : Held) (e : Entry) → IsHoldings held → (e.version ≡ (shown_of held held.me).held + 1 → ⊥) → held_after_write held e ≡ held
 written-unfit held e is unfit =
     let h = holder_of held.owners held.me in
     ap (with_own held) (cond-false (nat_eq e.version (h.shown.held + 1)) _ h (false_from_ne_true _ (λ same. unfit (eqb-true e.version (h.shown.held + 1) same))))

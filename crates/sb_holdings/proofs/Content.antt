@@ -6,7 +6,7 @@ use Rattle.sb_types.specs.declared.entry.Write.{Write}
 use Rattle.sb_types.specs.Records.{Entry}
 use Rattle.sb_types.specs.Runs.{Stands, are_ascending, are_distinct, has_key, IsRun, IsTable}
 use Rattle.sb_types.specs.Writes.{Tells, Holds}
-use Rattle.sb_holdings.specs.Contents.{numbered, last_each, content_table}
+use Rattle.sb_holdings.specs.Contents.{entries_of_writes, last_each, content_table}
 use Rattle.sb_types.proofs.Standing.{keyed, has, lacks}
 use Rattle.sb_table.proofs.Order.{lower, behind, at_most, run_kept}
 use Rattle.sb_holdings.proofs.Telling.{tells_live, within_writes}
@@ -75,26 +75,26 @@ last_greatest a (y ∷ ys) x e h s (inr t) k =
     (last_cases y ys x s)
 
 module _ (writes : List Write) where
-  last_run : IsRun 0 (length writes) (last_each (numbered 0 writes))
+  last_run : IsRun 0 (length writes) (last_each (entries_of_writes 0 writes))
   last_run = record {
-    ascending = ascending_last 0 (numbered 0 writes) (numbered_ascends 0 writes);
-    most = at_most 0 (length writes) (last_each (numbered 0 writes)) (omega arith) (λ e s. within_writes e (of_numbered writes e (last_stands _ e s)));
-    distinct = distinct_last (numbered 0 writes);
+    ascending = ascending_last 0 (entries_of_writes 0 writes) (numbered_ascends 0 writes);
+    most = at_most 0 (length writes) (last_each (entries_of_writes 0 writes)) (omega arith) (λ e s. within_writes e (of_numbered writes e (last_stands _ e s)));
+    distinct = distinct_last (entries_of_writes 0 writes);
   }
 
-  last_tells : (floor : ℕ) → floor ≤ length writes → Tells writes floor 0 (length writes) (last_each (numbered 0 writes))
+  last_tells : (floor : ℕ) → floor ≤ length writes → Tells writes floor 0 (length writes) (last_each (entries_of_writes 0 writes))
   last_tells floor l = record {
     reach = omega arith;
     reach_floor = l;
     true_each = λ e s. of_numbered writes e (last_stands _ e s);
     whole = λ e w lo hi. ⊎_elim inl
         (λ b. inr (inl (b.0, of_numbered writes b.0 b.1, b.2, b.3)))
-        (last_or_not 0 (numbered 0 writes) e (numbered_ascends 0 writes) (in_numbered writes e w));
-    past = λ e x w g s k o. absurd (omega (arith, o, last_greatest 0 (numbered 0 writes) x e (numbered_ascends 0 writes) s (in_numbered writes e w) (sym k)));
+        (last_or_not 0 (entries_of_writes 0 writes) e (numbered_ascends 0 writes) (in_numbered writes e w));
+    past = λ e x w g s k o. absurd (omega (arith, o, last_greatest 0 (entries_of_writes 0 writes) x e (numbered_ascends 0 writes) s (in_numbered writes e w) (sym k)));
   }
 
   pub content_is : (floor : ℕ) → floor ≤ length writes → IsTable (content_table floor writes)
-  content_is floor l = record { run = run_kept _ last_run; floor = l; live = live-live floor (last_each (numbered 0 writes)) }
+  content_is floor l = record { run = run_kept _ last_run; floor = l; live = live-live floor (last_each (entries_of_writes 0 writes)) }
 
   pub content_tells : (floor : ℕ) → floor ≤ length writes → Holds writes (content_table floor writes)
   content_tells floor l = tells_live (last_tells floor l)

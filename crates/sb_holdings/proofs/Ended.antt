@@ -6,7 +6,7 @@ use Rattle.sb_types.specs.declared.limits.TheConstants.{ENTRIES_MOST}
 use Rattle.sb_types.specs.Records.{Entry, Block}
 use Rattle.sb_types.specs.Limits.{are_block_parts, is_delta, is_delta_block}
 use Rattle.sb_types.specs.Runs.{Stands, IsBlock, are_ascending, are_distinct, last_version}
-use Rattle.sb_holdings.specs.Holders.{named}
+use Rattle.sb_holdings.specs.Holders.{owner_block}
 
 pub IsBlock-parts : (b : Block) → are_block_parts b.after b.upto b.entries ≡ true → IsBlock b
 IsBlock-parts b is =
@@ -25,7 +25,7 @@ IsBlock-delta b is = IsBlock-parts b (and_parts _ (are_block_parts b.after b.upt
 
 -- a block in parts
 pub in_parts : (b : Block) (owner : List ℕ) (floor after upto : ℕ) (entries : List Entry) → owner ≡ b.owner → floor ≡ b.floor → after ≡ b.after → upto ≡ b.upto → entries ≡ b.entries →
-    named owner floor after upto entries ≡ b
+    owner_block owner floor after upto entries ≡ b
 in_parts b owner floor after upto entries owner_is floor_is after_is upto_is entries_is =
     λ i. record { owner = owner_is i; floor = floor_is i; after = after_is i; upto = upto_is i; entries = entries_is i }
 

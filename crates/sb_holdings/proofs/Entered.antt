@@ -4,23 +4,23 @@ use Rattle.std.proofs.lemmas.Bool.{and_parts, ltb-true}
 use Rattle.std.proofs.lemmas.List.{take_more}
 use Rattle.sb_types.specs.declared.limits.TheConstants.{KEYS_MOST}
 use Rattle.sb_types.specs.Records.{Entry, Table}
-use Rattle.sb_types.specs.Runs.{are_ascending, are_distinct, entered, last_version}
+use Rattle.sb_types.specs.Runs.{are_ascending, are_distinct, entries_after, last_version}
 use Rattle.sb_table.specs.Plain.{is_full_for, with_entry}
 use Rattle.sb_table.proofs.Ascent.{last_version-push}
 use Rattle.sb_table.proofs.Enter.{length-entered, length-entered_full}
-use Rattle.sb_holdings.specs.Entering.{entered_each}
+use Rattle.sb_holdings.specs.Entering.{entries_after_each}
 use Rattle.sb_holdings.specs.Plain.{with_entries}
 use Rattle.sb_holdings.specs.Ends.{keys_with}
 use Rattle.sb_holdings.proofs.Entering.{one_by_one}
 use Rattle.sb_table.proofs.Order.{distinct_taken}
 
-entered_each-push : (entries xs : List Entry) (e : Entry) → entered_each entries (xs ++ e ∷ []) ≡ entered (entered_each entries xs) (e ∷ [])
+entered_each-push : (entries xs : List Entry) (e : Entry) → entries_after_each entries (xs ++ e ∷ []) ≡ entries_after (entries_after_each entries xs) (e ∷ [])
 entered_each-push entries [] e = refl
-entered_each-push entries (x ∷ xs) e = entered_each-push (entered entries (x ∷ [])) xs e
+entered_each-push entries (x ∷ xs) e = entered_each-push (entries_after entries (x ∷ [])) xs e
 
-entered-push : (entries xs : List Entry) (e : Entry) → are_distinct xs ≡ true → are_distinct (xs ++ e ∷ []) ≡ true → entered (entered entries xs) (e ∷ []) ≡ entered entries (xs ++ e ∷ [])
+entered-push : (entries xs : List Entry) (e : Entry) → are_distinct xs ≡ true → are_distinct (xs ++ e ∷ []) ≡ true → entries_after (entries_after entries xs) (e ∷ []) ≡ entries_after entries (xs ++ e ∷ [])
 entered-push entries xs e front apart =
-    ap (λ (es : List Entry). entered es (e ∷ [])) (sym (one_by_one entries xs front)) ∙ sym (entered_each-push entries xs e) ∙ one_by_one entries (xs ++ e ∷ []) apart
+    ap (λ (es : List Entry). entries_after es (e ∷ [])) (sym (one_by_one entries xs front)) ∙ sym (entered_each-push entries xs e) ∙ one_by_one entries (xs ++ e ∷ []) apart
 
 pub with_entries-nil : (t : Table) → with_entries t [] ≡ t
 with_entries-nil t = ap (λ (es : List Entry). let u : Table = record { held = t.held; floor = t.floor; entries = es } in u) (sym (one_by_one t.entries [] refl))
@@ -45,7 +45,7 @@ module _ (t u : Table) (es : List Entry) (n : ℕ) (x : Entry) (key : List ℕ) 
       ∙ with_entries-push t (take n es) x (distinct_taken n es apart) (subst (λ (xs : List Entry). are_distinct xs ≡ true) more (distinct_taken (n + 1) es apart))
       ∙ ap (with_entries t) (sym more)
 
-  keys-next : are_distinct es ≡ true → length (entered u.entries (x ∷ [])) ≡ keys_with (n + 1) es t.entries
+  keys-next : are_distinct es ≡ true → length (entries_after u.entries (x ∷ [])) ≡ keys_with (n + 1) es t.entries
   keys-next apart = ap (λ (v : Table). length v.entries) (with_entries-next apart)
 
   pub keys-so_far : length u.entries ≤ KEYS_MOST → keys_with n es t.entries ≤ KEYS_MOST

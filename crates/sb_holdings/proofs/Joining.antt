@@ -1,13 +1,14 @@
 -- What a block and an own write do to the shown table.
-use Rattle.std.proofs.Common.{◌≡◌, ℕ, ◌+◌, ◌<◌, ◌≤◌, max, List, [], ◌∷◌, inl, inr, ⊎_elim, refl, ap, subst, Option, Some, None, IfSome, nat_lt, nat_eq, arith, ltb-true, eqb-true, lt-ltb}
-use Rattle.std.proofs.lemmas.Bool.{and_from, cond_both}
+use Rattle.std.proofs.Common.{◌≡◌, ℕ, ◌+◌, ◌<◌, ◌≤◌, max, List, [], ◌∷◌, inl, inr, ⊎_elim, refl, ap, subst, Option, Some, None, IfSome, ◌&&◌, ◌||◌, nat_lt, nat_le, nat_eq, arith, ltb-true, eqb-true, lt-ltb}
+use Rattle.std.proofs.lemmas.Bool.{and_from, and_parts, cond_both, leb-true}
 use Rattle.sb_types.proofs.Live.{live-above, live-entered, live-live}
 use Rattle.sb_types.specs.declared.entry.Write.{Write}
 use Rattle.sb_types.specs.Records.{Entry, Stage, Block, Holder}
-use Rattle.sb_types.specs.Runs.{live, entered, IsRun}
+use Rattle.sb_types.specs.Runs.{is_set, live_entries, entries_after, IsRun}
 use Rattle.sb_types.specs.Writes.{Written, Tells, HoldsStage, Honest, IsHolder}
 use Rattle.sb_table.specs.Plain.{with_entry}
-use Rattle.sb_holdings.specs.Shown.{stage_beyond, shown_with, own}
+use Rattle.sb_table.specs.Floors.{table_at_floor}
+use Rattle.sb_holdings.specs.Shown.{stage_beyond, shown_with, holder_after_write, own_purged}
 use Rattle.sb_types.proofs.Standing.{of_live, of_entered}
 use Rattle.sb_table.proofs.Order.{run_after, run_order, run_kept, run_entered}
 use Rattle.sb_holdings.proofs.Telling.{tells_live, tells_raised, tells_raised_below, tells_entered, one_write, within_writes}
@@ -23,7 +24,7 @@ beyond_holds : (writes : List Write) (held : ℕ) (o : Option Stage) → IfSome 
 beyond_holds writes held None p = tt
 beyond_holds writes held (Some s) p = cond_both (nat_lt held s.floor) (Some s) None (λ o. IfSome o (HoldsStage writes)) (λ _. p) (λ _. tt)
 
-joined_tells : {writes : List Write} {before floor held upto : ℕ} {entries others : List Entry} → IsRun 0 held entries → IsRun held upto others → before ≤ held → floor ≤ held → Tells writes before 0 held entries → Tells writes floor held upto others → Tells writes (max before floor) 0 upto (entered (live (max before floor) entries) others)
+joined_tells : {writes : List Write} {before floor held upto : ℕ} {entries others : List Entry} → IsRun 0 held entries → IsRun held upto others → before ≤ held → floor ≤ held → Tells writes before 0 held entries → Tells writes floor held upto others → Tells writes (max before floor) 0 upto (entries_after (live_entries (max before floor) entries) others)
 joined_tells {before = before} {floor = floor} r q l m t n =
     tells_entered (run_kept _ r) q
     (tells_live (tells_raised (max before floor) (omega arith) (omega arith) r t))
@@ -37,7 +38,7 @@ shown_step writes h b p i part l = record {
       floor = omega (arith, i.shown.floor, part.floor, run_order part.run);
       live =
           let floor = max h.shown.floor p.floor in
-          live-entered floor (live floor h.shown.entries) p.entries (live-live floor h.shown.entries)
+          live-entered floor (live_entries floor h.shown.entries) p.entries (live-live floor h.shown.entries)
           (live-above floor h.shown.held p.entries (omega (arith, i.shown.floor, part.floor)) part.run.ascending);
     };
     stage = beyond_is h.shown.held p.upto h.stage i.stage;
@@ -64,7 +65,7 @@ one_tells floor held e l v w = record {
   past = λ x y z g s k o. ⊎_elim (λ p. absurd (omega (arith, o, g.1, ap (λ (a : Entry). a.version) p))) (λ none. absurd none) s;
 }
 
-pub own_step : (writes : List Write) (h : Holder) (e : Entry) → IsHolder h → Step writes (Written writes e) h (own h e)
+pub own_step : (writes : List Write) (h : Holder) (e : Entry) → IsHolder h → Step writes (Written writes e) h (holder_after_write h e)
 own_step writes h e i = cond_both (nat_eq e.version (h.shown.held + 1)) _ h (Step writes (Written writes e) h) (λ is. next (eqb-true e.version (h.shown.held + 1) is)) (λ _. unchanged i)
   where
     next : e.version ≡ h.shown.held + 1 → Step writes (Written writes e) h (record { shown = with_entry h.shown e; stage = stage_beyond e.version h.stage })
@@ -89,3 +90,19 @@ own_step writes h e i = cond_both (nat_eq e.version (h.shown.held + 1)) _ h (Ste
             stage = beyond_holds writes e.version h.stage t.stage;
           };
         }
+
+pub purge_step : (writes : List Write) (h : Holder) (floor : ℕ) → IsHolder h → Step writes (Unit {0}) h (own_purged floor h)
+purge_step writes h floor i =
+    cond_both (nat_lt h.shown.floor floor && nat_le floor h.shown.held) (record { shown = table_at_floor h.shown.held floor h.shown; stage = h.stage }) h (Step writes (Unit {0}) h)
+    (λ is. let parts = and_parts (nat_lt h.shown.floor floor) (nat_le floor h.shown.held) is in higher (ltb-true h.shown.floor floor parts.0) (leb-true floor h.shown.held parts.1))
+    (λ _. unchanged i)
+  where
+    higher : h.shown.floor < floor → floor ≤ h.shown.held → Step writes (Unit {0}) h (record { shown = table_at_floor h.shown.held floor h.shown; stage = h.stage })
+    higher l m = record {
+      is = record {
+        shown = record { run = run_kept (λ e. is_set e.slot || nat_lt floor e.version) i.shown.run; floor = m; live = live-live floor h.shown.entries };
+        stage = i.stage;
+      };
+      onward = record { held = omega arith; each = λ e s. inl (of_live floor h.shown.entries e s) };
+      holds = λ _ t. record { shown = tells_live (tells_raised floor (omega (arith, l)) m i.shown.run t.shown); stage = t.stage };
+    }

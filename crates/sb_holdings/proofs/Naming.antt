@@ -4,26 +4,26 @@ use Rattle.std.proofs.lemmas.Bool.{and_parts, and_left, and_right, cond_both, co
 use Rattle.std.specs.Cmp.Lexicographic.{pointwise}
 use Rattle.std.specs.FinMap.{get, contains_key}
 use Rattle.sb_types.specs.Records.{Entry, Stage, Block, Holder}
-use Rattle.sb_types.specs.Runs.{IsRun, above, live}
+use Rattle.sb_types.specs.Runs.{IsRun, newer_entries, live_entries}
 use Rattle.sb_holdings.specs.declared.ends.BlockEnd.{BlockEnd}
 use Rattle.sb_holdings.specs.declared.ends.BlockEnd.TheVariants.{Own, OwnAhead, Gap, Stale, OwnersFull, Taken, TooManyKeys, NoMemory}
-use Rattle.sb_holdings.specs.Held.{Held, nothing, holder_of, with_owner, held_after_block}
-use Rattle.sb_holdings.specs.Stages.{new_stage, begins, stage_for, staged_all, staged_front, staged_refused}
+use Rattle.sb_holdings.specs.Held.{Held, empty_holder, holder_of, with_owner, held_after_block}
+use Rattle.sb_holdings.specs.Stages.{new_stage, new_stage_of, stage_for, staged_all, staged_front, staged_refused}
 use Rattle.sb_holdings.specs.Shown.{joins_shown, shown_with}
-use Rattle.sb_holdings.specs.Blocks.{part_above, front}
+use Rattle.sb_holdings.specs.Blocks.{part_above, leading_part}
 use Rattle.sb_holdings.specs.Taken.{holder_after_block}
 use Rattle.sb_holdings.specs.Plain.{IsHoldings}
 use Rattle.sb_holdings.specs.Ends.{is_own, is_stale, joined_stage, JoinsOn, JoinsStage, has_place, EntersOr, IsTaken, IsStaged, Fits}
-use Rattle.sb_holdings.specs.Holders.{named, told, IsShownTaken, IsStageTaken, FitsHolder, FitsNew}
+use Rattle.sb_holdings.specs.Holders.{owner_block, unnamed_block, IsShownTaken, IsStageTaken, FitsHolder, FitsNew}
 use Rattle.sb_table.proofs.Copying.{above_all}
 use Rattle.sb_holdings.proofs.ByOwner.{with_owner-same}
 
 module _ (owner : List ℕ) (floor after upto : ℕ) (es : List Entry) where
   abbrev b : Block
-  b = named owner floor after upto es
+  b = owner_block owner floor after upto es
 
   abbrev c : Block
-  c = told floor after upto es
+  c = unnamed_block floor after upto es
 
   stage_for-named : (o : Option Stage) → stage_for o c ≡ stage_for o b
   stage_for-named None = refl
@@ -44,7 +44,7 @@ module _ (owner : List ℕ) (floor after upto : ℕ) (es : List Entry) where
 
     refused-named : (n : ℕ) (o : Option Stage) → staged_refused n h c o ≡ staged_refused n h b o
     refused-named n None = refl
-    refused-named n (Some s) = ap (λ (k : Holder). cond (nat_lt n (length (above s.progress es))) k (record { shown = h.shown; stage = None })) (front-named n (Some s))
+    refused-named n (Some s) = ap (λ (k : Holder). cond (nat_lt n (length (newer_entries s.progress es))) k (record { shown = h.shown; stage = None })) (front-named n (Some s))
 
     -- the name says nothing of what a block leaves
     pub taken-named : (end : BlockEnd) → holder_after_block h c end ≡ holder_after_block h b end
@@ -57,10 +57,10 @@ module _ (owner : List ℕ) (floor after upto : ℕ) (es : List Entry) where
         ap (λ (k : Holder). cond (joins_shown h.shown b) (shown_with h (part_above h.shown.held b)) (cond (nat_lt h.shown.held floor) k h))
         (all-named (stage_for h.stage c) ∙ ap (staged_all h b) (stage_for-named h.stage))
     taken-named (TooManyKeys n) =
-        ap (λ (k : Holder). cond (joins_shown h.shown b) (shown_with h (front n (part_above h.shown.held b))) (cond (nat_lt h.shown.held floor) k h))
+        ap (λ (k : Holder). cond (joins_shown h.shown b) (shown_with h (leading_part n (part_above h.shown.held b))) (cond (nat_lt h.shown.held floor) k h))
         (front-named n (stage_for h.stage c) ∙ ap (staged_front n h b) (stage_for-named h.stage))
     taken-named (NoMemory n) =
-        ap (λ (k : Holder). cond (joins_shown h.shown b) (shown_with h (front n (part_above h.shown.held b))) (cond (nat_lt h.shown.held floor) k h))
+        ap (λ (k : Holder). cond (joins_shown h.shown b) (shown_with h (leading_part n (part_above h.shown.held b))) (cond (nat_lt h.shown.held floor) k h))
         (refused-named n (stage_for h.stage c) ∙ ap (staged_refused n h b) (stage_for-named h.stage))
 
   module _ (held : Held) (other : is_own held b ≡ false) where
@@ -114,40 +114,40 @@ module _ (owner : List ℕ) (floor after upto : ℕ) (es : List Entry) where
 
 -- ---- an owner that is not held
 
-room-for_one : (es : List Entry) (behind : Type 0) → above 0 es ≡ es → (es ≡ [] → behind) → EntersOr [] (above 0 es) behind (NoMemory 0)
+room-for_one : (es : List Entry) (behind : Type 0) → newer_entries 0 es ≡ es → (es ≡ [] → behind) → EntersOr [] (newer_entries 0 es) behind (NoMemory 0)
 room-for_one [] behind whole none = inr (refl, (refl, omega arith), none refl)
 room-for_one (x ∷ xs) behind whole none = inl (rw whole ((omega arith), (omega arith)))
 
 -- room is refused for an owner of whom nothing was held
-pub refused-nothing : (floor upto : ℕ) (es : List Entry) → holder_after_block nothing (told floor 0 upto es) (NoMemory 0) ≡ nothing
+pub refused-nothing : (floor upto : ℕ) (es : List Entry) → holder_after_block empty_holder (unnamed_block floor 0 upto es) (NoMemory 0) ≡ empty_holder
 refused-nothing floor upto es =
-    let c = told floor 0 upto es in
-    cond_both (joins_shown nothing.shown c) (shown_with nothing (front 0 (part_above 0 c))) (cond (nat_lt 0 floor) (staged_refused 0 nothing c (stage_for None c)) nothing) (λ (k : Holder). k ≡ nothing)
+    let c = unnamed_block floor 0 upto es in
+    cond_both (joins_shown empty_holder.shown c) (shown_with empty_holder (leading_part 0 (part_above 0 c))) (cond (nat_lt 0 floor) (staged_refused 0 empty_holder c (stage_for None c)) empty_holder) (λ (k : Holder). k ≡ empty_holder)
     (λ joins.
     let zero : floor ≡ 0 = omega (arith, leb-true floor 0 (and_parts (nat_le floor 0) (nat_le 0 0 && nat_lt 0 upto) joins).0) in
-    ap (λ (n : ℕ). shown_with nothing (front 0 (part_above 0 (told n 0 upto es)))) zero)
-    (λ _. cond_both (nat_lt 0 floor) (staged_refused 0 nothing c (stage_for None c)) nothing (λ (k : Holder). k ≡ nothing)
-    (λ _. cond_both (nat_lt 0 (length (above 0 es))) nothing nothing (λ (k : Holder). k ≡ nothing) (λ _. refl) (λ _. refl)) (λ _. refl))
+    ap (λ (n : ℕ). shown_with empty_holder (leading_part 0 (part_above 0 (unnamed_block n 0 upto es)))) zero)
+    (λ _. cond_both (nat_lt 0 floor) (staged_refused 0 empty_holder c (stage_for None c)) empty_holder (λ (k : Holder). k ≡ empty_holder)
+    (λ _. cond_both (nat_lt 0 (length (newer_entries 0 es))) empty_holder empty_holder (λ (k : Holder). k ≡ empty_holder) (λ _. refl) (λ _. refl)) (λ _. refl))
 
 module _ (held : Held) (owner : List ℕ) (floor upto : ℕ) (es : List Entry) (unknown : get held.owners owner ≡ None) where
   abbrev new_block : ℕ → Block
-  new_block after = named owner floor after upto es
+  new_block after = owner_block owner floor after upto es
 
-  is-nothing : holder_of held.owners owner ≡ nothing
-  is-nothing = ap (λ (o : Option Holder). unwrap_or o nothing) unknown
+  is-nothing : holder_of held.owners owner ≡ empty_holder
+  is-nothing = ap (λ (o : Option Holder). unwrap_or o empty_holder) unknown
 
-  pub with_nothing : IsHoldings held → pointwise nat_eq owner held.me ≡ false → with_owner held owner nothing ≡ held
-  with_nothing is other = ap (with_owner held owner) (sym is-nothing) ∙ with_owner-same held owner nothing is other
+  pub with_nothing : IsHoldings held → pointwise nat_eq owner held.me ≡ false → with_owner held owner empty_holder ≡ held
+  with_nothing is other = ap (with_owner held owner) (sym is-nothing) ∙ with_owner-same held owner empty_holder is other
 
   new-stage : (after : ℕ) → after ≡ 0 → 0 < floor → joined_stage (holder_of held.owners owner) (new_block after) ≡ Some (new_stage floor)
   new-stage after at more =
-      ap (λ (h : Holder). joined_stage h (new_block after)) is-nothing ∙ cond-true (nat_lt 0 floor) (begins (new_block after)) None (lt-ltb 0 floor more)
+      ap (λ (h : Holder). joined_stage h (new_block after)) is-nothing ∙ cond-true (nat_lt 0 floor) (new_stage_of (new_block after)) None (lt-ltb 0 floor more)
       ∙ cond-true (nat_eq after 0) (Some (new_stage floor)) None (eq-eqb after 0 at)
 
   no-stage : (after : ℕ) → 0 < after → joined_stage (holder_of held.owners owner) (new_block after) ≡ None
   no-stage after more =
       ap (λ (h : Holder). joined_stage h (new_block after)) is-nothing
-      ∙ cond_both (nat_lt 0 floor) (begins (new_block after)) None (λ (o : Option Stage). o ≡ None)
+      ∙ cond_both (nat_lt 0 floor) (new_stage_of (new_block after)) None (λ (o : Option Stage). o ≡ None)
       (λ _. cond-false (nat_eq after 0) (Some (new_stage floor)) None (ne_eqb after 0 (λ zero. absurd (omega (arith, zero, more))))) (λ _. refl)
 
   pub gap-new : (after : ℕ) → is_own held (new_block after) ≡ false → 0 < after → after < upto → Fits held (new_block after) Gap
@@ -175,7 +175,7 @@ module _ (held : Held) (owner : List ℕ) (floor upto : ℕ) (es : List Entry) (
     full-new none = (⊎_elim (λ more. inr (new_stage floor, stage-new more)) (λ low. inl (joins-new low)) (cases_lt 0 floor), none)
 
     module _ (run : IsRun 0 upto es) (place : has_place held owner ≡ true) where
-      whole : above 0 es ≡ es
+      whole : newer_entries 0 es ≡ es
       whole = above_all 0 0 es (omega arith) run.ascending
 
       lacks : contains_key held.owners owner ≡ false
@@ -192,22 +192,22 @@ module _ (held : Held) (owner : List ℕ) (floor upto : ℕ) (es : List Entry) (
           (λ low. inl (record {
             joins = joins-new low;
             place = place;
-            enters = subst (λ (h : Holder). EntersOr (live (max h.shown.floor floor) h.shown.entries) (above h.shown.held es) ((es ≡ []) × (contains_key held.owners owner ≡ false)) (NoMemory 0)) (sym is-nothing)
+            enters = subst (λ (h : Holder). EntersOr (live_entries (max h.shown.floor floor) h.shown.entries) (newer_entries h.shown.held es) ((es ≡ []) × (contains_key held.owners owner ≡ false)) (NoMemory 0)) (sym is-nothing)
                 (room-for_one es ((es ≡ []) × (contains_key held.owners owner ≡ false)) whole (λ none. (none, lacks)));
           }))
           (cases_lt 0 floor)
 
-      pub fits-new : (end : BlockEnd) → FitsNew (told floor 0 upto es) end → Fits held (new_block 0) end
-      fits-new end (inl f) = fits-known owner floor 0 upto es held other place end (subst (λ (h : Holder). FitsHolder h (told floor 0 upto es) end) (sym is-nothing) f)
+      pub fits-new : (end : BlockEnd) → FitsNew (unnamed_block floor 0 upto es) end → Fits held (new_block 0) end
+      fits-new end (inl f) = fits-known owner floor 0 upto es held other place end (subst (λ (h : Holder). FitsHolder h (unnamed_block floor 0 upto es) end) (sym is-nothing) f)
       fits-new end (inr is) = subst (Fits held (new_block 0)) (sym is) refused-new
 
-    pub after-new : IsHoldings held → (end : BlockEnd) → FitsNew (told floor 0 upto es) end → with_owner held owner (holder_after_block nothing (told floor 0 upto es) end) ≡ held_after_block held (new_block 0) end
+    pub after-new : IsHoldings held → (end : BlockEnd) → FitsNew (unnamed_block floor 0 upto es) end → with_owner held owner (holder_after_block empty_holder (unnamed_block floor 0 upto es) end) ≡ held_after_block held (new_block 0) end
     after-new is end (inl f) =
-        ap (λ (h : Holder). with_owner held owner (holder_after_block h (told floor 0 upto es) end)) (sym is-nothing)
-        ∙ after-known owner floor 0 upto es held other is end (subst (λ (h : Holder). FitsHolder h (told floor 0 upto es) end) (sym is-nothing) f)
+        ap (λ (h : Holder). with_owner held owner (holder_after_block h (unnamed_block floor 0 upto es) end)) (sym is-nothing)
+        ∙ after-known owner floor 0 upto es held other is end (subst (λ (h : Holder). FitsHolder h (unnamed_block floor 0 upto es) end) (sym is-nothing) f)
     after-new is end (inr refused) =
-        ap (λ (h : Holder). with_owner held owner (holder_after_block h (told floor 0 upto es) end)) (sym is-nothing)
-        ∙ subst (λ (e : BlockEnd). with_owner held owner (holder_after_block (holder_of held.owners owner) (told floor 0 upto es) e) ≡ held_after_block held (new_block 0) e) (sym refused)
+        ap (λ (h : Holder). with_owner held owner (holder_after_block h (unnamed_block floor 0 upto es) end)) (sym is-nothing)
+        ∙ subst (λ (e : BlockEnd). with_owner held owner (holder_after_block (holder_of held.owners owner) (unnamed_block floor 0 upto es) e) ≡ held_after_block held (new_block 0) e) (sym refused)
         (after-refused owner floor 0 upto es held other 0)
 
 pub none-from : {X : Type 0} (o : Option X) → is_some o ≡ false → o ≡ None

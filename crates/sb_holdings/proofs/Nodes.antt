@@ -12,11 +12,11 @@ use Rattle.sb_types.specs.Records.{Stage, Block, Holder}
 use Rattle.sb_types.specs.Writes.{Honest, IsHolder}
 use Rattle.sb_holdings.specs.declared.ends.BlockEnd.{BlockEnd}
 use Rattle.sb_holdings.specs.declared.ends.BlockEnd.TheVariants.{Own, OwnAhead, Gap, Stale, OwnersFull, Taken, TooManyKeys, NoMemory}
-use Rattle.sb_holdings.specs.Held.{Held, nothing, is_nothing, holder_of, with_holder, held_after_taking}
-use Rattle.sb_holdings.specs.Nodes.{Node, held_by, NodeEvent, Wrote, Took, node_after_event, replay_node, IsNodeEvent, TrueAt, AreNodeEvents, AllTrueAt, IsNode}
+use Rattle.sb_holdings.specs.Held.{Held, empty_holder, is_nothing, holder_of, with_holder, held_after_taking}
+use Rattle.sb_holdings.specs.Nodes.{Node, held_by, NodeEvent, Wrote, Took, Purged, node_after_event, replay_node, IsNodeEvent, TrueAt, AreNodeEvents, AllTrueAt, IsNode}
 use Rattle.sb_types.proofs.Texts.{same_text}
 use Rattle.sb_holdings.proofs.Steps.{Step, unchanged, two_steps}
-use Rattle.sb_holdings.proofs.Joining.{own_step}
+use Rattle.sb_holdings.proofs.Joining.{own_step, purge_step}
 use Rattle.sb_holdings.proofs.Treating.{treat_step}
 
 -- ---- the map of owners
@@ -25,7 +25,7 @@ no_stage : (o : Option Stage) → is_none o ≡ true → None ≡ o
 no_stage None e = refl
 no_stage (Some s) e = absurd (false≢true e)
 
-pub is_nothing_is : (h : Holder) → is_nothing h ≡ true → nothing ≡ h
+pub is_nothing_is : (h : Holder) → is_nothing h ≡ true → empty_holder ≡ h
 is_nothing_is h e =
     let a = and_parts _ _ e in
     let b = and_parts _ _ a.1 in
@@ -37,11 +37,11 @@ is_nothing_is h e =
     λ i. record { shown = record { held = held i; floor = floor i; entries = entries i }; stage = stage i }
 
 module _ (owners : FinMap (slice_cmp nat_cmp) Holder) (owner : List ℕ) (h : Holder) where
-  found : (b : Bool) (o : Option Holder) → nothing ≡ h → unwrap_or (cond b None o) nothing ≡ cond b h (unwrap_or o nothing)
+  found : (b : Bool) (o : Option Holder) → empty_holder ≡ h → unwrap_or (cond b None o) empty_holder ≡ cond b h (unwrap_or o empty_holder)
   found true o e = e
   found false o e = refl
 
-  put : (b : Bool) (o : Option Holder) → unwrap_or (cond b (Some h) o) nothing ≡ cond b h (unwrap_or o nothing)
+  put : (b : Bool) (o : Option Holder) → unwrap_or (cond b (Some h) o) empty_holder ≡ cond b h (unwrap_or o empty_holder)
   put true o = refl
   put false o = refl
 
@@ -91,6 +91,7 @@ module _ (writes : List ℕ → List Write) (node : Node) (is : IsNode node) whe
   happens_at_step (Took b (Taken n)) i q = taken_step b (Taken n) i q
   happens_at_step (Took b (TooManyKeys n)) i q = taken_step b (TooManyKeys n) i q
   happens_at_step (Took b (NoMemory n)) i q = taken_step b (NoMemory n) i q
+  happens_at_step (Purged floor) i q = put_step writes node.held.owners _ node.held.me _ _ (inserted node.held.owners node.held.me _) is (purge_step (writes node.held.me) (held_by node node.held.me) floor (is node.held.me)) q
 
 same_me_taken : (held : Held) (b : Block) (end : BlockEnd) → (held_after_taking held b end).me ≡ held.me
 same_me_taken held b end = cond_both (pointwise nat_eq b.owner held.me) held _ (λ (h : Held). h.me ≡ held.me) (λ _. refl) (λ _. refl)
@@ -105,6 +106,7 @@ same_me node (Took b OwnersFull) = refl
 same_me node (Took b (Taken n)) = same_me_taken node.held b (Taken n)
 same_me node (Took b (TooManyKeys n)) = same_me_taken node.held b (TooManyKeys n)
 same_me node (Took b (NoMemory n)) = same_me_taken node.held b (NoMemory n)
+same_me node (Purged floor) = refl
 
 pub replay_node-append : (node : Node) (events more : List NodeEvent) → replay_node node (events ++ more) ≡ replay_node (replay_node node events) more
 replay_node-append node [] more = refl

@@ -4,7 +4,7 @@ use Rattle.sb_types.specs.declared.entry.Write.{Write}
 use Rattle.sb_types.specs.Records.{Block}
 use Rattle.sb_types.specs.Runs.{IsRun, IsBlock}
 use Rattle.sb_types.specs.Writes.{Tells, Honest}
-use Rattle.sb_holdings.specs.Blocks.{part_above, front}
+use Rattle.sb_holdings.specs.Blocks.{part_above, leading_part}
 use Rattle.sb_table.proofs.Order.{run_above, run_front}
 use Rattle.sb_holdings.proofs.Telling.{tells_above, tells_front}
 
@@ -20,7 +20,7 @@ part_is b version i l m = record {
   honest = λ writes h. tells_above version l h;
 }
 
-pub front_is : (n : ℕ) (b : Block) (version : ℕ) → IsBlock b → b.after ≤ version → version ≤ b.upto → IsPart b version (front n (part_above version b))
+pub front_is : (n : ℕ) (b : Block) (version : ℕ) → IsBlock b → b.after ≤ version → version ≤ b.upto → IsPart b version (leading_part n (part_above version b))
 front_is n b version i l m =
     let p = part_is b version i l m in
     record {

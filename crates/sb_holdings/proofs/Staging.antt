@@ -4,10 +4,10 @@ use Rattle.std.proofs.lemmas.Bool.{and_parts, cond_both}
 use Rattle.sb_types.proofs.Live.{live-live}
 use Rattle.sb_types.specs.declared.entry.Write.{Write}
 use Rattle.sb_types.specs.Records.{Entry, Stage, Block, Holder}
-use Rattle.sb_types.specs.Runs.{entered, IsRun, IsBlock}
+use Rattle.sb_types.specs.Runs.{entries_after, IsRun, IsBlock}
 use Rattle.sb_types.specs.Writes.{Tells, HoldsStage, Honest, IsHolder, HolderHolds}
-use Rattle.sb_table.specs.Floors.{swapped}
-use Rattle.sb_holdings.specs.Stages.{new_stage, goes_on, begins, stage_for, stage_with, settled}
+use Rattle.sb_table.specs.Floors.{table_after_swap}
+use Rattle.sb_holdings.specs.Stages.{new_stage, goes_on, new_stage_of, stage_for, stage_with, holder_after_stage}
 use Rattle.sb_table.proofs.Order.{run_entered}
 use Rattle.sb_holdings.proofs.Telling.{tells_entered}
 use Rattle.sb_holdings.proofs.Swapping.{swapped_run, swapped_tells, swapped_each}
@@ -36,7 +36,7 @@ empty_tells t = record {
 }
 
 module _ (h : Holder) (b : Block) (i : IsHolder h) (is : IsBlock b) (beyond : h.shown.held < b.floor) where
-  begins_joins : IfSome (begins b) (Joins h b)
+  begins_joins : IfSome (new_stage_of b) (Joins h b)
   begins_joins = cond_both (nat_eq b.after 0) (Some (new_stage b.floor)) None (λ o. IfSome o (Joins h b)) (λ zero. new (eqb-true b.after 0 zero)) (λ _. tt)
     where
       new : b.after ≡ 0 → Joins h b (new_stage b.floor)
@@ -66,9 +66,9 @@ module _ (h : Holder) (b : Block) (i : IsHolder h) (is : IsBlock b) (beyond : h.
   pub stage_joins : (o : Option Stage) → h.stage ≡ o → IfSome (stage_for o b) (Joins h b)
   stage_joins None e = begins_joins
   stage_joins (Some s) e =
-      cond_both (goes_on s b) (Some s) (cond (nat_lt s.floor b.floor) (begins b) None) (λ o. IfSome o (Joins h b))
+      cond_both (goes_on s b) (Some s) (cond (nat_lt s.floor b.floor) (new_stage_of b) None) (λ o. IfSome o (Joins h b))
       (goes_on_joins s e)
-      (λ _. cond_both (nat_lt s.floor b.floor) (begins b) None (λ o. IfSome o (Joins h b)) (λ _. begins_joins) (λ _. tt))
+      (λ _. cond_both (nat_lt s.floor b.floor) (new_stage_of b) None (λ o. IfSome o (Joins h b)) (λ _. begins_joins) (λ _. tt))
 
 pub dropped : {writes : List Write} {assumed : Type 0} (h : Holder) → IsHolder h → Step writes assumed h (record { shown = h.shown; stage = None })
 dropped h i = record {
@@ -78,7 +78,7 @@ dropped h i = record {
 }
 
 module _ (writes : List Write) (h : Holder) (b p : Block) (s : Stage) (i : IsHolder h) (j : Joins h b s) (part : IsPart b s.progress p) where
-  with_run : IsRun 0 p.upto (entered s.entries p.entries)
+  with_run : IsRun 0 p.upto (entries_after s.entries p.entries)
   with_run = run_entered j.run part.run
 
   with_tells : Honest writes b → HolderHolds writes h → HoldsStage writes (stage_with s p)
@@ -93,7 +93,7 @@ module _ (writes : List Write) (h : Holder) (b p : Block) (s : Stage) (i : IsHol
     holds = λ honest t. record { shown = t.shown; stage = with_tells honest t };
   }
 
-  swap_step : s.floor ≤ p.upto → Step writes (Honest writes b) h (record { shown = swapped h.shown (stage_with s p); stage = None })
+  swap_step : s.floor ≤ p.upto → Step writes (Honest writes b) h (record { shown = table_after_swap h.shown (stage_with s p); stage = None })
   swap_step l = record {
     is = record {
       shown = record { run = swapped_run i.shown.run with_run s.floor (omega (arith, j.beyond)); floor = l; live = live-live s.floor _ };
@@ -101,7 +101,7 @@ module _ (writes : List Write) (h : Holder) (b p : Block) (s : Stage) (i : IsHol
     };
     onward = record {
       held = omega (arith, j.beyond);
-      each = swapped_each s.floor h.shown.held h.shown.entries (entered s.entries p.entries);
+      each = swapped_each s.floor h.shown.held h.shown.entries (entries_after s.entries p.entries);
     };
     holds = λ honest t. record {
       shown = swapped_tells i.shown.run with_run i.shown.floor j.beyond t.shown (with_tells honest t);
@@ -109,5 +109,5 @@ module _ (writes : List Write) (h : Holder) (b p : Block) (s : Stage) (i : IsHol
     };
   }
 
-  pub settled_step : Step writes (Honest writes b) h (settled h (stage_with s p))
+  pub settled_step : Step writes (Honest writes b) h (holder_after_stage h (stage_with s p))
   settled_step = cond_both (nat_le s.floor p.upto) _ _ (Step writes (Honest writes b) h) (λ l. swap_step (leb-true s.floor p.upto l)) (λ _. stage_step)

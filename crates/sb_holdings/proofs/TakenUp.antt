@@ -3,15 +3,15 @@ use Rattle.std.proofs.Common.{◌≡◌, ℕ, zero, suc, Bool, true, false, cond
 use Rattle.std.proofs.lemmas.Bool.{and_parts, and_from, and_left, cond-true, cond-false, cond_both, false≢true, leb-true, lt-leb}
 use Rattle.std.specs.Cmp.Lexicographic.{pointwise}
 use Rattle.sb_types.specs.Records.{Entry, Table, Stage, Block, Holder}
-use Rattle.sb_types.specs.Runs.{Stands, above, up_to, under_keys_of, without}
+use Rattle.sb_types.specs.Runs.{Stands, newer_entries, entries_up_to, entries_with_keys, entries_without_keys}
 use Rattle.sb_types.specs.Writes.{Gone}
-use Rattle.sb_table.specs.Floors.{merged, swapped}
+use Rattle.sb_table.specs.Floors.{merged_entries, table_after_swap}
 use Rattle.sb_holdings.specs.declared.ends.BlockEnd.{BlockEnd}
 use Rattle.sb_holdings.specs.declared.ends.BlockEnd.TheVariants.{Own, OwnAhead, Gap, Stale, OwnersFull, Taken, TooManyKeys, NoMemory}
-use Rattle.sb_holdings.specs.Blocks.{part_above, front}
-use Rattle.sb_holdings.specs.Shown.{joins_shown, joined, shown_with}
+use Rattle.sb_holdings.specs.Blocks.{part_above, leading_part}
+use Rattle.sb_holdings.specs.Shown.{joins_shown, table_after_block, shown_with}
 use Rattle.sb_holdings.specs.Stages.{stage_for, stage_with, staged_all, staged_front, staged_refused}
-use Rattle.sb_holdings.specs.Taken.{routed, holder_after_block}
+use Rattle.sb_holdings.specs.Taken.{holder_by_route, holder_after_block}
 use Rattle.sb_holdings.specs.Held.{Held, holder_of, shown_of, held_after_taking}
 use Rattle.sb_holdings.specs.Ends.{is_own, joined_stage, JoinsOn, JoinsStage, Fits}
 use Rattle.sb_holdings.specs.Nodes.{Node, node_after_block}
@@ -40,15 +40,15 @@ module _ (held : Held) (b : Block) (joins : JoinsOn held b) where
 
   -- the part of the block joins what is shown
   routed-shown : (part : Block) (staged : Option Stage → Holder) →
-      (routed (holder_of held.owners b.owner) b (shown_with (holder_of held.owners b.owner) part) staged).shown ≡ joined (shown_of held b.owner) part
+      (holder_by_route (holder_of held.owners b.owner) b (shown_with (holder_of held.owners b.owner) part) staged).shown ≡ table_after_block (shown_of held b.owner) part
   routed-shown part staged =
       ap (λ (h : Holder). h.shown) (cond-true (joins_shown (shown_of held b.owner) b) (shown_with (holder_of held.owners b.owner) part) _ joined_on)
 
-  front-shown : (n : ℕ) (new : Table) → new ≡ joined (shown_of held b.owner) (front n (part_above (shown_of held b.owner).held b)) →
-      HasFront (shown_of held b.owner) (take n (above (shown_of held b.owner).held b.entries)) new
+  front-shown : (n : ℕ) (new : Table) → new ≡ table_after_block (shown_of held b.owner) (leading_part n (part_above (shown_of held b.owner).held b)) →
+      HasFront (shown_of held b.owner) (take n (newer_entries (shown_of held b.owner).held b.entries)) new
   front-shown n new same =
       let t = shown_of held b.owner in
-      let es = take n (above t.held b.entries) in
+      let es = take n (newer_entries t.held b.entries) in
       subst (HasFront t es) (sym same) (record { held = refl; each = λ e s. right _ es e s })
 
 pub taken_up : (node : Node) (b : Block) (end : BlockEnd) → JoinsOn node.held b → Fits node.held b end → IsTakenUp node b end (node_after_block node b end)
@@ -62,13 +62,13 @@ taken_up node b OwnersFull joins fits = refl
 taken_up node b (Taken n) joins fits =
     let h = holder_of node.held.owners b.owner in
     let same = shown-taken node.held b joins (Taken n) ∙ routed-shown node.held b joins (part_above h.shown.held b) (staged_all h b) in
-    subst (HasAll h.shown b) (sym same) (record { held = omega arith; each = λ e s. right _ (above h.shown.held b.entries) e s })
+    subst (HasAll h.shown b) (sym same) (record { held = omega arith; each = λ e s. right _ (newer_entries h.shown.held b.entries) e s })
 taken_up node b (TooManyKeys n) joins fits =
     let h = holder_of node.held.owners b.owner in
-    front-shown node.held b joins n _ (shown-taken node.held b joins (TooManyKeys n) ∙ routed-shown node.held b joins (front n (part_above h.shown.held b)) (staged_front n h b))
+    front-shown node.held b joins n _ (shown-taken node.held b joins (TooManyKeys n) ∙ routed-shown node.held b joins (leading_part n (part_above h.shown.held b)) (staged_front n h b))
 taken_up node b (NoMemory n) joins fits =
     let h = holder_of node.held.owners b.owner in
-    front-shown node.held b joins n _ (shown-taken node.held b joins (NoMemory n) ∙ routed-shown node.held b joins (front n (part_above h.shown.held b)) (staged_refused n h b))
+    front-shown node.held b joins n _ (shown-taken node.held b joins (NoMemory n) ∙ routed-shown node.held b joins (leading_part n (part_above h.shown.held b)) (staged_refused n h b))
 
 -- ---- by a stage
 
@@ -83,41 +83,41 @@ module _ (h : Holder) (b : Block) (s : Stage) (joins : joined_stage h b ≡ Some
   not_shown : joins_shown h.shown b ≡ false
   not_shown = and_left (nat_le b.floor h.shown.held) (nat_le b.after h.shown.held && nat_lt h.shown.held b.upto) (lt-leb b.floor h.shown.held (ltb-true h.shown.held b.floor beyond))
 
-  routed-stage : (shown : Holder) (staged : Option Stage → Holder) → routed h b shown staged ≡ staged (Some s)
+  routed-stage : (shown : Holder) (staged : Option Stage → Holder) → holder_by_route h b shown staged ≡ staged (Some s)
   routed-stage shown staged =
       cond-false (joins_shown h.shown b) shown _ not_shown ∙ cond-true (nat_lt h.shown.held b.floor) (staged (stage_for h.stage b)) h beyond
       ∙ ap staged (some-chosen (nat_lt h.shown.held b.floor) (stage_for h.stage b) s joins).1
 
   abbrev new : List Entry
-  new = above s.progress b.entries
+  new = newer_entries s.progress b.entries
 
   abbrev whole : Stage
   whole = stage_with s (part_above s.progress b)
 
   -- a new entry above what was held is in the table that the stage makes, unless its floor lets it go
-  in-swapped : (e : Entry) → Stands (above h.shown.held new) e → Stands (swapped h.shown whole).entries e ⊎ Gone s.floor e
+  in-swapped : (e : Entry) → Stands (newer_entries h.shown.held new) e → Stands (table_after_swap h.shown whole).entries e ⊎ Gone s.floor e
   in-swapped e stands =
       let parts = of_above h.shown.held new e stands in
-      let staged = right (without new s.entries) new e parts.0 in
+      let staged = right (entries_without_keys new s.entries) new e parts.0 in
       let higher = in_above h.shown.held whole.entries e staged parts.1 in
-      in_live s.floor (merged h.shown.held whole.entries h.shown.entries) e
-      (right (under_keys_of (up_to h.shown.held whole.entries) h.shown.entries) (above h.shown.held whole.entries) e higher)
+      in_live s.floor (merged_entries h.shown.held whole.entries h.shown.entries) e
+      (right (entries_with_keys (entries_up_to h.shown.held whole.entries) h.shown.entries) (newer_entries h.shown.held whole.entries) e higher)
 
   all-staged : (k : Holder) → k ≡ staged_all h b (Some s) → ((k.shown ≡ h.shown) × IsSomeAnd k.stage (HasStageAll s b)) ⊎ IsShown h s b k
   all-staged k is =
-      let over : Holder = record { shown = swapped h.shown whole; stage = None } in
+      let over : Holder = record { shown = table_after_swap h.shown whole; stage = None } in
       let beside : Holder = record { shown = h.shown; stage = Some whole } in
       subst (λ (x : Holder). ((x.shown ≡ h.shown) × IsSomeAnd x.stage (HasStageAll s b)) ⊎ IsShown h s b x) (sym is)
       (cond_both (nat_le s.floor b.upto) over beside
       (λ (x : Holder). ((x.shown ≡ h.shown) × IsSomeAnd x.stage (HasStageAll s b)) ⊎ IsShown h s b x)
       (λ _. inr (record { none = refl; held = refl; floor = refl; each = in-swapped }))
-      (λ _. inl (refl, record { floor = refl; progress = refl; each = λ e stands. right (without new s.entries) new e stands })))
+      (λ _. inl (refl, record { floor = refl; progress = refl; each = λ e stands. right (entries_without_keys new s.entries) new e stands })))
 
   front-staged : (n : ℕ) → IsFrontStaged h s b n (staged_front n h b (Some s))
   front-staged zero = (refl, inl (refl, refl))
   front-staged (suc n) =
       let es = take (suc n) new in
-      (refl, inr (record { floor = refl; progress = refl; each = λ e stands. right (without es s.entries) es e stands }))
+      (refl, inr (record { floor = refl; progress = refl; each = λ e stands. right (entries_without_keys es s.entries) es e stands }))
 
   refused-staged : (n : ℕ) → IsFrontStaged h s b n (staged_refused n h b (Some s)) ⊎ (((staged_refused n h b (Some s)).shown ≡ h.shown) × ((staged_refused n h b (Some s)).stage ≡ None))
   refused-staged n =
@@ -141,10 +141,10 @@ staged_up node b s (Taken n) joins fits =
 staged_up node b s (TooManyKeys n) joins fits =
     let h = holder_of node.held.owners b.owner in
     subst (IsFrontStaged h s b n)
-    (sym (after-taken node.held b (TooManyKeys n) joins.other ∙ routed-stage h b s joins.stage (shown_with h (front n (part_above h.shown.held b))) (staged_front n h b)))
+    (sym (after-taken node.held b (TooManyKeys n) joins.other ∙ routed-stage h b s joins.stage (shown_with h (leading_part n (part_above h.shown.held b))) (staged_front n h b)))
     (front-staged h b s joins.stage n)
 staged_up node b s (NoMemory n) joins fits =
     let h = holder_of node.held.owners b.owner in
     subst (λ (x : Holder). IsFrontStaged h s b n x ⊎ ((x.shown ≡ h.shown) × (x.stage ≡ None)))
-    (sym (after-taken node.held b (NoMemory n) joins.other ∙ routed-stage h b s joins.stage (shown_with h (front n (part_above h.shown.held b))) (staged_refused n h b)))
+    (sym (after-taken node.held b (NoMemory n) joins.other ∙ routed-stage h b s joins.stage (shown_with h (leading_part n (part_above h.shown.held b))) (staged_refused n h b)))
     (refused-staged h b s joins.stage n)

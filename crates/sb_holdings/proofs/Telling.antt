@@ -4,7 +4,7 @@ use Rattle.std.proofs.lemmas.Option.{slice_get_within}
 use Rattle.std.proofs.lemmas.Bool.{cases_lt}
 use Rattle.sb_types.specs.declared.entry.Write.{Write}
 use Rattle.sb_types.specs.Records.{Entry}
-use Rattle.sb_types.specs.Runs.{Stands, last_version, above, live, entered, IsRun}
+use Rattle.sb_types.specs.Runs.{Stands, last_version, newer_entries, live_entries, entries_after, IsRun}
 use Rattle.sb_types.specs.Writes.{Written, Superseded, Gone, Tells}
 use Rattle.sb_types.proofs.Standing.{right, taken, in_above, of_above, in_live, of_live, in_entered, of_entered}
 use Rattle.sb_table.proofs.Order.{front_whole, run_after, run_one, run_order, front_most}
@@ -39,15 +39,15 @@ cut a u part t l m few all = record {
   past = λ e x w g s k o. t.past e x w g (few x s) k o;
 }
 
-pub tells_above : {writes : List Write} {floor after upto : ℕ} {entries : List Entry} (v : ℕ) → after ≤ v → Tells writes floor after upto entries → Tells writes floor v upto (above v entries)
-tells_above {entries = entries} v l t = cut v _ (above v entries) t l (omega arith) (λ e s. (of_above v entries e s).0) (λ e s lo hi. in_above v entries e s lo)
+pub tells_above : {writes : List Write} {floor after upto : ℕ} {entries : List Entry} (v : ℕ) → after ≤ v → Tells writes floor after upto entries → Tells writes floor v upto (newer_entries v entries)
+tells_above {entries = entries} v l t = cut v _ (newer_entries v entries) t l (omega arith) (λ e s. (of_above v entries e s).0) (λ e s lo hi. in_above v entries e s lo)
 
 pub tells_front : {writes : List Write} {floor after upto : ℕ} {entries : List Entry} (n : ℕ) → IsRun after upto entries → Tells writes floor after upto entries → Tells writes floor after (last_version after (take n entries)) (take n entries)
 tells_front {after = after} {entries = entries} n r t =
     cut after _ (take n entries) t (omega arith) (omega (arith, front_most n r)) (λ e s. taken n entries e s) (λ e s lo hi. front_whole n after entries e r.ascending s hi)
 
 -- markers up to the floor may go
-pub tells_live : {writes : List Write} {floor after upto : ℕ} {entries : List Entry} → Tells writes floor after upto entries → Tells writes floor after upto (live floor entries)
+pub tells_live : {writes : List Write} {floor after upto : ℕ} {entries : List Entry} → Tells writes floor after upto entries → Tells writes floor after upto (live_entries floor entries)
 tells_live {floor = floor} {entries = entries} t = record {
   reach = t.reach;
   reach_floor = t.reach_floor;
@@ -80,7 +80,7 @@ tells_raised_below {writes} {floor} {after} {upto} {entries} to l m r t = record
 }
 
 -- entries above all others are entered
-pub tells_entered : {writes : List Write} {floor after between upto : ℕ} {entries others : List Entry} → IsRun after between entries → IsRun between upto others → Tells writes floor after between entries → Tells writes floor between upto others → Tells writes floor after upto (entered entries others)
+pub tells_entered : {writes : List Write} {floor after between upto : ℕ} {entries others : List Entry} → IsRun after between entries → IsRun between upto others → Tells writes floor after between entries → Tells writes floor between upto others → Tells writes floor after upto (entries_after entries others)
 tells_entered {writes} {floor} {after} {between} {upto} {entries} {others} r q t n = record {
   reach = n.reach;
   reach_floor = n.reach_floor;
@@ -92,6 +92,6 @@ tells_entered {writes} {floor} {after} {between} {upto} {entries} {others} r q t
   past = λ e x w g s k o. ⊎_elim (λ old. t.past e x w g old k o) (λ new. n.past e x w g new k o) (of_entered entries others x s);
 }
   where
-    replaced : (e : Entry) → e.version ≤ between → Stands (entered entries others) e ⊎ ((b : Entry) × Stands others b × (b.key ≡ e.key)) → Stands (entered entries others) e ⊎ (Superseded writes e ⊎ Gone floor e)
+    replaced : (e : Entry) → e.version ≤ between → Stands (entries_after entries others) e ⊎ ((b : Entry) × Stands others b × (b.key ≡ e.key)) → Stands (entries_after entries others) e ⊎ (Superseded writes e ⊎ Gone floor e)
     replaced e old (inl s) = inl s
     replaced e old (inr p) = inr (inl (p.0, n.true_each p.0 p.1, p.2, omega (arith, run_after p.0 q p.1)))

@@ -3,14 +3,14 @@ use Rattle.std.proofs.Common.{ℕ, zero, suc, ◌≤◌, List, length, refl, Opt
 use Rattle.std.proofs.lemmas.Bool.{and_parts, cond_both}
 use Rattle.sb_types.specs.declared.entry.Write.{Write}
 use Rattle.sb_types.specs.Records.{Stage, Block, Holder}
-use Rattle.sb_types.specs.Runs.{above, IsBlock}
+use Rattle.sb_types.specs.Runs.{newer_entries, IsBlock}
 use Rattle.sb_types.specs.Writes.{Honest, IsHolder}
 use Rattle.sb_holdings.specs.declared.ends.BlockEnd.{BlockEnd}
 use Rattle.sb_holdings.specs.declared.ends.BlockEnd.TheVariants.{Own, OwnAhead, Gap, Stale, OwnersFull, Taken, TooManyKeys, NoMemory}
-use Rattle.sb_holdings.specs.Blocks.{part_above, front}
+use Rattle.sb_holdings.specs.Blocks.{part_above, leading_part}
 use Rattle.sb_holdings.specs.Shown.{joins_shown, shown_with}
 use Rattle.sb_holdings.specs.Stages.{stage_for, staged_all, staged_front, staged_refused}
-use Rattle.sb_holdings.specs.Taken.{routed, holder_after_block}
+use Rattle.sb_holdings.specs.Taken.{holder_by_route, holder_after_block}
 use Rattle.sb_holdings.proofs.Parts.{IsPart, part_is, front_is}
 use Rattle.sb_holdings.proofs.Steps.{Step, unchanged}
 use Rattle.sb_holdings.proofs.Joining.{shown_step}
@@ -26,17 +26,17 @@ module _ (writes : List Write) (h : Holder) (b : Block) (i : IsHolder h) (is : I
   staged_front_step zero o j = unchanged i
   staged_front_step (suc n) None j = unchanged i
   staged_front_step (suc n) (Some s) j =
-      stage_step writes h b (front (suc n) (part_above s.progress b)) s i j (front_is (suc n) b s.progress is j.after (omega (arith, j.order)))
+      stage_step writes h b (leading_part (suc n) (part_above s.progress b)) s i j (front_is (suc n) b s.progress is j.after (omega (arith, j.order)))
 
   staged_refused_step : (n : ℕ) (o : Option Stage) → IfSome o (Joins h b) → Step writes (Honest writes b) h (staged_refused n h b o)
   staged_refused_step n None j = unchanged i
   staged_refused_step n (Some s) j =
-      cond_both (nat_lt n (length (above s.progress b.entries))) _ _ (Step writes (Honest writes b) h) (λ _. staged_front_step n (Some s) j) (λ _. dropped h i)
+      cond_both (nat_lt n (length (newer_entries s.progress b.entries))) _ _ (Step writes (Honest writes b) h) (λ _. staged_front_step n (Some s) j) (λ _. dropped h i)
 
   routed_step : (p : Block) (staged : Option Stage → Holder) →
       (b.after ≤ h.shown.held → h.shown.held ≤ b.upto → IsPart b h.shown.held p) →
       ((o : Option Stage) → IfSome o (Joins h b) → Step writes (Honest writes b) h (staged o)) →
-      Step writes (Honest writes b) h (routed h b (shown_with h p) staged)
+      Step writes (Honest writes b) h (holder_by_route h b (shown_with h p) staged)
   routed_step p staged to_shown to_stage =
       cond_both (joins_shown h.shown b) (shown_with h p) _ (Step writes (Honest writes b) h)
       (λ joins.

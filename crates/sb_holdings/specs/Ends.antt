@@ -4,7 +4,7 @@ use Rattle.std.specs.Cmp.Lexicographic.{pointwise}
 use Rattle.std.specs.FinMap.{contains_key, len}
 use Rattle.sb_types.specs.declared.limits.TheConstants.{OWNERS_MOST, KEYS_MOST}
 use Rattle.sb_types.specs.Records.{Entry, Table, Stage, Block, Holder}
-use Rattle.sb_types.specs.Runs.{above, entered, live}
+use Rattle.sb_types.specs.Runs.{newer_entries, entries_after, live_entries}
 use Rattle.sb_holdings.specs.declared.ends.BlockEnd.{BlockEnd}
 use Rattle.sb_holdings.specs.declared.ends.BlockEnd.TheVariants.{Own, OwnAhead, Gap, Stale, OwnersFull, Taken, TooManyKeys, NoMemory}
 use Rattle.sb_holdings.specs.Shown.{joins_shown}
@@ -41,7 +41,7 @@ has_place held owner = contains_key held.owners owner || nat_lt (len held.owners
 
 -- how many keys there are after the first of these entries were entered
 abbrev pub keys_with : ℕ → List Entry → List Entry → ℕ
-keys_with count new entries = length (entered entries (take count new))
+keys_with count new entries = length (entries_after entries (take count new))
 
 -- how entering new entries in turn ends: with all of them, before the one that would be a key too many, or before any
 -- other
@@ -76,7 +76,7 @@ pub record IsTaken (held : Held) (b : Block) (end : BlockEnd) : Type 0 where
   pub joins : JoinsOn held b
   pub place : has_place held b.owner ≡ true
   pub enters : let t = shown_of held b.owner in
-      EntersOr (live (max t.floor b.floor) t.entries) (above t.held b.entries) ((b.entries ≡ []) × (contains_key held.owners b.owner ≡ false)) end
+      EntersOr (live_entries (max t.floor b.floor) t.entries) (newer_entries t.held b.entries) ((b.entries ≡ []) × (contains_key held.owners b.owner ≡ false)) end
 
 -- the block joins a stage, its owner has a place, and its entries above the stage's progress are entered this way.
 -- After the last entry, there may be no memory for the swap, or for the beginning of a stage without entries
@@ -84,7 +84,7 @@ pub record IsStaged (held : Held) (b : Block) (end : BlockEnd) : Type 0 where
   pub stage : Stage
   pub joins : JoinsStage held b stage
   pub place : has_place held b.owner ≡ true
-  pub enters : EntersOr stage.entries (above stage.progress b.entries) ((stage.floor ≤ b.upto) ⊎ ((stage.progress ≡ 0) × (b.entries ≡ []))) end
+  pub enters : EntersOr stage.entries (newer_entries stage.progress b.entries) ((stage.floor ≤ b.upto) ⊎ ((stage.progress ≡ 0) × (b.entries ≡ []))) end
 
 -- the end is the first that fits
 abbrev pub Fits : Held → Block → BlockEnd → Type 0

@@ -5,7 +5,7 @@ use Rattle.sb_types.specs.Records.{Entry, Block, Holder}
 use Rattle.sb_types.specs.Runs.{Stands, IsBlock}
 use Rattle.sb_types.specs.Writes.{Written, Honest}
 use Rattle.sb_holdings.specs.declared.ends.BlockEnd.{BlockEnd}
-use Rattle.sb_holdings.specs.Shown.{own}
+use Rattle.sb_holdings.specs.Shown.{holder_after_write}
 use Rattle.sb_holdings.specs.Taken.{holder_after_block}
 
 -- the owner wrote, or a block came and ended this way
@@ -14,7 +14,7 @@ pub data Event : Type 0 where
   Came : Block → BlockEnd → Event
 
 abbrev pub holder_after_event : Holder → Event → Holder
-holder_after_event h (Owned e) = own h e
+holder_after_event h (Owned e) = holder_after_write h e
 holder_after_event h (Came b end) = holder_after_block h b end
 
 abbrev pub replay_holder : Holder → List Event → Holder

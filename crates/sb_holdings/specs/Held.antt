@@ -6,7 +6,7 @@ use Rattle.std.specs.FinMap.{FinMap, get, insert, remove}
 use Rattle.sb_types.specs.Records.{Entry, Table, Block, Holder}
 use Rattle.sb_holdings.specs.declared.ends.BlockEnd.{BlockEnd}
 use Rattle.sb_holdings.specs.declared.ends.BlockEnd.TheVariants.{Own, OwnAhead, Gap, Stale, OwnersFull, Taken, TooManyKeys, NoMemory}
-use Rattle.sb_holdings.specs.Shown.{own}
+use Rattle.sb_holdings.specs.Shown.{holder_after_write, own_purged}
 use Rattle.sb_holdings.specs.Taken.{holder_after_block}
 
 -- the node's own name, and what it holds of each owner
@@ -15,14 +15,14 @@ pub record Held : Type 0 where
   pub owners : FinMap (slice_cmp nat_cmp) Holder
 
 -- what is held of an unknown owner
-abbrev pub nothing : Holder
-nothing = record { shown = record { held = 0; floor = 0; entries = [] }; stage = None }
+abbrev pub empty_holder : Holder
+empty_holder = record { shown = record { held = 0; floor = 0; entries = [] }; stage = None }
 
 abbrev pub is_nothing : Holder → Bool
 is_nothing h = nat_eq h.shown.held 0 && (nat_eq h.shown.floor 0 && (nat_eq (length h.shown.entries) 0 && is_none h.stage))
 
 abbrev pub holder_of : FinMap (slice_cmp nat_cmp) Holder → List ℕ → Holder
-holder_of owners owner = unwrap_or (get owners owner) nothing
+holder_of owners owner = unwrap_or (get owners owner) empty_holder
 
 abbrev pub shown_of : Held → List ℕ → Table
 shown_of held owner = (holder_of held.owners owner).shown
@@ -35,8 +35,12 @@ abbrev pub with_owner : Held → List ℕ → Holder → Held
 with_owner held owner h = record { me = held.me; owners = with_holder held.owners owner h }
 
 -- after the node's own write; the map always has the own name
-abbrev pub written : Held → Entry → Held
-written held e = record { me = held.me; owners = insert held.owners held.me (own (holder_of held.owners held.me) e) }
+abbrev pub held_after_write : Held → Entry → Held
+held_after_write held e = record { me = held.me; owners = insert held.owners held.me (holder_after_write (holder_of held.owners held.me) e) }
+
+-- after the node's own table was purged up to this floor
+abbrev pub purged_own : Held → ℕ → Held
+purged_own held floor = record { me = held.me; owners = insert held.owners held.me (own_purged floor (holder_of held.owners held.me)) }
 
 -- no block of the node's own name is taken
 abbrev pub held_after_taking : Held → Block → BlockEnd → Held

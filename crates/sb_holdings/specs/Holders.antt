@@ -5,35 +5,35 @@ use Rattle.std.specs.Cmp.Lexicographic.{slice_cmp}
 use Rattle.std.specs.Map.{lookup}
 use Rattle.std.specs.BTreeMap.{is_at}
 use Rattle.sb_types.specs.Records.{Entry, Table, Stage, Block, Holder}
-use Rattle.sb_types.specs.Runs.{IsRun, above, are_ascending, entered, last_version, live}
-use Rattle.sb_table.specs.Floors.{raised, swapped}
+use Rattle.sb_types.specs.Runs.{IsRun, newer_entries, are_ascending, entries_after, last_version, live_entries}
+use Rattle.sb_table.specs.Floors.{table_at_floor, table_after_swap}
 use Rattle.sb_holdings.specs.declared.ends.BlockEnd.{BlockEnd}
 use Rattle.sb_holdings.specs.declared.ends.BlockEnd.TheVariants.{Own, OwnAhead, Gap, Stale, OwnersFull, Taken, TooManyKeys, NoMemory}
 use Rattle.sb_holdings.specs.Shown.{joins_shown, stage_beyond}
 use Rattle.sb_holdings.specs.Stages.{goes_on, staged_all, staged_front, staged_refused}
-use Rattle.sb_holdings.specs.Held.{nothing}
+use Rattle.sb_holdings.specs.Held.{empty_holder}
 use Rattle.sb_holdings.specs.Ends.{Enters, entered_count, EntersOr, is_stale, joined_stage}
 
 -- ---- blocks in parts
 
-abbrev pub named : List ℕ → ℕ → ℕ → ℕ → List Entry → Block
-named owner floor after upto entries = record { owner = owner; floor = floor; after = after; upto = upto; entries = entries }
+abbrev pub owner_block : List ℕ → ℕ → ℕ → ℕ → List Entry → Block
+owner_block owner floor after upto entries = record { owner = owner; floor = floor; after = after; upto = upto; entries = entries }
 
 -- a block without its owner's name
-abbrev pub told : ℕ → ℕ → ℕ → List Entry → Block
-told floor after upto entries = record { owner = []; floor = floor; after = after; upto = upto; entries = entries }
+abbrev pub unnamed_block : ℕ → ℕ → ℕ → List Entry → Block
+unnamed_block floor after upto entries = record { owner = []; floor = floor; after = after; upto = upto; entries = entries }
 
 -- ---- which end a block has
 
 pub record IsShownTaken (h : Holder) (b : Block) (end : BlockEnd) : Type 0 where
   pub joins : joins_shown h.shown b ≡ true
-  pub enters : Enters (live (max h.shown.floor b.floor) h.shown.entries) (above h.shown.held b.entries) end
+  pub enters : Enters (live_entries (max h.shown.floor b.floor) h.shown.entries) (newer_entries h.shown.held b.entries) end
 
 -- after the last entry, there may be no memory for the swap
 pub record IsStageTaken (h : Holder) (b : Block) (end : BlockEnd) : Type 0 where
   pub stage : Stage
   pub joins : joined_stage h b ≡ Some stage
-  pub enters : EntersOr stage.entries (above stage.progress b.entries) (stage.floor ≤ b.upto) end
+  pub enters : EntersOr stage.entries (newer_entries stage.progress b.entries) (stage.floor ≤ b.upto) end
 
 abbrev pub FitsHolder : Holder → Block → BlockEnd → Type 0
 FitsHolder h b Own = ⊥
@@ -48,30 +48,30 @@ FitsHolder h b (NoMemory n) = IsShownTaken h b (NoMemory n) ⊎ IsStageTaken h b
 -- ---- what entering new entries leaves
 
 -- how far it came: up to upto if all were entered, else up to the last entered one
-abbrev pub reached : ℕ → ℕ → List Entry → BlockEnd → ℕ
-reached before upto new Own = before
-reached before upto new (OwnAhead ahead) = before
-reached before upto new Gap = before
-reached before upto new Stale = before
-reached before upto new OwnersFull = before
-reached before upto new (Taken n) = upto
-reached before upto new (TooManyKeys n) = last_version before (take n new)
-reached before upto new (NoMemory n) = last_version before (take n new)
+abbrev pub upto_after : ℕ → ℕ → List Entry → BlockEnd → ℕ
+upto_after before upto new Own = before
+upto_after before upto new (OwnAhead ahead) = before
+upto_after before upto new Gap = before
+upto_after before upto new Stale = before
+upto_after before upto new OwnersFull = before
+upto_after before upto new (Taken n) = upto
+upto_after before upto new (TooManyKeys n) = last_version before (take n new)
+upto_after before upto new (NoMemory n) = last_version before (take n new)
 
-abbrev pub table_ended : Table → ℕ → List Entry → BlockEnd → Table
-table_ended t upto new end = record { held = reached t.held upto new end; floor = t.floor; entries = entered t.entries (take (entered_count end) new) }
+abbrev pub table_after_end : Table → ℕ → List Entry → BlockEnd → Table
+table_after_end t upto new end = record { held = upto_after t.held upto new end; floor = t.floor; entries = entries_after t.entries (take (entered_count end) new) }
 
-abbrev pub stage_ended : Stage → ℕ → List Entry → BlockEnd → Stage
-stage_ended s upto new end = record { floor = s.floor; progress = reached s.progress upto new end; entries = entered s.entries (take (entered_count end) new) }
+abbrev pub stage_after_end : Stage → ℕ → List Entry → BlockEnd → Stage
+stage_after_end s upto new end = record { floor = s.floor; progress = upto_after s.progress upto new end; entries = entries_after s.entries (take (entered_count end) new) }
 
 -- the stage with others entered, each in place of its key's old entry
 abbrev pub stage_with_entries : Stage → List Entry → Stage
-stage_with_entries s others = record { floor = s.floor; progress = last_version s.progress others; entries = entered s.entries others }
+stage_with_entries s others = record { floor = s.floor; progress = last_version s.progress others; entries = entries_after s.entries others }
 
 -- the shown table with its floor raised and new entries entered, without the stage if the table has reached its floor
 abbrev pub shown_taken : Holder → ℕ → ℕ → List Entry → BlockEnd → Holder
 shown_taken h floor upto new end =
-    let t = table_ended (raised h.shown.held (max h.shown.floor floor) h.shown) upto new end in
+    let t = table_after_end (table_at_floor h.shown.held (max h.shown.floor floor) h.shown) upto new end in
     record { shown = t; stage = stage_beyond t.held h.stage }
 
 -- all was entered, and the stage has reached its floor
@@ -92,13 +92,13 @@ shown_stage t s (OwnAhead ahead) = record { shown = t; stage = None }
 shown_stage t s Gap = record { shown = t; stage = None }
 shown_stage t s Stale = record { shown = t; stage = None }
 shown_stage t s OwnersFull = record { shown = t; stage = None }
-shown_stage t s (Taken n) = record { shown = swapped t s; stage = None }
+shown_stage t s (Taken n) = record { shown = table_after_swap t s; stage = None }
 shown_stage t s (TooManyKeys n) = record { shown = t; stage = None }
 shown_stage t s (NoMemory n) = record { shown = t; stage = None }
 
 -- the stage beside the table, or in its place if it is due
-abbrev pub placed : Table → Stage → Bool → BlockEnd → Holder
-placed t s due end = if due then shown_stage t s end else record { shown = t; stage = Some s }
+abbrev pub with_stage : Table → Stage → Bool → BlockEnd → Holder
+with_stage t s due end = if due then shown_stage t s end else record { shown = t; stage = Some s }
 
 -- it ends as entering did, or there was no memory for the swap
 abbrev pub Settles : Stage → BlockEnd → BlockEnd → Type 0
@@ -127,11 +127,11 @@ may_begin (Some s) floor = nat_lt s.floor floor
 
 -- the entries that the stage lacks are a run up to this version
 abbrev pub GoesOn : Stage → ℕ → List Entry → Type 0
-GoesOn s upto entries = (are_ascending 0 entries ≡ true) × IsRun s.progress upto (above s.progress entries) × (s.progress < upto)
+GoesOn s upto entries = (are_ascending 0 entries ≡ true) × IsRun s.progress upto (newer_entries s.progress entries) × (s.progress < upto)
 
 -- how a stage takes these entries
 abbrev pub FillsStage : Stage → ℕ → List Entry → BlockEnd → Type 0
-FillsStage s upto entries end = EntersOr s.entries (above s.progress entries) (s.floor ≤ upto) end
+FillsStage s upto entries end = EntersOr s.entries (newer_entries s.progress entries) (s.floor ≤ upto) end
 
 -- how a block whose floor is above the held version ends, given the stage that it joins, if any
 abbrev pub FitsStage : Option Stage → Block → BlockEnd → Type 0
@@ -151,4 +151,4 @@ Dropped owner gone old new = (q : List ℕ) →
 
 -- how a block that begins after 0 ends if its owner is not held: as at an empty holder, or without memory for the owner
 abbrev pub FitsNew : Block → BlockEnd → Type 0
-FitsNew b end = FitsHolder nothing b end ⊎ (end ≡ NoMemory 0)
+FitsNew b end = FitsHolder empty_holder b end ⊎ (end ≡ NoMemory 0)

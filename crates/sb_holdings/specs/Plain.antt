@@ -6,7 +6,7 @@ use Rattle.std.specs.Cmp.Lexicographic.{slice_cmp, pointwise}
 use Rattle.std.specs.FinMap.{get, entries, len, from_sorted}
 use Rattle.sb_types.specs.declared.limits.TheConstants.{OWNERS_MOST, KEYS_MOST}
 use Rattle.sb_types.specs.Records.{Entry, Table, Holder}
-use Rattle.sb_types.specs.Runs.{entered, last_version}
+use Rattle.sb_types.specs.Runs.{entries_after, last_version}
 use Rattle.sb_types.specs.Writes.{IsHolder}
 use Rattle.sb_types.specs.declared.fault.Fault.{Fault}
 use Rattle.sb_types.specs.declared.fault.Fault.TheVariants.{OutOfTurn, TableFull}
@@ -14,12 +14,12 @@ use Rattle.sb_table.specs.Plain.{is_full_for}
 use Rattle.sb_holdings.specs.Held.{Held, is_nothing, shown_of}
 
 -- the table without a stage beside it
-abbrev pub alone : Table → Holder
-alone t = record { shown = t; stage = None }
+abbrev pub table_holder : Table → Holder
+table_holder t = record { shown = t; stage = None }
 
 -- the table with others entered, each in place of its key's old entry
 abbrev pub with_entries : Table → List Entry → Table
-with_entries t others = record { held = last_version t.held others; floor = t.floor; entries = entered t.entries others }
+with_entries t others = record { held = last_version t.held others; floor = t.floor; entries = entries_after t.entries others }
 
 -- the own name, and what is held of these owners, whose names ascend
 abbrev pub held_of : List ℕ → List (List ℕ × Holder) → Held

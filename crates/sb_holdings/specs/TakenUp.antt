@@ -1,7 +1,7 @@
 -- What a block that joins on leaves of its owner.
 use Rattle.std.specs.Prelude.{◌≡◌, ℕ, ◌≤◌, List, take, ◌⊎◌, None, IsSomeAnd}
 use Rattle.sb_types.specs.Records.{Entry, Table, Stage, Block, Holder}
-use Rattle.sb_types.specs.Runs.{Stands, above, last_version}
+use Rattle.sb_types.specs.Runs.{Stands, newer_entries, last_version}
 use Rattle.sb_types.specs.Writes.{Gone}
 use Rattle.sb_holdings.specs.declared.ends.BlockEnd.{BlockEnd}
 use Rattle.sb_holdings.specs.declared.ends.BlockEnd.TheVariants.{Own, OwnAhead, Gap, Stale, OwnersFull, Taken, TooManyKeys, NoMemory}
@@ -17,12 +17,12 @@ pub record HasFront (old : Table) (front : List Entry) (new : Table) : Type 0 wh
 abbrev pub IsFrontTaken : Node → Block → ℕ → Node → Type 0
 IsFrontTaken old b n new =
     let t = shown_of old.held b.owner in
-    HasFront t (take n (above t.held b.entries)) (shown_of new.held b.owner)
+    HasFront t (take n (newer_entries t.held b.entries)) (shown_of new.held b.owner)
 
 -- the new table has reached the block's upto, and has each of its entries above the old held version
 pub record HasAll (old : Table) (b : Block) (new : Table) : Type 0 where
   pub held : b.upto ≤ new.held
-  pub each : (e : Entry) → Stands (above old.held b.entries) e → Stands new.entries e
+  pub each : (e : Entry) → Stands (newer_entries old.held b.entries) e → Stands new.entries e
 
 -- if there is no room for its owner, nothing changes. If there is none for its next entry, the ones before are taken.
 -- Else all of it is taken. It ends in no other way
@@ -48,7 +48,7 @@ pub record HasStageFront (old : Stage) (front : List Entry) (new : Stage) : Type
 pub record HasStageAll (old : Stage) (b : Block) (new : Stage) : Type 0 where
   pub floor : new.floor ≡ old.floor
   pub progress : new.progress ≡ b.upto
-  pub each : (e : Entry) → Stands (above old.progress b.entries) e → Stands new.entries e
+  pub each : (e : Entry) → Stands (newer_entries old.progress b.entries) e → Stands new.entries e
 
 -- the stage replaced the table, which now reaches the block's upto and has the stage's floor. It has each of the
 -- block's entries above the old held version and the old progress, except tombstones (markers of removed keys) up to
@@ -57,12 +57,12 @@ pub record IsShown (old : Holder) (s : Stage) (b : Block) (new : Holder) : Type 
   pub none : new.stage ≡ None
   pub held : new.shown.held ≡ b.upto
   pub floor : new.shown.floor ≡ s.floor
-  pub each : (e : Entry) → Stands (above old.shown.held (above s.progress b.entries)) e → Stands new.shown.entries e ⊎ Gone s.floor e
+  pub each : (e : Entry) → Stands (newer_entries old.shown.held (newer_entries s.progress b.entries)) e → Stands new.shown.entries e ⊎ Gone s.floor e
 
 -- the shown table stays, and the stage has the first n of the block's entries above the old progress, and no more. If n
 -- is 0, nothing changes
 abbrev pub IsFrontStaged : Holder → Stage → Block → ℕ → Holder → Type 0
-IsFrontStaged old s b n new = (new.shown ≡ old.shown) × (((n ≡ 0) × (new ≡ old)) ⊎ IsSomeAnd new.stage (HasStageFront s (take n (above s.progress b.entries))))
+IsFrontStaged old s b n new = (new.shown ≡ old.shown) × (((n ≡ 0) × (new ≡ old)) ⊎ IsSomeAnd new.stage (HasStageFront s (take n (newer_entries s.progress b.entries))))
 
 -- what becomes of a block that joins this stage. If there is no room for its owner, nothing changes. If there is none
 -- for its next entry, the ones before are taken. If there is no memory for the swap, the table stays, and there is no

@@ -6,7 +6,7 @@ ghost use Rattle.sb_types.specs.Records.{Table};
 ghost use Rattle.sb_types.specs.Runs.{IsTable};
 ghost use Rattle.sb_types.specs.Writes.{Written, Holds};
 ghost use Rattle.sb_table.specs.Plain.{IsPlainTable, with_entry};
-ghost use Rattle.sb_table.specs.Floors.{raised};
+ghost use Rattle.sb_table.specs.Floors.{table_at_floor};
 ghost use Rattle.sb_table.specs.Contents.{IsContent};
 ghost use Rattle.sb_holdings.specs.Contents.{entry_of_write, content_table};
 
@@ -27,7 +27,7 @@ pub fn contents_grow()
 /// A log that is purged up to a higher floor has no tombstones up to it. A tombstone is the marker of a removed key.
 /// Everything else stays as before.
 pub fn contents_purge()
-    ensures { (writes : List Write) (floor more : ℕ) → floor ≤ more → content_table more writes ≡ raised (length writes) more (content_table floor writes) }
+    ensures { (writes : List Write) (floor more : ℕ) → floor ≤ more → content_table more writes ≡ table_at_floor (length writes) more (content_table floor writes) }
 {}
 
 /// Each table of floor 0 is the content of a log of some writes. So is each table whose held version is at most its

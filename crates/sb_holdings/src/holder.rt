@@ -1,16 +1,16 @@
 //! What is held of one owner: the shown table, and perhaps a stage that will replace it.
 ghost use Rattle.std.specs.Prelude.{◌≡◌, ℕ, ◌≤◌, ◌<◌, max, true, false, List, [], OnOk, OnErr, IfErr, None, Some, IfSome, IsSomeAnd, take};
 ghost use Rattle.std.specs.Option.{option_copied, option_map};
-ghost use Rattle.sb_types.specs.Runs.{IsRun, above, live, are_ascending, are_distinct};
+ghost use Rattle.sb_types.specs.Runs.{IsRun, newer_entries, live_entries, are_ascending, are_distinct};
 ghost use Rattle.sb_table.specs.Plain.{is_full_for, with_entry};
-ghost use Rattle.sb_table.specs.Floors.{IsKeptTable, IsKeptStage, raised, stage_with_entry};
-ghost use Rattle.sb_holdings.specs.Held.{nothing, is_nothing};
-ghost use Rattle.sb_holdings.specs.Plain.{alone, with_entries, IsKeptHolder};
-ghost use Rattle.sb_holdings.specs.Shown.{stage_beyond};
+ghost use Rattle.sb_table.specs.Floors.{IsKeptTable, IsKeptStage, table_at_floor, stage_with_entry};
+ghost use Rattle.sb_holdings.specs.Held.{empty_holder, is_nothing};
+ghost use Rattle.sb_holdings.specs.Plain.{table_holder, with_entries, IsKeptHolder};
+ghost use Rattle.sb_holdings.specs.Shown.{stage_beyond, own_purged};
 ghost use Rattle.sb_holdings.specs.Stages.{new_stage, stage_for};
 ghost use Rattle.sb_holdings.specs.Taken.{holder_after_block};
 ghost use Rattle.sb_holdings.specs.Ends.{Enters, entered_count};
-ghost use Rattle.sb_holdings.specs.Holders.{told, FitsHolder, FitsStage, FillsStage, GoesOn, table_ended, stage_ended, stage_with_entries, shown_taken, is_due, placed, shown_stage, Settles, staged_by, goes_on_with, may_begin};
+ghost use Rattle.sb_holdings.specs.Holders.{unnamed_block, FitsHolder, FitsStage, FillsStage, GoesOn, table_after_end, stage_after_end, stage_with_entries, shown_taken, is_due, with_stage, shown_stage, Settles, staged_by, goes_on_with, may_begin};
 
 use crate::ends::BlockEnd;
 use sb_table::{Stage, Table, entries_above};
@@ -39,7 +39,7 @@ impl Model for Holder {
 impl Holder {
     /// Makes the holder of an unknown owner: an empty table, and no stage. It takes no memory.
     pub(crate) fn nothing(alloc: Global) -> Holder
-        ensures nothing { result ≡ nothing }
+        ensures nothing { result ≡ empty_holder }
         ensures kept { IsKeptHolder result }
     {
         Holder {
@@ -50,7 +50,7 @@ impl Holder {
 
     /// Makes a holder that shows this table, and has no stage. It takes no memory.
     pub(crate) fn alone(shown: Table) -> Holder
-        ensures alone { result ≡ alone shown }
+        ensures alone { result ≡ table_holder shown }
         ensures kept { IsKeptHolder result }
     {
         // Proof only: the call shows that the table keeps its limits.
@@ -82,12 +82,24 @@ impl Holder {
         requires later { self.old.shown.held < entry.version }
         requires room { is_full_for entry.key self.old.shown.entries ≡ false }
         requires alone { self.old.stage ≡ None }
-        ensures ok { OnOk result (self.new ≡ alone (with_entry self.old.shown entry)) }
+        ensures ok { OnOk result (self.new ≡ table_holder (with_entry self.old.shown entry)) }
         ensures err { OnErr result (self.new ≡ self.old) }
         ensures fault { IfErr result (λ fault. fault ≡ Fault.NoMemory) }
         ensures kept { IsKeptHolder self.new }
     {
         self.shown.push(entry)
+    }
+
+    /// Drops the tombstones (markers of removed keys) up to a version of the shown table, which becomes its floor. If
+    /// that is not above the present floor, or is above the held version, nothing changes. It takes no memory.
+    pub(crate) fn purge(&mut self, floor: u64)
+        ensures purged { self.new ≡ own_purged floor self.old }
+        ensures kept { IsKeptHolder self.new }
+    {
+        let (lowest, held) = (self.shown.floor(), self.shown.upto());
+        if lowest < floor && floor <= held {
+            self.shown.raise(held, floor);
+        }
     }
 
     /// Returns whether nothing is held, not even a version.
@@ -114,8 +126,8 @@ impl Holder {
     ) -> BlockEnd
         requires run { IsRun after upto entries.now }
         requires order { after < upto }
-        ensures effect { self.new ≡ holder_after_block self.old (told floor after upto entries.now) result }
-        ensures end { FitsHolder self.old (told floor after upto entries.now) result }
+        ensures effect { self.new ≡ holder_after_block self.old (unnamed_block floor after upto entries.now) result }
+        ensures end { FitsHolder self.old (unnamed_block floor after upto entries.now) result }
         ensures kept { IsKeptHolder self.new }
     {
         let held = self.shown.upto();
@@ -135,7 +147,7 @@ impl Holder {
     fn take_shown(&mut self, alloc: Global, floor: u64, upto: u64, new: &[Entry]) -> BlockEnd
         requires run { IsRun self.old.shown.held upto new.now }
         requires floor { floor ≤ self.old.shown.held }
-        ensures end { Enters (live (max self.old.shown.floor floor) self.old.shown.entries) new.now result }
+        ensures end { Enters (live_entries (max self.old.shown.floor floor) self.old.shown.entries) new.now result }
         ensures effect { self.new ≡ shown_taken self.old floor upto new.now result }
         ensures kept { IsKeptHolder self.new }
     {
@@ -156,8 +168,8 @@ impl Holder {
         requires run { IsRun after upto entries.now }
         requires order { after < upto }
         requires beyond { self.old.shown.held < floor }
-        ensures effect { self.new ≡ staged_by self.old (told floor after upto entries.now) (stage_for self.old.stage (told floor after upto entries.now)) result }
-        ensures end { FitsStage (stage_for self.old.stage (told floor after upto entries.now)) (told floor after upto entries.now) result }
+        ensures effect { self.new ≡ staged_by self.old (unnamed_block floor after upto entries.now) (stage_for self.old.stage (unnamed_block floor after upto entries.now)) result }
+        ensures end { FitsStage (stage_for self.old.stage (unnamed_block floor after upto entries.now)) (unnamed_block floor after upto entries.now) result }
         ensures kept { IsKeptHolder self.new }
     {
         if goes_on_with(self.stage.as_ref(), floor, after, upto) {
@@ -172,7 +184,7 @@ impl Holder {
     /// Takes those of these entries that the stage lacks into the stage.
     fn go_on(&mut self, alloc: Global, upto: u64, entries: &[Entry]) -> BlockEnd
         requires stage { IsSomeAnd self.old.stage (λ s. GoesOn s upto entries.now) }
-        ensures effect { self.new ≡ staged_by self.old (told 0 0 upto entries.now) self.old.stage result }
+        ensures effect { self.new ≡ staged_by self.old (unnamed_block 0 0 upto entries.now) self.old.stage result }
         ensures end { IfSome self.old.stage (λ s. FillsStage s upto entries.now result) }
         ensures kept { IsKeptHolder self.new }
     {
@@ -192,7 +204,7 @@ impl Holder {
         requires run { IsRun 0 upto entries.now }
         requires more { 0 < upto }
         requires beyond { self.old.shown.held < floor }
-        ensures effect { self.new ≡ staged_by self.old (told floor 0 upto entries.now) (Some (new_stage floor)) result }
+        ensures effect { self.new ≡ staged_by self.old (unnamed_block floor 0 upto entries.now) (Some (new_stage floor)) result }
         ensures end { FillsStage (new_stage floor) upto entries.now result }
         ensures kept { IsKeptHolder self.new }
     {
@@ -211,7 +223,7 @@ impl Holder {
         requires some { 1 ≤ stage.progress }
         requires beyond { self.old.shown.held < stage.floor }
         ensures end { Settles stage end result }
-        ensures effect { self.new ≡ placed self.old.shown stage (is_due stage end) result }
+        ensures effect { self.new ≡ with_stage self.old.shown stage (is_due stage end) result }
         ensures kept { IsKeptHolder self.new }
     {
         match end {
@@ -248,7 +260,7 @@ impl Holder {
 
 /// Returns whether a block with these parts continues the stage that is there.
 fn goes_on_with(stage: Option<&Stage>, floor: u64, after: u64, upto: u64) -> bool
-    ensures { result ≡ goes_on_with (option_copied stage.entry) (told floor after upto []) }
+    ensures { result ≡ goes_on_with (option_copied stage.entry) (unnamed_block floor after upto []) }
 {
     match stage {
         Some(stage) => {
@@ -282,8 +294,8 @@ fn drop_reached(stage: &mut Option<Stage>, held: u64)
 fn join(alloc: Global, shown: &mut Table, floor: u64, upto: u64, new: &[Entry]) -> BlockEnd
     requires run { IsRun shown.old.held upto new.now }
     requires floor { floor ≤ shown.old.held }
-    ensures end { Enters (live (max shown.old.floor floor) shown.old.entries) new.now result }
-    ensures effect { shown.new ≡ table_ended (raised shown.old.held (max shown.old.floor floor) shown.old) upto new.now result }
+    ensures end { Enters (live_entries (max shown.old.floor floor) shown.old.entries) new.now result }
+    ensures effect { shown.new ≡ table_after_end (table_at_floor shown.old.held (max shown.old.floor floor) shown.old) upto new.now result }
     ensures table { IsKeptTable shown.new }
 {
     let held = shown.upto();
@@ -303,7 +315,7 @@ fn fill(alloc: Global, stage: &mut Stage, upto: u64, new: &[Entry]) -> BlockEnd
     requires stage { IsKeptStage stage.old }
     requires run { IsRun stage.old.progress upto new.now }
     ensures end { Enters stage.old.entries new.now result }
-    ensures effect { stage.new ≡ stage_ended stage.old upto new.now result }
+    ensures effect { stage.new ≡ stage_after_end stage.old upto new.now result }
     ensures stage { IsKeptStage stage.new }
 {
     match enter_staged(alloc, stage, new) {

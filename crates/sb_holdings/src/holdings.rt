@@ -11,11 +11,11 @@ ghost use Rattle.sb_types.specs.declared.limits.TheConstants.{OWNERS_MOST};
 ghost use Rattle.sb_types.specs.Faults.{Gives};
 ghost use Rattle.sb_types.specs.Runs.{IsRun};
 ghost use Rattle.sb_table.specs.Plain.{is_full_for};
-ghost use Rattle.sb_holdings.specs.Held.{holder_of, shown_of, nothing, with_owner, written, held_after_block};
-ghost use Rattle.sb_holdings.specs.Plain.{IsHoldings, alone, held_of, own_answer, table_of, holders_from, tables_from};
+ghost use Rattle.sb_holdings.specs.Held.{holder_of, shown_of, empty_holder, with_owner, held_after_write, purged_own, held_after_block};
+ghost use Rattle.sb_holdings.specs.Plain.{IsHoldings, table_holder, held_of, own_answer, table_of, holders_from, tables_from};
 ghost use Rattle.sb_holdings.specs.Taken.{holder_after_block};
 ghost use Rattle.sb_holdings.specs.Ends.{Fits};
-ghost use Rattle.sb_holdings.specs.Holders.{told, named, FitsHolder, FitsNew, own_end, Dropped};
+ghost use Rattle.sb_holdings.specs.Holders.{unnamed_block, owner_block, FitsHolder, FitsNew, own_end, Dropped};
 
 use crate::ends::BlockEnd;
 use crate::holder::Holder;
@@ -68,7 +68,7 @@ impl Model for Holdings {
 impl Holdings {
     /// Makes holdings of the own name with its table, and of no other owner. The only fault is `NoMemory`.
     pub fn new(alloc: Global, me: Name, table: Table) -> Result<Holdings, Fault>
-        ensures held { IfOk result (λ h. h ≡ held_of me ((me, alone table) ∷ [])) }
+        ensures held { IfOk result (λ h. h ≡ held_of me ((me, table_holder table) ∷ [])) }
         ensures holdings { IfOk result IsHoldings }
         ensures memory { IfErr result (λ fault. fault ≡ Fault.NoMemory) }
     {
@@ -179,7 +179,7 @@ impl Holdings {
     pub fn push_own(&mut self, entry: Entry) -> Result<(), Fault>
         ensures answer { Gives result (own_answer self.old entry) }
         ensures refused { IfErr (own_answer self.old entry) (λ fault. result ≡ Err fault) }
-        ensures ok { OnOk result (self.new ≡ written self.old entry) }
+        ensures ok { OnOk result (self.new ≡ held_after_write self.old entry) }
         ensures err { OnErr result (self.new ≡ self.old) }
         ensures holdings { IsHoldings self.new }
     {
@@ -191,6 +191,15 @@ impl Holdings {
             return Err(Fault::TableFull);
         }
         self.enter_own(entry)
+    }
+
+    /// Drops the tombstones (markers of removed keys) up to a version of the own table, which becomes its purge floor.
+    /// If that is not above the present floor, or is above the held version, nothing changes. It takes no memory.
+    pub fn purge_own(&mut self, floor: u64)
+        ensures purged { self.new ≡ purged_own self.old floor }
+        ensures holdings { IsHoldings self.new }
+    {
+        self.holders.get_mut(&self.me).unwrap().purge(floor);
     }
 
     /// Takes a block of another owner, and returns how it ended. It copies the entries one by one.
@@ -230,8 +239,8 @@ impl Holdings {
     ) -> BlockEnd
         requires run { IsRun after upto entries.now }
         requires order { after < upto }
-        ensures effect { self.new ≡ held_after_block self.old (named owner.now floor after upto entries.now) result }
-        ensures end { Fits self.old (named owner.now floor after upto entries.now) result }
+        ensures effect { self.new ≡ held_after_block self.old (owner_block owner.now floor after upto entries.now) result }
+        ensures end { Fits self.old (owner_block owner.now floor after upto entries.now) result }
         ensures holdings { IsHoldings self.new }
     {
         if *owner == self.me {
@@ -265,7 +274,7 @@ impl Holdings {
     fn enter_own(&mut self, entry: Entry) -> Result<(), Fault>
         requires next { entry.version ≡ (shown_of self.old self.old.me).held + 1 }
         requires room { is_full_for entry.key (shown_of self.old self.old.me).entries ≡ false }
-        ensures ok { OnOk result (self.new ≡ written self.old entry) }
+        ensures ok { OnOk result (self.new ≡ held_after_write self.old entry) }
         ensures err { OnErr result (self.new ≡ self.old) }
         ensures fault { IfErr result (λ fault. fault ≡ Fault.NoMemory) }
         ensures holdings { IsHoldings self.new }
@@ -297,8 +306,8 @@ impl Holdings {
         requires known { contains_key self.old.owners owner.now ≡ true }
         requires run { IsRun after upto entries.now }
         requires order { after < upto }
-        ensures end { FitsHolder (holder_of self.old.owners owner.now) (told floor after upto entries.now) result }
-        ensures effect { self.new ≡ with_owner self.old owner.now (holder_after_block (holder_of self.old.owners owner.now) (told floor after upto entries.now) result) }
+        ensures end { FitsHolder (holder_of self.old.owners owner.now) (unnamed_block floor after upto entries.now) result }
+        ensures effect { self.new ≡ with_owner self.old owner.now (holder_after_block (holder_of self.old.owners owner.now) (unnamed_block floor after upto entries.now) result) }
         ensures holdings { IsHoldings self.new }
     {
         let alloc = self.alloc;
@@ -316,8 +325,8 @@ impl Holdings {
         requires place { len self.old.owners < OWNERS_MOST }
         requires run { IsRun 0 upto entries.now }
         requires order { 0 < upto }
-        ensures end { FitsNew (told floor 0 upto entries.now) result }
-        ensures effect { self.new ≡ with_owner self.old owner.now (holder_after_block nothing (told floor 0 upto entries.now) result) }
+        ensures end { FitsNew (unnamed_block floor 0 upto entries.now) result }
+        ensures effect { self.new ≡ with_owner self.old owner.now (holder_after_block empty_holder (unnamed_block floor 0 upto entries.now) result) }
         ensures holdings { IsHoldings self.new }
     {
         let mut holder = Holder::nothing(self.alloc);

@@ -4,16 +4,16 @@ ghost use Rattle.std.specs.Prelude.{◌≡◌, ℕ, ◌+◌, true, false, List, 
 ghost use Rattle.sb_types.specs.declared.entry.Write.{Write};
 ghost use Rattle.sb_types.specs.Records.{Entry, Table, Block, Holder};
 ghost use Rattle.sb_types.specs.Limits.{is_delta, is_delta_block};
-ghost use Rattle.sb_types.specs.Runs.{Stands, are_distinct, entered, IsBlock};
+ghost use Rattle.sb_types.specs.Runs.{Stands, are_distinct, entries_after, IsBlock};
 ghost use Rattle.sb_types.specs.Writes.{Tells, Holds, Honest, IsHolder, HolderHolds};
 ghost use Rattle.sb_holdings.specs.declared.ends.BlockEnd.{BlockEnd};
 ghost use Rattle.sb_holdings.specs.Taken.{holder_after_block};
 ghost use Rattle.sb_holdings.specs.Events.{Event, replay_holder, AreEvents, AllTrue};
 ghost use Rattle.sb_holdings.specs.Progress.{Later};
-ghost use Rattle.sb_holdings.specs.Held.{Held, shown_of, written};
+ghost use Rattle.sb_holdings.specs.Held.{Held, shown_of, held_after_write};
 ghost use Rattle.sb_holdings.specs.Plain.{IsHoldings};
 ghost use Rattle.sb_holdings.specs.Nodes.{Node, NodeEvent, replay_node, AreNodeEvents, AllTrueAt, IsNode, NodeHolds, NodeLater};
-ghost use Rattle.sb_holdings.specs.Entering.{entered_each};
+ghost use Rattle.sb_holdings.specs.Entering.{entries_after_each};
 ghost use Rattle.sb_holdings.specs.ByVersion.{TellsByVersion};
 
 /// A table that is true of some writes, and an honest block of them, stay so as more is written.
@@ -24,7 +24,7 @@ pub fn truth_lasts()
 
 /// Entering entries one by one, each in place of its key's old entry, is the same as entering them at once.
 pub fn one_by_one()
-    ensures { (entries others : List Entry) → are_distinct others ≡ true → entered_each entries others ≡ entered entries others }
+    ensures { (entries others : List Entry) → are_distinct others ≡ true → entries_after_each entries others ≡ entries_after entries others }
 {}
 
 /// What is held stays true, whichever honest block comes and however it ends.
@@ -57,7 +57,7 @@ pub fn nodes_hold()
 
 /// An own write that is not the next one changes nothing.
 pub fn writes_come_in_turn()
-    ensures { (held : Held) (e : Entry) → IsHoldings held → (e.version ≡ (shown_of held held.me).held + 1 → ⊥) → written held e ≡ held }
+    ensures { (held : Held) (e : Entry) → IsHoldings held → (e.version ≡ (shown_of held held.me).held + 1 → ⊥) → held_after_write held e ≡ held }
 {}
 
 /// The two definitions of what entries contain of the writes are equivalent: entry by entry, and version by version.

@@ -24,12 +24,12 @@ abbrev pub entry_line : List ℕ → Entry → List ℕ
 entry_line owner e = owner ++ 32 ∷ (e.key ++ 32 ∷ (decimal e.version ++ 32 ∷ (slot_text e.slot ++ 10 ∷ [])))
 
 -- each entry in ascending key, and then the last version
-abbrev pub printed : List ℕ → Table → List ℕ
-printed owner t = flat_map (entry_line owner) (by_key t.entries) ++ (codes "last" ++ 32 ∷ (decimal t.held ++ 10 ∷ []))
+abbrev pub log_text : List ℕ → Table → List ℕ
+log_text owner t = flat_map (entry_line owner) (by_key t.entries) ++ (codes "last" ++ 32 ∷ (decimal t.held ++ 10 ∷ []))
 
 -- a table that was loaded is printed, or so many of its first bytes; a fault of loading is passed on, with nothing printed
 abbrev pub Prints : List ℕ → Result Table Fault → Option (List ℕ) → Option (List ℕ) → Result (Unit {0}) Fault → Type 0
-Prints owner (Ok table) old new result = Sends old new (printed owner table) result
+Prints owner (Ok table) old new result = Sends old new (log_text owner table) result
 Prints owner (Err fault) old new result = (result ≡ Err fault) × Keeps old new
 
 -- what the log gives is printed, and of whose log it is

@@ -2,7 +2,7 @@
 ghost use Rattle.std.specs.Prelude.{◌≡◌, ◌++◌, true, OnOk, IfOk, IfErr};
 ghost use Rattle.std.specs.Io.KnownBytes.{Appends};
 ghost use Rattle.sb_frames.specs.Sending.{OnlyWhereFailed};
-ghost use Rattle.sb_lines.specs.Printed.{slot_text, entry_line, printed, PrintsLog};
+ghost use Rattle.sb_lines.specs.Printed.{slot_text, entry_line, log_text, PrintsLog};
 
 use sb_frames::{LastWrite, write_counted};
 use sb_log::WriteLog;
@@ -40,7 +40,7 @@ fn add_entry(out: &mut Vec<u8>, owner: &Name, entry: &Entry) -> Result<(), Fault
 
 /// The lines of a table.
 fn lines_of(alloc: Global, owner: &Name, table: &Table) -> Result<Vec<u8>, Fault>
-    ensures lines { IfOk result (λ lines. lines.items ≡ printed owner.now table.now) }
+    ensures lines { IfOk result (λ lines. lines.items ≡ log_text owner.now table.now) }
     ensures fault { IfErr result (λ fault. fault ≡ Fault.NoMemory) }
 {
     let mut out = Vec::new(alloc);
@@ -67,7 +67,7 @@ pub fn log_run<L: WriteLog, W: Write>(
     ensures prints { PrintsLog (L.seen log.old) (L.seen log.new) (W.contents writer.old) (W.contents writer.new) result.0 }
     // As long as its store does what it promises, the lines are those of the log's content.
     ensures content { (L.seen log.new).is_clean ≡ true → OnOk result.0 (
-        Appends (W.contents writer.old) (W.contents writer.new) (printed (L.seen log.old).owner (L.seen log.old).content)) }
+        Appends (W.contents writer.old) (W.contents writer.new) (log_text (L.seen log.old).owner (L.seen log.old).content)) }
     // A write that did not fail, or that was made before the call, is no reason to stop.
     ensures failed { OnlyWhereFailed result.0 result.1 }
 {

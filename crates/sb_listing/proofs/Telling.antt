@@ -8,7 +8,7 @@ use Rattle.std.specs.Ordering.{is_eq, ordering_reverse, match_ordering}
 use Rattle.std.specs.declared.cmp.Ordering.{Ordering}
 use Rattle.std.specs.declared.cmp.Ordering.TheVariants.{Less, Equal, Greater}
 use Rattle.sb_codec.specs.Records.{Row}
-use Rattle.sb_listing.specs.Changes.{RowChange, Set, Gone, place_order, is_same, is_at, is_new, is_gone, AreAscending, told_at, passing, merged, set_rows, gone_rows}
+use Rattle.sb_listing.specs.Changes.{RowChange, Set, Gone, place_order, is_same, is_at, is_new, is_gone, AreAscending, changes_at, changes_past_row, changes_between, set_rows, gone_rows}
 
 order : IsTotalOrder place_order
 order = then_total (on_total (λ (r : Row). r.owner) nat_list_cmp_total) (on_total (λ (r : Row). r.key) nat_list_cmp_total)
@@ -76,7 +76,7 @@ all-gone (x ∷ xs) = let rest = all-gone xs in (rest.0, ap (λ (zs : List Row).
 
 module _ (y : Row) (ys : List Row) (next : List Row → List RowChange) (up : AllByRecursion (Before y) ys) (tells : (xs : List Row) → AreAscending xs → Tells xs ys (next xs)) where
   -- the first of the earlier listing stands before y
-  before-y : (x : Row) (xs : List Row) → Before x y → AllByRecursion (Before x) xs → Tells xs (y ∷ ys) (passing y next xs) → Tells (x ∷ xs) (y ∷ ys) (Gone x ∷ passing y next xs)
+  before-y : (x : Row) (xs : List Row) → Before x y → AllByRecursion (Before x) xs → Tells xs (y ∷ ys) (changes_past_row y next xs) → Tells (x ∷ xs) (y ∷ ys) (Gone x ∷ changes_past_row y next xs)
   before-y x xs before above inner =
       let all : AllByRecursion (Before x) (y ∷ ys) = (before, weaker (Before y) (Before x) (λ z later. order.trans x y z before later) ys up) in (
         inner.0 ∙ news-same x xs (y ∷ ys) all,
@@ -117,18 +117,18 @@ module _ (y : Row) (ys : List Row) (next : List Row → List RowChange) (up : Al
         let new : is_new (x ∷ xs) y ≡ true = not_from_false (has_row y (x ∷ xs)) (or_from (is_kept x y) (has_row y xs) other (none-kept y xs at-y)) in
         (ap (λ (zs : List Row). y ∷ zs) set-at-y ∙ sym (kept-first (is_new (x ∷ xs)) y ys new), gone-at-y)
 
-  ordered : (x : Row) (xs : List Row) → AreAscending (x ∷ xs) → Tells xs (y ∷ ys) (passing y next xs) → (o : Ordering) → place_order x y ≡ o
-      → Tells (x ∷ xs) (y ∷ ys) (match_ordering o (Gone x ∷ passing y next xs) (told_at x y ++ next xs) (Set y ∷ next (x ∷ xs)))
+  ordered : (x : Row) (xs : List Row) → AreAscending (x ∷ xs) → Tells xs (y ∷ ys) (changes_past_row y next xs) → (o : Ordering) → place_order x y ≡ o
+      → Tells (x ∷ xs) (y ∷ ys) (match_ordering o (Gone x ∷ changes_past_row y next xs) (changes_at x y ++ next xs) (Set y ∷ next (x ∷ xs)))
   ordered x xs ascending inner Less is = before-y x xs is ascending.0 inner
   ordered x xs ascending inner Equal is = found-y x xs ascending is (is_same x y) refl
   ordered x xs ascending inner Greater is =
       let before = forth x y is in
       behind-y (x ∷ xs) ascending (before, weaker (Before x) (Before y) (λ z later. order.trans y x z before later) xs ascending.0)
 
-  passing-tells : (xs : List Row) → AreAscending xs → Tells xs (y ∷ ys) (passing y next xs)
+  passing-tells : (xs : List Row) → AreAscending xs → Tells xs (y ∷ ys) (changes_past_row y next xs)
   passing-tells [] ascending = behind-y [] tt tt
   passing-tells (x ∷ xs) ascending = ordered x xs ascending (passing-tells xs ascending.1) (place_order x y) refl
 
-pub merged-tells : (later : List Row) → AreAscending later → (earlier : List Row) → AreAscending earlier → Tells earlier later (merged earlier later)
+pub merged-tells : (later : List Row) → AreAscending later → (earlier : List Row) → AreAscending earlier → Tells earlier later (changes_between earlier later)
 merged-tells [] up xs ascending = all-gone xs
-merged-tells (y ∷ ys) up xs ascending = passing-tells y ys (λ rest. merged rest ys) up.0 (λ zs rising. merged-tells ys up.1 zs rising) xs ascending
+merged-tells (y ∷ ys) up xs ascending = passing-tells y ys (λ rest. changes_between rest ys) up.0 (λ zs rising. merged-tells ys up.1 zs rising) xs ascending

@@ -38,18 +38,18 @@ AreAscending [] = Unit {0}
 AreAscending (x ∷ xs) = AllByRecursion (λ y. place_order x y ≡ Less) xs × AreAscending xs
 
 -- what is reported if a row of the later listing is at the place of one of the earlier listing
-abbrev pub told_at : Row → Row → List RowChange
-told_at x y = if is_same x y then [] else Set y ∷ []
+abbrev pub changes_at : Row → Row → List RowChange
+changes_at x y = if is_same x y then [] else Set y ∷ []
 
 -- the rows of the earlier listing up to the place of y, then y, and then what comes of the rows after it
-abbrev pub passing : Row → (List Row → List RowChange) → List Row → List RowChange
-passing y next [] = Set y ∷ next []
-passing y next (x ∷ xs) = match_ordering (place_order x y) (Gone x ∷ passing y next xs) (told_at x y ++ next xs) (Set y ∷ next (x ∷ xs))
+abbrev pub changes_past_row : Row → (List Row → List RowChange) → List Row → List RowChange
+changes_past_row y next [] = Set y ∷ next []
+changes_past_row y next (x ∷ xs) = match_ordering (place_order x y) (Gone x ∷ changes_past_row y next xs) (changes_at x y ++ next xs) (Set y ∷ next (x ∷ xs))
 
 -- one walk through both listings
-abbrev pub merged : List Row → List Row → List RowChange
-merged earlier [] = map Gone earlier
-merged earlier (y ∷ ys) = passing y (λ rest. merged rest ys) earlier
+abbrev pub changes_between : List Row → List Row → List RowChange
+changes_between earlier [] = map Gone earlier
+changes_between earlier (y ∷ ys) = changes_past_row y (λ rest. changes_between rest ys) earlier
 
 abbrev pub set_rows : List RowChange → List Row
 set_rows [] = []

@@ -42,7 +42,7 @@ fn pass_row<'a>(
     row: &'a Row,
 ) -> Result<&'a [Row], Fault>
     ensures found { IfOk result (λ rest. (next : List records.Row → List spec.RowChange) →
-        map change_of found.new.items ++ next rest.now ≡ map change_of found.old.items ++ spec.passing row.now next earlier.now) }
+        map change_of found.new.items ++ next rest.now ≡ map change_of found.old.items ++ spec.changes_past_row row.now next earlier.now) }
     ensures memory { IfErr result (λ fault. fault ≡ Fault.NoMemory) }
 {
     let mut rest = earlier;
@@ -87,7 +87,7 @@ pub fn changes<'a>(
     earlier: &'a [Row],
     later: &'a [Row],
 ) -> Result<Vec<RowChange<'a>>, Fault>
-    ensures found { IfOk result (λ found. map change_of found.items ≡ spec.merged earlier.now later.now) }
+    ensures found { IfOk result (λ found. map change_of found.items ≡ spec.changes_between earlier.now later.now) }
     ensures memory { IfErr result (λ fault. fault ≡ Fault.NoMemory) }
 {
     let mut found = Vec::new(alloc);

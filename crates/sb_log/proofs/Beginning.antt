@@ -16,7 +16,7 @@ use Rattle.sb_types.specs.declared.limits.TheConstants.{VERSION_MOST}
 use Rattle.sb_types.specs.Records.{Entry, Table}
 use Rattle.sb_types.specs.Runs.{are_ascending, last_version}
 use Rattle.sb_table.specs.Plain.{plain_table}
-use Rattle.sb_table.specs.Floors.{IsKeptTable, raised}
+use Rattle.sb_table.specs.Floors.{IsKeptTable, table_at_floor}
 use Rattle.sb_table.specs.Contents.{IsContent}
 use Rattle.sb_log.specs.Form.{newest_form, log_schema}
 use Rattle.sb_log.specs.Records.{Log}
@@ -50,8 +50,8 @@ nothing_held t kept none =
     λ i. record { held = none i; floor = floor i; entries = entries i }
 
 -- so it is once it is raised
-pub raised_nothing : (after : ℕ) (t : Table) → IsContent t → t.held ≡ 0 → raised after after t ≡ nothing_up_to after
-raised_nothing after t is none = ap (raised after after) (nothing_held t is.table none)
+pub raised_nothing : (after : ℕ) (t : Table) → IsContent t → t.held ≡ 0 → table_at_floor after after t ≡ nothing_up_to after
+raised_nothing after t is none = ap (table_at_floor after after) (nothing_held t is.table none)
 
 nothing_kept : (after : ℕ) → IsKeptTable (nothing_up_to after)
 nothing_kept after = record {

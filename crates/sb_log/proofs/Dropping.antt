@@ -44,7 +44,7 @@ use Rattle.sb_types.specs.declared.format.TheConstants.{TAG_REMOVED}
 use Rattle.sb_types.specs.Kinds.{tag_of, kind_of}
 use Rattle.sb_types.proofs.KindTable.{tag_not_removed}
 use Rattle.sb_types.specs.Records.{Entry, Table}
-use Rattle.sb_types.specs.Runs.{is_set, live}
+use Rattle.sb_types.specs.Runs.{is_set, live_entries}
 use Rattle.sb_table.proofs.Order.{run_kept}
 use Rattle.sb_table.proofs.Merging.{length-filter_le, plain-run}
 use Rattle.sb_log.specs.Form.{log_schema, writes_table, drop_text}
@@ -239,17 +239,17 @@ kept_slot floor version Removed =
 kept_entry : (floor : ℕ) (e : Entry) → kept_cells floor (cells_of e) ≡ (is_set e.slot || nat_lt floor e.version)
 kept_entry floor e = kept_slot floor e.version e.slot
 
-kept_entries : (floor : ℕ) (es : List Entry) → filter (kept_cells floor) (map cells_of es) ≡ map cells_of (live floor es)
+kept_entries : (floor : ℕ) (es : List Entry) → filter (kept_cells floor) (map cells_of es) ≡ map cells_of (live_entries floor es)
 kept_entries floor es = filter-map (kept_cells floor) cells_of es ∙ ap (map cells_of) (same_entries floor es)
   where
-    same_entries : (floor : ℕ) (es : List Entry) → filter (λ e. kept_cells floor (cells_of e)) es ≡ live floor es
+    same_entries : (floor : ℕ) (es : List Entry) → filter (λ e. kept_cells floor (cells_of e)) es ≡ live_entries floor es
     same_entries floor [] = refl
     same_entries floor (e ∷ es) =
         let here = kept_entry floor e in
         let rest = same_entries floor es in
         (λ i. cond (here i) (e ∷ rest i) (rest i))
 
-live_rows : (floor : ℕ) (t : Table) (old new : List Row) → AreRowsOf t old → new ≡ filter (λ r. not (met (Int (pos floor)) r)) old → IsPermutation (map cells new) (map cells_of (live floor t.entries))
+live_rows : (floor : ℕ) (t : Table) (old new : List Row) → AreRowsOf t old → new ≡ filter (λ r. not (met (Int (pos floor)) r)) old → IsPermutation (map cells new) (map cells_of (live_entries floor t.entries))
 live_rows floor t old new are is =
     let kept : filter (kept_cells floor) (map cells old) ≡ map cells new = filter-map (kept_cells floor) cells old ∙ ap (map cells) (sym is) in
     subst₂ IsPermutation kept (kept_entries floor t.entries) (IsPermutation-filter (kept_cells floor) (map cells old) (map cells_of t.entries) are.same)

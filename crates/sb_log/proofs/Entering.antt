@@ -23,7 +23,7 @@ use Rattle.sqlite_rules.specs.Lists.{Has}
 use Rattle.sqlite_rules.specs.Keys.{conflicts}
 use Rattle.sqlite_rules.specs.Edit.{is_taken}
 use Rattle.sb_types.specs.Records.{Entry, Table}
-use Rattle.sb_types.specs.Runs.{are_distinct, has_key, without}
+use Rattle.sb_types.specs.Runs.{are_distinct, has_key, entries_without_keys}
 use Rattle.sb_table.specs.Plain.{IsPlainTable, with_entry}
 use Rattle.sb_log.specs.Form.{log_schema, writes_table}
 use Rattle.sb_log.specs.Rows.{cells, cells_of, is_kept, AreNumbered, AreNumberedApart, AreRowsOf}
@@ -91,12 +91,12 @@ module _ (e : Entry) where
   abbrev keeps : Row → Bool
   keeps c = not (matches c)
 
-  kept_entries : (es : List Entry) → filter keeps (map cells_of es) ≡ map cells_of (without (e ∷ []) es)
+  kept_entries : (es : List Entry) → filter keeps (map cells_of es) ≡ map cells_of (entries_without_keys (e ∷ []) es)
   kept_entries [] = refl
   kept_entries (x ∷ es) = go (keeps (cells_of x)) (kept_entries es)
     where
-      go : (b : Bool) → filter keeps (map cells_of es) ≡ map cells_of (without (e ∷ []) es)
-          → cond b (cells_of x ∷ filter keeps (map cells_of es)) (filter keeps (map cells_of es)) ≡ map cells_of (cond b (x ∷ without (e ∷ []) es) (without (e ∷ []) es))
+      go : (b : Bool) → filter keeps (map cells_of es) ≡ map cells_of (entries_without_keys (e ∷ []) es)
+          → cond b (cells_of x ∷ filter keeps (map cells_of es)) (filter keeps (map cells_of es)) ≡ map cells_of (cond b (x ∷ entries_without_keys (e ∷ []) es) (entries_without_keys (e ∷ []) es))
       go true later = ap (λ (l : List Row). cells_of x ∷ l) later
       go false later = later
 
@@ -104,12 +104,12 @@ module _ (e : Entry) where
   beside : (t : Table) (new : Row) (left rows : List Row) → IsPermutation (map cells rows) (map cells_of t.entries) → cells new ≡ cells_of e
       → IsPermutation (filter keeps (map cells rows)) (map cells left) → IsPermutation (map cells (new ∷ left)) (map cells_of (with_entry t e).entries)
   beside t new left rows same is others =
-      let kept : IsPermutation (map cells left) (map cells_of (without (e ∷ []) t.entries)) =
+      let kept : IsPermutation (map cells left) (map cells_of (entries_without_keys (e ∷ []) t.entries)) =
       IsPermutation-trans _ _ _ (IsPermutation-sym _ _ others) (subst (IsPermutation (filter keeps (map cells rows))) (kept_entries t.entries) (IsPermutation-filter keeps _ _ same)) in
-      let front : IsPermutation (map cells (new ∷ left)) (cells_of e ∷ map cells_of (without (e ∷ []) t.entries)) =
-      subst (λ (c : Row). IsPermutation (c ∷ map cells left) (cells_of e ∷ map cells_of (without (e ∷ []) t.entries))) (sym is) (IsPermutation-cons (cells_of e) _ _ kept) in
-      subst (IsPermutation (map cells (new ∷ left))) (sym (map-append cells_of (without (e ∷ []) t.entries) (e ∷ [])))
-      (IsPermutation-trans _ _ _ front (IsPermutation-sym _ _ (IsPermutation-to_front (map cells_of (without (e ∷ []) t.entries)) (cells_of e))))
+      let front : IsPermutation (map cells (new ∷ left)) (cells_of e ∷ map cells_of (entries_without_keys (e ∷ []) t.entries)) =
+      subst (λ (c : Row). IsPermutation (c ∷ map cells left) (cells_of e ∷ map cells_of (entries_without_keys (e ∷ []) t.entries))) (sym is) (IsPermutation-cons (cells_of e) _ _ kept) in
+      subst (IsPermutation (map cells (new ∷ left))) (sym (map-append cells_of (entries_without_keys (e ∷ []) t.entries) (e ∷ [])))
+      (IsPermutation-trans _ _ _ front (IsPermutation-sym _ _ (IsPermutation-to_front (map cells_of (entries_without_keys (e ∷ []) t.entries)) (cells_of e))))
 
   abbrev HasText : Row → Type 0
   HasText c = (k : List ℕ) × (column c 0 ≡ Text k)

@@ -11,13 +11,13 @@ use Rattle.sqlite.specs.State.{HasCleanDisk}
 use Rattle.sqlite_catalog.specs.Listing.{IsSound}
 use Rattle.sb_types.specs.declared.fault.Fault.TheVariants.{StoreFailed, FloorTooHigh}
 use Rattle.sb_types.specs.Records.{Entry, Table}
-use Rattle.sb_types.specs.Runs.{live}
+use Rattle.sb_types.specs.Runs.{live_entries}
 use Rattle.sb_types.proofs.Live.{live-live}
-use Rattle.sb_table.specs.Floors.{IsKeptTable, raised}
+use Rattle.sb_table.specs.Floors.{IsKeptTable, table_at_floor}
 use Rattle.sb_table.specs.Contents.{IsContent}
 use Rattle.sb_log.specs.Form.{log_schema}
 use Rattle.sb_log.specs.Records.{Log}
-use Rattle.sb_log.specs.Puts.{Stays, IsSure, Purges, purged}
+use Rattle.sb_log.specs.Puts.{Stays, IsSure, Purges, content_after_purge}
 use Rattle.sb_log.specs.Standing.{IsReady, HoldsContent, IsKept, MayLeave}
 use Rattle.sb_log.specs.Sql.{SqlView, log_in}
 use Rattle.sb_log.proofs.Contents.{holds_is}
@@ -25,26 +25,26 @@ use Rattle.sb_log.proofs.Keeping.{found_in, settles}
 
 -- ---- what a higher floor leaves
 
-lower : (floor more : ℕ) (es : List Entry) → floor ≤ more → live floor (live more es) ≡ live more es
+lower : (floor more : ℕ) (es : List Entry) → floor ≤ more → live_entries floor (live_entries more es) ≡ live_entries more es
 lower floor more [] le = refl
 lower floor more (x ∷ xs) le = grind (arith, nat_tests, lower floor more xs le)
 
 -- no removal up to the floor
-pub purged_gone : (floor : ℕ) (t : Table) → IsKeptTable t → live floor (purged floor t).entries ≡ (purged floor t).entries
+pub purged_gone : (floor : ℕ) (t : Table) → IsKeptTable t → live_entries floor (content_after_purge floor t).entries ≡ (content_after_purge floor t).entries
 purged_gone floor t kept = go (nat_le floor t.floor) refl
   where
-    go : (b : Bool) → nat_le floor t.floor ≡ b → live floor (cond b t (raised t.held floor t)).entries ≡ (cond b t (raised t.held floor t)).entries
+    go : (b : Bool) → nat_le floor t.floor ≡ b → live_entries floor (cond b t (table_at_floor t.held floor t)).entries ≡ (cond b t (table_at_floor t.held floor t)).entries
     go true le =
-        ap (live floor) (sym kept.is.live) ∙ lower floor t.floor t.entries (leb-true floor t.floor le) ∙ kept.is.live
+        ap (live_entries floor) (sym kept.is.live) ∙ lower floor t.floor t.entries (leb-true floor t.floor le) ∙ kept.is.live
     go false gt = live-live floor t.entries
 
-pub purged_same : (floor : ℕ) (t : Table) → floor ≤ t.floor → purged floor t ≡ t
-purged_same floor t le = ap (λ (b : Bool). cond b t (raised t.held floor t)) (le-leb floor t.floor le)
+pub purged_same : (floor : ℕ) (t : Table) → floor ≤ t.floor → content_after_purge floor t ≡ t
+purged_same floor t le = ap (λ (b : Bool). cond b t (table_at_floor t.held floor t)) (le-leb floor t.floor le)
 
-pub purged_raised : (floor : ℕ) (t : Table) → t.floor < floor → purged floor t ≡ raised t.held floor t
+pub purged_raised : (floor : ℕ) (t : Table) → t.floor < floor → content_after_purge floor t ≡ table_at_floor t.held floor t
 purged_raised floor t gt = go (nat_le floor t.floor) refl
   where
-    go : (b : Bool) → nat_le floor t.floor ≡ b → cond b t (raised t.held floor t) ≡ raised t.held floor t
+    go : (b : Bool) → nat_le floor t.floor ≡ b → cond b t (table_at_floor t.held floor t) ≡ table_at_floor t.held floor t
     go true le = absurd (omega (arith, gt, leb-true floor t.floor le))
     go false more = refl
 
@@ -85,8 +85,8 @@ module _ (old : Log) (up : old.is_open ≡ true) (table : Table) (is : IsContent
           fits = λ clean. let held = ap (λ (t : Table). t.held) (shown clean) in omega (arith, le, held, is.table.is.floor);
           content = λ clean. sym (purged_same floor old.content (let same = ap (λ (t : Table). t.floor) (shown clean) in omega (arith, le, same)));
           gone = λ clean.
-              subst (λ (t : Table). live floor t.entries ≡ t.entries) (sym (shown clean))
-              (subst (λ (t : Table). live floor t.entries ≡ t.entries) (purged_same floor table le) (purged_gone floor table is.table));
+              subst (λ (t : Table). live_entries floor t.entries ≡ t.entries) (sym (shown clean))
+              (subst (λ (t : Table). live_entries floor t.entries ≡ t.entries) (purged_same floor table le) (purged_gone floor table is.table));
         };
         refused = tt;
       }
@@ -96,7 +96,7 @@ module _ (old : Log) (up : old.is_open ≡ true) (table : Table) (is : IsContent
     never_idle clean le = let same = ap (λ (t : Table). t.floor) (shown clean) in omega (arith, le, same, higher)
 
     -- it is raised
-    pub raises : new.is_open ≡ true → (new.is_clean ≡ true → new.content ≡ purged floor table) → Purges old floor (Ok tt) new
+    pub raises : new.is_open ≡ true → (new.is_clean ≡ true → new.content ≡ content_after_purge floor table) → Purges old floor (Ok tt) new
     raises still content =
         record {
           stays = stays;
@@ -105,8 +105,8 @@ module _ (old : Log) (up : old.is_open ≡ true) (table : Table) (is : IsContent
           done = record {
             is_open = still;
             fits = λ clean. let held = ap (λ (t : Table). t.held) (shown (stays.clean clean)) in omega (arith, fits, held);
-            content = λ clean. content clean ∙ ap (purged floor) (sym (shown (stays.clean clean)));
-            gone = λ clean. subst (λ (t : Table). live floor t.entries ≡ t.entries) (sym (content clean)) (purged_gone floor table is.table);
+            content = λ clean. content clean ∙ ap (content_after_purge floor) (sym (shown (stays.clean clean)));
+            gone = λ clean. subst (λ (t : Table). live_entries floor t.entries ≡ t.entries) (sym (content clean)) (purged_gone floor table is.table);
           };
           refused = tt;
         }
@@ -171,14 +171,14 @@ module _ {S : Type 0} (g : Ghosts S) (settled : (s : S) (db : Trees) → IsTrue 
     -- what `raise_floor` does
     abbrev RaisesIt : Type 0
     RaisesIt = HasCleanDisk (state g conn') → IsReady (state g conn) → (owner' cluster' : List ℕ) (content : Table) → HoldsContent owner' cluster' content content.entries (state g conn).now.trees
-        → content.held ≡ table.held → content.floor ≤ floor → HoldsContent owner' cluster' (purged floor content) (purged floor content).entries (state g conn').now.trees
+        → content.held ≡ table.held → content.floor ≤ floor → HoldsContent owner' cluster' (content_after_purge floor content) (content_after_purge floor content).entries (state g conn').now.trees
 
-    now_holds : RaisesIt → (g.view conn'.store).is_clean ≡ true → HoldsContent owner cluster (purged floor table) (purged floor table).entries (g.view conn'.store).trees
+    now_holds : RaisesIt → (g.view conn'.store).is_clean ≡ true → HoldsContent owner cluster (content_after_purge floor table) (content_after_purge floor table).entries (g.view conn'.store).trees
     now_holds did clean =
         let stands = kept up (no_doubt _ (was_clean clean)) in did (no_doubt _ clean) stands.0 owner cluster table stands.1 refl (omega (arith, higher))
 
-    now_shown : RaisesIt → (g.view conn'.store).is_clean ≡ true → (log_in g (view is_open conn')).content ≡ purged floor table
-    now_shown did clean = holds_is owner cluster (purged floor table) (purged floor table).entries (g.view conn'.store).trees (now_holds did clean)
+    now_shown : RaisesIt → (g.view conn'.store).is_clean ≡ true → (log_in g (view is_open conn')).content ≡ content_after_purge floor table
+    now_shown did clean = holds_is owner cluster (content_after_purge floor table) (content_after_purge floor table).entries (g.view conn'.store).trees (now_holds did clean)
 
     pub sql_raises : RaisesIt → Purges before floor (Ok tt) (log_in g (view is_open conn'))
     sql_raises did = raises before up table is shown floor fits higher (log_in g (view is_open conn')) (stays is_open) up (now_shown did)
@@ -189,7 +189,7 @@ module _ {S : Type 0} (g : Ghosts S) (settled : (s : S) (db : Trees) → IsTrue 
         let now = clean_of _ clean in
         subst (λ (t : Table). HoldsContent owner cluster t t.entries (g.view conn'.store).trees) (sym (now_shown did now)) (now_holds did now)
 
-    pub kept_raised : (table' : Table) → table' ≡ raised table.held floor table → RaisesIt
+    pub kept_raised : (table' : Table) → table' ≡ table_at_floor table.held floor table → RaisesIt
         → (HasCleanDisk (state g conn') → IsReady (state g conn) → (owner' cluster' : List ℕ) (content : Table) → HoldsContent owner' cluster' content content.entries (state g conn).now.trees → IsReady (state g conn'))
         → IsKept g owner cluster conn' table' is_open
     kept_raised table' same did ready _ clean =
@@ -201,14 +201,14 @@ module _ {S : Type 0} (g : Ghosts S) (settled : (s : S) (db : Trees) → IsTrue 
 
     pub survives_raise : (HasCleanDisk (state g conn') → IsReady (state g conn) → (owner' cluster' : List ℕ) (content : Table) → HoldsContent owner' cluster' content content.entries (state g conn).now.trees
         → content.held ≡ table.held → content.floor ≤ floor → (db : Trees) → g.recovers conn'.store db
-        → g.recovers conn.store db ⊎ (IsSound log_schema db × ((entries : List Entry) × HoldsContent owner' cluster' (purged floor content) entries db)))
-        → (g.view conn'.store).is_clean ≡ true → (left : Table) → MayLeave g owner cluster conn' left → (left ≡ before.content) ⊎ (left ≡ purged floor before.content)
+        → g.recovers conn.store db ⊎ (IsSound log_schema db × ((entries : List Entry) × HoldsContent owner' cluster' (content_after_purge floor content) entries db)))
+        → (g.view conn'.store).is_clean ≡ true → (left : Table) → MayLeave g owner cluster conn' left → (left ≡ before.content) ⊎ (left ≡ content_after_purge floor before.content)
     survives_raise crash clean left may =
         let stands = kept up (no_doubt _ (was_clean clean)) in
         elim (crash (no_doubt _ clean) stands.0 owner cluster table stands.1 refl (omega (arith, higher)) may.0 may.1) [
           | inl was ↦ inl (settles g settled owner cluster conn table is_open kept (was_clean clean) up left (may.0, was, may.2))
           | inr did ↦ inr (
-              found_in g settled owner cluster (purged floor table) did.1.0 may.0 did.0 did.1.1 left may.2
-              ∙ ap (purged floor) (sym (shown (was_clean clean)))
+              found_in g settled owner cluster (content_after_purge floor table) did.1.0 may.0 did.0 did.1.1 left may.2
+              ∙ ap (content_after_purge floor) (sym (shown (was_clean clean)))
               )
         ]

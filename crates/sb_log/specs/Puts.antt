@@ -6,9 +6,9 @@ use Rattle.sb_types.specs.declared.fault.Fault.{Fault}
 use Rattle.sb_types.specs.declared.fault.Fault.TheVariants.{NoMemory, BadSetting, TableFull, VersionsSpent, NothingThere, Closed, StoreFailed, LogDamaged, FloorTooHigh, OutOfTurn}
 use Rattle.sb_types.specs.declared.limits.TheConstants.{VERSION_MOST}
 use Rattle.sb_types.specs.Records.{Entry, Table}
-use Rattle.sb_types.specs.Runs.{shown_at, live}
+use Rattle.sb_types.specs.Runs.{shown_at, live_entries}
 use Rattle.sb_table.specs.Plain.{plain_table, with_entry, is_full_for}
-use Rattle.sb_table.specs.Floors.{raised}
+use Rattle.sb_table.specs.Floors.{table_at_floor}
 use Rattle.sb_table.specs.Contents.{IsContent}
 use Rattle.sb_log.specs.Records.{Committed, Log}
 
@@ -37,8 +37,8 @@ abbrev pub next_content : Log → List ℕ → Slot → Table
 next_content log key slot = with_entry log.content (next_entry log.content key slot)
 
 -- the content once its floor is as high as this: the removals up to it go
-abbrev pub purged : ℕ → Table → Table
-purged floor content = if nat_le floor content.floor then content else raised content.held floor content
+abbrev pub content_after_purge : ℕ → Table → Table
+content_after_purge floor content = if nat_le floor content.floor then content else table_at_floor content.held floor content
 
 -- a log of nothing
 abbrev pub new_log : List ℕ → List ℕ → ℕ → Log
@@ -95,9 +95,9 @@ floor_fault floor content = if nat_lt content.held floor then FloorTooHigh else 
 pub record RaisesFloor (old : Log) (floor : ℕ) (new : Log) : Type 0 where
   pub is_open : new.is_open ≡ true
   pub fits : new.is_clean ≡ true → floor ≤ old.content.held
-  pub content : new.is_clean ≡ true → new.content ≡ purged floor old.content
+  pub content : new.is_clean ≡ true → new.content ≡ content_after_purge floor old.content
   -- no removal up to it is left
-  pub gone : new.is_clean ≡ true → live floor new.content.entries ≡ new.content.entries
+  pub gone : new.is_clean ≡ true → live_entries floor new.content.entries ≡ new.content.entries
 
 -- a fault of the store closes the log, and any other changes nothing
 pub record RefusesFloor (old : Log) (floor : ℕ) (fault : Fault) (new : Log) : Type 0 where
@@ -181,7 +181,7 @@ PutSurvives old key slot new leaves = new.is_clean ≡ true → old.is_open ≡ 
 
 -- so does a floor that is raised: the content before it or the content with it
 abbrev pub PurgeSurvives : Log → ℕ → Log → (Table → Type 0) → Type 0
-PurgeSurvives old floor new leaves = new.is_clean ≡ true → old.is_open ≡ true → (left : Table) → leaves left → (left ≡ old.content) ⊎ (left ≡ purged floor old.content)
+PurgeSurvives old floor new leaves = new.is_clean ≡ true → old.is_open ≡ true → (left : Table) → leaves left → (left ≡ old.content) ⊎ (left ≡ content_after_purge floor old.content)
 
 -- so does a log that begins behind a version: what it held before, or nothing up to that version
 abbrev pub BeginSurvives : Log → ℕ → Log → (Table → Type 0) → Type 0

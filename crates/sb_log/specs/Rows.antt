@@ -17,7 +17,7 @@ use Rattle.sb_types.specs.Kinds as kinds
 use Rattle.sb_types.specs.Kinds.{Content, Word, Number, Truth, tag_of, kind_of, form_of, kind_of_tag, made_value}
 use Rattle.sb_types.specs.Limits.{is_entry}
 use Rattle.sb_types.specs.Records.{Entry, Table}
-use Rattle.sb_types.specs.Runs.{last_version, live}
+use Rattle.sb_types.specs.Runs.{last_version, live_entries}
 use Rattle.sb_table.specs.Plain.{IsPlainTable, plain_table, with_entry}
 
 abbrev pub flag_number : Bool → ℕ
@@ -85,7 +85,7 @@ Enters e old new = (t : Table) → IsPlainTable (with_entry t e) → AreRowsOf t
 
 -- where the rows were a table's, they are now those of its entries without the removals up to the floor
 abbrev pub Drops : ℕ → List Row → List Row → Type 0
-Drops floor old new = (t : Table) → AreRowsOf t old → AreRowsOf (plain_table (live floor t.entries)) new
+Drops floor old new = (t : Table) → AreRowsOf t old → AreRowsOf (plain_table (live_entries floor t.entries)) new
 
 -- ---- the table that rows hold
 
@@ -130,7 +130,7 @@ floor_in (row ∷ rows) = number_of (column row 6)
 
 -- the content of a log that says this last version and this floor beside these entries: the removals up to the floor are none of it
 abbrev pub content_by : ℕ → ℕ → List Entry → Table
-content_by last floor entries = record { held = max last (last_version 0 entries); floor = floor; entries = live floor entries }
+content_by last floor entries = record { held = max last (last_version 0 entries); floor = floor; entries = live_entries floor entries }
 
 -- a log of these entries can say this last version and this floor: the floor is at most the last version, and that at most the greatest of
 -- all, and at most the last entry's or the floor, whichever is higher

@@ -5,7 +5,7 @@ ghost use Rattle.sqlite_value.specs.Order.{column};
 ghost use Rattle.sqlite_catalog.specs.Listing.{IsSound};
 ghost use Rattle.sb_types.specs.Records as records;
 ghost use Rattle.sb_types.specs.declared.limits.TheConstants.{VERSION_MOST};
-ghost use Rattle.sb_types.specs.Runs.{live};
+ghost use Rattle.sb_types.specs.Runs.{live_entries};
 ghost use Rattle.sb_table.specs.Plain.{IsPlainTable, plain_table};
 ghost use Rattle.sb_table.specs.Contents.{IsContent};
 ghost use Rattle.sb_log.specs.Cause.{fault_of, IsAnswer, IsMakingFault, IsReadingFault, IsStoreError, OnRefusal};
@@ -173,8 +173,8 @@ fn accept_from<S: Alter>(
     ensures ready { AfterReady S.Store conn.old conn.new (λ old new. (last : ℕ) (owner cluster : List ℕ) → IsNamedIn form owner cluster last floor (old.now.trees 0)
         → OnOk result (IsReady new)) }
     ensures rows { AfterReady S.Store conn.old conn.new (λ old new. (last : ℕ) (owner cluster : List ℕ) → IsNamedIn form owner cluster last floor (old.now.trees 0)
-        → (t : records.Table) → AreRowsOf t (old.now.trees 1) → (has_dead ≡ false → live floor t.entries ≡ t.entries)
-        → OnOk result (AreRowsOf (plain_table (live floor t.entries)) (new.now.trees 1))) }
+        → (t : records.Table) → AreRowsOf t (old.now.trees 1) → (has_dead ≡ false → live_entries floor t.entries ≡ t.entries)
+        → OnOk result (AreRowsOf (plain_table (live_entries floor t.entries)) (new.now.trees 1))) }
     ensures meta { AfterReady S.Store conn.old conn.new (λ old new. IsForm form → (last : ℕ) (owner cluster : List ℕ) → IsNamedIn form owner cluster last floor (old.now.trees 0)
         → OnOk result (IsNamedIn newest_form owner cluster last floor (new.now.trees 0))) }
     ensures crash { AfterReady S.Store conn.old conn.new (λ old new. IsForm form → (last : ℕ) (owner cluster : List ℕ) → IsNamedIn form owner cluster last floor (old.now.trees 0)

@@ -10,7 +10,7 @@ ghost use Rattle.sb_table.specs.Plain.{plain_table};
 ghost use Rattle.sb_log.specs.Form.{log_schema};
 ghost use Rattle.sb_log.specs.Rows.{Drops};
 ghost use Rattle.sb_log.specs.Opening.{IsNamedIn};
-ghost use Rattle.sb_log.specs.Puts.{nothing_up_to, purged};
+ghost use Rattle.sb_log.specs.Puts.{nothing_up_to, content_after_purge};
 ghost use Rattle.sb_log.specs.Standing.{HoldsContent, IsReady};
 ghost use Rattle.sb_log.specs.Statements.{AfterReady, Leaves, KeepsDoubt, Commits};
 
@@ -31,11 +31,11 @@ pub(crate) fn raise_floor<S: Alter>(
         → HoldsContent owner cluster content content.entries old.now.trees → OnOk result (IsReady new)) }
     ensures content { AfterReady S.Store conn.old conn.new (λ old new. (owner cluster : List ℕ) (content : records.Table)
         → HoldsContent owner cluster content content.entries old.now.trees → content.held ≡ held → content.floor ≤ floor
-        → OnOk result (HoldsContent owner cluster (purged floor content) (purged floor content).entries new.now.trees)) }
+        → OnOk result (HoldsContent owner cluster (content_after_purge floor content) (content_after_purge floor content).entries new.now.trees)) }
     // However it ends, a crash leaves what was there, or the content with the floor, of which removals may still have rows.
     ensures crash { AfterReady S.Store conn.old conn.new (λ old new. (owner cluster : List ℕ) (content : records.Table)
         → HoldsContent owner cluster content content.entries old.now.trees → content.held ≡ held → content.floor ≤ floor
-        → Leaves old new (λ db. IsSound log_schema db × ((entries : List records.Entry) × HoldsContent owner cluster (purged floor content) entries db))) }
+        → Leaves old new (λ db. IsSound log_schema db × ((entries : List records.Entry) × HoldsContent owner cluster (content_after_purge floor content) entries db))) }
     ensures clean { KeepsDoubt S.Store conn.old conn.new }
 {
     write_floor(conn, held, floor)?;

@@ -21,9 +21,9 @@ mod lasting;
 #[cfg(test)]
 mod lent;
 #[cfg(test)]
-mod openings;
+mod memory;
 #[cfg(test)]
-mod plain;
+mod openings;
 #[cfg(test)]
 mod purge_crashes;
 #[cfg(test)]

@@ -6,3 +6,4 @@ pub mod Sessions
 pub mod Told
 pub mod PushTruth
 pub mod Listed
+pub mod Removals

@@ -94,6 +94,8 @@ taken_up s core (kinds.Rows rows) answer t new a = absurd a
 taken_up s core (kinds.Put wanted) answer t new a = absurd a
 taken_up s core (kinds.Done version) answer t new a = absurd a
 taken_up s core (kinds.Refused fault) answer t new a = absurd a
+taken_up s core (kinds.AskStatus after) answer t new a = absurd a
+taken_up s core (kinds.NodeStatus told) answer t new a = absurd a
 
 not_up : (s : Session) (core : Core) (m : Message) (fault : Fault) (t : Session) (new : Core) → TakesUp Steps s core m (Err fault) t new → new ≡ core
 not_up s core (kinds.Hello hello) fault t new a = a.2
@@ -105,6 +107,8 @@ not_up s core (kinds.Rows rows) fault t new a = absurd a
 not_up s core (kinds.Put wanted) fault t new a = absurd a
 not_up s core (kinds.Done version) fault t new a = absurd a
 not_up s core (kinds.Refused reason) fault t new a = absurd a
+not_up s core (kinds.AskStatus after) fault t new a = absurd a
+not_up s core (kinds.NodeStatus told) fault t new a = absurd a
 
 pub up_unless : (refusal : Option Fault) (s : Session) (core : Core) (m : Message) (answer : Replies) (t : Session) (new : Core)
     → TakesUnless refusal Steps s core m (Ok answer) t new → TakesUp Steps s core m (Ok answer) t new
@@ -145,6 +149,8 @@ asked_with s core (Ok (kinds.Rows rows)) t new a = absurd a
 asked_with s core (Ok (kinds.Put wanted)) t new a = absurd a
 asked_with s core (Ok (kinds.Done version)) t new a = absurd a
 asked_with s core (Ok (kinds.Refused fault)) t new a = absurd a
+asked_with s core (Ok (kinds.AskStatus after)) t new a = absurd a
+asked_with s core (Ok (kinds.NodeStatus told)) t new a = absurd a
 asked_with s core (Err fault) t new a = told_nothing core new s.cursor true (Err fault) a.1
 
 asked_in : (phase : Phase) (s : Session) (core : Core) (answer : Result Message Fault) (t : Session) (new : Core) → AsksIn phase Steps s core answer t new → new ≡ core

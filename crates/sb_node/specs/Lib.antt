@@ -4,3 +4,4 @@ pub mod Calls
 pub mod Steps
 pub mod Acts
 pub mod Talks
+pub mod Purging

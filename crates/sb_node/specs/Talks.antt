@@ -7,7 +7,7 @@ use Rattle.sb_digest.specs.Builders.{IsLongestFront}
 use Rattle.sb_digest.specs.Digests as digests
 use Rattle.sb_digest.specs.Pairs.{pairs_from}
 use Rattle.sb_codec.specs.declared.message.Message.{Message}
-use Rattle.sb_codec.specs.declared.message.Message.TheVariants.{Hello, Digest, Delta, Bye, Ask, Rows, Put, Done, Refused}
+use Rattle.sb_codec.specs.declared.message.Message.TheVariants.{Hello, Digest, Delta, Bye, Ask, Rows, Put, Done, Refused, AskStatus, NodeStatus}
 use Rattle.sb_session.specs.declared.replies.Replies.{Replies}
 use Rattle.sb_session.specs.declared.replies.Replies.TheVariants.{Greeted, Answered, Exchanged, Applied, Ended}
 use Rattle.sb_session.specs.Sessions.{Session}
@@ -35,6 +35,8 @@ taken_of (Rows rows) replies = []
 taken_of (Put wanted) replies = []
 taken_of (Done version) replies = []
 taken_of (Refused fault) replies = []
+taken_of (AskStatus after) replies = []
+taken_of (NodeStatus told) replies = []
 
 -- the answer to a digest, and if one is wanted, the own digest from the session's place on
 abbrev pub IsReply : Core → Session → digests.Digest → Replies → Type 0
@@ -66,6 +68,8 @@ TrueMessage writes (Rows rows) = Unit {0}
 TrueMessage writes (Put wanted) = Unit {0}
 TrueMessage writes (Done version) = Unit {0}
 TrueMessage writes (Refused fault) = Unit {0}
+TrueMessage writes (AskStatus after) = Unit {0}
+TrueMessage writes (NodeStatus told) = Unit {0}
 
 abbrev pub AreTrueMessages : (List ℕ → List Write) → List Message → Type 0
 AreTrueMessages writes messages = (message : Message) → Stands messages message → TrueMessage writes message

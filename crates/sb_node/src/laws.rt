@@ -24,7 +24,7 @@ ghost use Rattle.sb_holdings.specs.Treats.{took_each};
 ghost use Rattle.sb_node.specs.Steps.{Steps};
 ghost use Rattle.sb_node.specs.Talks.{taken_of, IsReply, AreEnds, AreTrueMessages};
 
-use sb_budget::{available_by_number, cuts_are_honest};
+use sb_budget::{available_by_number, cuts_are_honest, offered_tables_hold};
 use sb_holdings::{holdings_make_nodes, nodes_hold};
 
 /// If all that a node holds is true, each block of its answer to a digest is honest, in any order and for any budget.
@@ -37,6 +37,7 @@ pub fn answers_are_honest()
         IsNode node → IsAnswer budget node.held digest blocks → Stands blocks b → IsBlock b }
 {
     available_by_number();
+    offered_tables_hold();
     cuts_are_honest();
 }
 

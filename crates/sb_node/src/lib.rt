@@ -35,6 +35,7 @@
 mod handler;
 mod laws;
 mod node;
+mod purging;
 
 pub use laws::{
     answers_are_honest, calls_keep_truth, deltas_keep_truth, sessions_are_replays,

@@ -8,7 +8,7 @@ ghost use Rattle.sb_types.specs.Runs.{shown_at};
 ghost use Rattle.sb_table.specs.Plain.{is_full_for};
 ghost use Rattle.sb_holdings.specs.Ends.{Fits};
 ghost use Rattle.sb_holdings.specs.Held.{shown_of};
-ghost use Rattle.sb_holdings.specs.Nodes.{Wrote, node_after_block, node_after_event, replay_node, opened_node};
+ghost use Rattle.sb_holdings.specs.Nodes.{Wrote, Purged, node_after_block, node_after_event, replay_node, opened_node};
 ghost use Rattle.sb_holdings.specs.Plain.{IsHoldings, own_answer};
 ghost use Rattle.sb_digest.specs.Builders.{IsLongestFront};
 ghost use Rattle.sb_digest.specs.Pairs.{pairs_from};
@@ -16,8 +16,10 @@ ghost use Rattle.sb_budget.specs.Available.{available_for};
 ghost use Rattle.sb_budget.specs.Backlogs.{digest_since};
 ghost use Rattle.sb_node.specs.Answers.{IsDelta, IsAnswer};
 ghost use Rattle.sb_node.specs.Cores.{with_node, committed_answer, own_keys};
+ghost use Rattle.sb_node.specs.Purging.{due_floor, purge_answer};
 ghost use Rattle.sb_holdings.specs.Treats.{Treats, took_each};
 
+use crate::purging::due_floor;
 use sb_breadth::Breadth;
 use sb_budget::{Backlog, DeltaOrder, cursors_since};
 use sb_depth::Depth;
@@ -124,7 +126,7 @@ impl NodeCore {
 
     /// Returns how many keys the node's own table has, those with tombstones (markers of removed keys) included. It
     /// takes no memory.
-    pub fn keys(&self) -> usize
+    pub fn key_count(&self) -> usize
         ensures count { result ≡ own_keys self.now.node }
         ensures holdings { IsHoldings self.now.node.held }
     {
@@ -167,6 +169,37 @@ impl NodeCore {
             return Err(fault);
         }
         self.holdings.push_own(committed.entry().copy(self.alloc)?)
+    }
+
+    /// Drops the tombstones (markers of removed keys) up to a version of the own table, which becomes its purge floor.
+    /// If that is not above the present floor, nothing changes. The only fault is `FloorTooHigh`: it is above the own
+    /// held version, and everything stays as it was. It takes no memory.
+    pub fn purge(&mut self, floor: u64) -> Result<(), Fault>
+        ensures answer { result ≡ purge_answer self.old.node floor }
+        ensures ok { OnOk result (self.new ≡ with_node self.old (node_after_event self.old.node (Purged floor))) }
+        ensures err { OnErr result (self.new ≡ self.old) }
+        ensures holdings { IsHoldings self.new.node.held }
+    {
+        if floor > self.upto(self.holdings.me()) {
+            return Err(Fault::FloorTooHigh);
+        }
+        self.holdings.purge_own(floor);
+        Ok(())
+    }
+
+    /// Returns up to which version the own table is to be purged, if it is: the version of the middle one of its
+    /// removed keys. It is if it has `least` of them, or if it is full and has 64 of them. If `least` is 0, it never is.
+    /// It takes no memory, and one step for each key.
+    #[tactic(auto, using(crate::proofs::Removals::due_allowed, crate::proofs::Removals::due_nothing))]
+    pub fn due_floor(&self, least: u64) -> Option<u64>
+        ensures floor { result ≡ due_floor least (shown_of self.now.node.held self.now.node.held.me) }
+        ensures allowed { IfSome result (λ floor. purge_answer self.now.node floor ≡ Ok tt) }
+        ensures holdings { IsHoldings self.now.node.held }
+    {
+        match self.holdings.table(self.holdings.me()) {
+            Some(table) => due_floor(table, least),
+            None => None,
+        }
     }
 
     /// Returns why a committed write cannot be entered: the first of `WrongOwner`, `OwnerConflict`, `OutOfTurn` and

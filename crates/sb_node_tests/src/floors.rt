@@ -65,13 +65,13 @@ fn lacks(rt: &impl Abort, alloc: Global, holdings: &Holdings, upto: u64, wanted:
     same_at(rt, &upto, &are_equal, &true);
 }
 
-/// A peer below the floor is offered all again. A peer at or above it is offered what is above its held version, or
-/// only the news.
+/// A peer below the floor is offered all again, as if it were purged as far as is held. A peer at or above it is offered
+/// what is above its held version, or only the news.
 #[test]
 fn what_a_floor_leaves(rt: HostRuntime) {
     let alloc = rt.alloc();
     let holdings = purged(&rt, alloc);
-    let all = [([3, 0, 5], [0, 1], 1, true)];
+    let all = [([5, 0, 5], [0, 1], 1, true)];
     lacks(&rt, alloc, &holdings, 0, &all);
     lacks(&rt, alloc, &holdings, 2, &all);
     lacks(&rt, alloc, &holdings, 3, &[([3, 3, 5], [0, 1], 5, false)]);
@@ -87,7 +87,7 @@ fn what_is_written_above_a_floor(rt: HostRuntime) {
     let slot = Slot::Set(Value::flag(false));
     got(&rt, holdings.push_own(Entry::new(key(&rt, b"z"), 6, slot)));
     lacks(&rt, alloc, &holdings, 3, &[([3, 3, 6], [0, 1], 6, true)]);
-    let all = [([3, 0, 6], [0, 2], 1, true), ([3, 0, 6], [1, 2], 6, true)];
+    let all = [([6, 0, 6], [0, 2], 1, true), ([6, 0, 6], [1, 2], 6, true)];
     lacks(&rt, alloc, &holdings, 2, &all);
 }
 
@@ -112,7 +112,7 @@ fn a_cursor_tells_news_alone(rt: HostRuntime) {
     let news = walked(&rt, alloc, &holdings, 3);
     same(&rt, &news, &(1, [3, 3, 5], false, false));
     let all = walked(&rt, alloc, &holdings, 2);
-    same(&rt, &all, &(1, [3, 0, 5], true, false));
+    same(&rt, &all, &(1, [5, 0, 5], true, false));
 }
 
 /// The owner and the version of each item that a peer lacks, in an order.

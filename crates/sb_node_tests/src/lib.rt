@@ -3,6 +3,8 @@
 #![tactic(auto)]
 
 #[cfg(test)]
+mod as_if_purged;
+#[cfg(test)]
 mod both_ways;
 #[cfg(test)]
 mod budget;
@@ -18,6 +20,8 @@ mod news;
 mod node;
 #[cfg(test)]
 mod orders;
+#[cfg(test)]
+mod purging;
 #[cfg(test)]
 mod sessions;
 

@@ -209,18 +209,18 @@ fn own_writes_come_once(rt: HostRuntime) {
 fn keys_in_turn(rt: &impl Abort, alloc: Global) -> [usize; 5] {
     let mut log = log_of(rt, alloc, name(rt, b"a"));
     let mut core = least(rt, alloc, b"a");
-    let at_first = core.keys();
+    let at_first = core.key_count();
     weigh(rt, &mut core, &mut log, b"x", 5);
     weigh(rt, &mut core, &mut log, b"y", 6);
-    let of_two = core.keys();
+    let of_two = core.key_count();
     weigh(rt, &mut core, &mut log, b"x", 7);
-    let written_again = core.keys();
+    let written_again = core.key_count();
     write(rt, &mut core, &mut log, b"y", &Slot::Removed);
-    let removed = core.keys();
+    let removed = core.key_count();
     let of_b = block(rt, alloc, name(rt, b"b"), 0, b"uvw");
     let taken = take_one(rt, &mut core, alloc, of_b, BlockEnd::Taken(3));
     holds(rt, "the block of another is taken", taken);
-    [at_first, of_two, written_again, removed, core.keys()]
+    [at_first, of_two, written_again, removed, core.key_count()]
 }
 
 #[test]
@@ -452,7 +452,7 @@ type Read = (bool, u64, usize, u64, u64);
 fn read_digest(rt: &impl Abort, core: &NodeCore, from: Option<Name>, want: bool) -> Read {
     let (a, b) = (name(rt, b"a"), name(rt, b"b"));
     let digest = got(rt, core.digest(from, want));
-    let held = (digest.number(&a, 0), digest.number(&b, 0));
+    let held = (digest.start(&a, 0, 0).after, digest.start(&b, 0, 0).after);
     (
         digest.want(),
         digest.encoded_length(),

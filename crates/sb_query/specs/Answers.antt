@@ -3,7 +3,7 @@ use Rattle.std.specs.Prelude.{◌≡◌, ℕ, [], ◌∷◌, take, Result, Ok, E
 use Rattle.sb_types.specs.declared.fault.Fault.{Fault}
 use Rattle.sb_types.specs.Faults.{number_of, carried_by}
 use Rattle.sb_codec.specs.declared.message.Message.{Message}
-use Rattle.sb_codec.specs.declared.message.Message.TheVariants.{Rows, Done, Refused}
+use Rattle.sb_codec.specs.declared.message.Message.TheVariants.{Rows, Done, Refused, NodeStatus}
 use Rattle.sb_codec.specs.Messages.{spelling}
 use Rattle.sb_codec.specs.Records as records
 use Rattle.sb_query.specs.declared.answers.NoAnswer.{NoAnswer}
@@ -21,3 +21,7 @@ TellsVersion other result = (reason : NoAnswer) × (result ≡ Err reason) × Is
 abbrev pub TellsPage : Message → Result records.Rows NoAnswer → Type 0
 TellsPage (Rows page) result = result ≡ Ok page
 TellsPage other result = (reason : NoAnswer) × (result ≡ Err reason) × IsNoAnswer other reason
+
+abbrev pub TellsStatus : Message → Result records.NodeStatus NoAnswer → Type 0
+TellsStatus (NodeStatus status) result = result ≡ Ok status
+TellsStatus other result = (reason : NoAnswer) × (result ≡ Err reason) × IsNoAnswer other reason

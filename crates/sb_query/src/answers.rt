@@ -1,7 +1,7 @@
 //! What a message means to the caller that sent a request.
-ghost use Rattle.sb_query.specs.Answers.{IsNoAnswer, TellsVersion, TellsPage};
+ghost use Rattle.sb_query.specs.Answers.{IsNoAnswer, TellsVersion, TellsPage, TellsStatus};
 
-use sb_codec::{Message, Rows};
+use sb_codec::{Message, NodeStatus, Rows};
 use sb_types::Fault;
 
 /// Why a message is not the answer to a request.
@@ -39,6 +39,16 @@ pub fn page_in(message: Message) -> Result<Rows, NoAnswer>
 {
     match message {
         Message::Rows(page) => Ok(page),
+        other => Err(no_answer(&other)),
+    }
+}
+
+/// Returns the status that answers an AskStatus. `Refused` and `OtherKind` as in `version_in`.
+pub fn status_in(message: Message) -> Result<NodeStatus, NoAnswer>
+    ensures { TellsStatus message result }
+{
+    match message {
+        Message::NodeStatus(status) => Ok(status),
         other => Err(no_answer(&other)),
     }
 }

@@ -36,9 +36,11 @@ mod answers;
 mod laws;
 mod paging;
 mod printing;
+mod status_pages;
 
 pub use answering::answer;
-pub use answers::{NoAnswer, page_in, version_in};
+pub use answers::{NoAnswer, page_in, status_in, version_in};
 pub use laws::{listings_are_whole, pages_follow};
 pub use paging::{Pager, PagingFault, ask_all, goes_on};
 pub use printing::{add_row, print_rows};
+pub use status_pages::status_page;

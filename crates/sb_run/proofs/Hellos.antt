@@ -14,7 +14,7 @@ use Rattle.sb_session.specs.declared.talk.Ended.{Ended}
 use Rattle.sb_session.specs.Handlers.{Act}
 use Rattle.sb_session.specs.Sessions.{Session, new_session, hello_of}
 use Rattle.sb_session.specs.Telling.{CutShort}
-use Rattle.sb_session.specs.Talks.{Party, party_of, Move, Course, in_hello, in_last, Cuts, Ends, at_end, at_bye, at_rounds, at_reading, at_message, at_speaking, at_writing, TalksFrom, Talks}
+use Rattle.sb_session.specs.Talks.{Party, party_of, Course, in_hello, in_last, Cuts, Ends, at_end, at_bye, at_rounds, at_reading, at_message, at_speaking, at_writing, TalksFrom, Talks}
 use Rattle.sb_run.specs.Hellos.{Greets}
 
 -- the frame of this message is put out first, or its front

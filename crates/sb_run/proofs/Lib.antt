@@ -1,5 +1,6 @@
 pub mod Numbers
 pub mod Handing
+pub mod OwnPurging
 pub mod Together
 pub mod Pooling
 pub mod Leaving
@@ -8,3 +9,6 @@ pub mod Hellos
 pub mod Receiving
 pub mod Paging
 pub mod Arriving
+pub mod StatusPages
+pub mod StatusTexts
+pub mod StatusAnswers

@@ -1,5 +1,5 @@
 -- A seat that answered a question is later.
-use Rattle.std.proofs.Common.{◌≡◌, ◌⊎◌, inl, inr, ℕ, List, sym, subst, arith}
+use Rattle.std.proofs.Common.{inl, inr, ℕ, List, sym, subst, arith}
 use mathlib.Core.List.{IsPrefix}
 use Rattle.sb_holdings.specs.Nodes.{Node}
 use Rattle.sb_codec.specs.declared.message.Message.{Message}

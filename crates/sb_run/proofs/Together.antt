@@ -16,7 +16,7 @@ use Rattle.sb_digest.specs.Digests.{Digest}
 use Rattle.sb_session.specs.Handlers.{gives}
 use Rattle.sb_node.specs.Answers.{IsAnswer}
 use Rattle.sb_views.specs.declared.event.Event.{Event}
-use Rattle.sb_views.specs.declared.event.Event.TheVariants.{TookOwn, Applied}
+use Rattle.sb_views.specs.declared.event.Event.TheVariants.{TookOwn, Applied, Purged}
 use Rattle.sb_views.specs.Histories.{node_events_of, node_after}
 use Rattle.sb_views.proofs.Prefixes.{prefix_trans}
 use Rattle.sb_directory.specs.Serving.{AnswersAfter}
@@ -73,6 +73,8 @@ step_true writes opening settings all run (Applied blocks ends) before may step 
     let r = took_of blocks ends step s in
     let given = before may.0 may.1 blocks r.0 may.2 r.2 in
     subst (IsTrue writes (opening run).held.me) r.3 given
+step_true writes opening settings all run (Purged floor) before may step (inl same) = subst (IsTrue writes (opening run).held.me) same (tt, tt)
+step_true writes opening settings all run (Purged floor) before may step (inr s) = absurd s
 
 one_true : (writes : List ℕ → List Write) (opening : ℕ → Node) (run : ℕ) (h : RunEvent) (is : Bool) → (h.run == run) ≡ is
     → ((step : NodeEvent) → Stands (node_events_of h.event) step → IsTrue writes (opening h.run).held.me step)

@@ -7,7 +7,7 @@ use Rattle.sb_codec.specs.declared.message.Message.{Message}
 use Rattle.sb_frames.specs.Frames.{Front, short, whole, bad, front_of}
 use Rattle.sb_frames.specs.Receiving.{held_of}
 use Rattle.sb_frames.specs.Streams.{Stream, open_with, shut, Hands}
-use Rattle.sb_run.specs.declared.waiting.Waiting.{Waiting}
+use Rattle.sb_run.specs.declared.accepting.Waiting.{Waiting}
 
 -- some bytes came since, and are held behind those that were held; or nothing is held any more
 abbrev pub HasGrown : Stream → Stream → Option (List ℕ) → Option (List ℕ) → Type 0

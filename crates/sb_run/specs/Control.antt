@@ -6,6 +6,7 @@ use Rattle.sb_types.specs.declared.entry.Slot.{Slot}
 use Rattle.sb_types.specs.declared.fault.Fault.{Fault}
 use Rattle.sb_types.specs.declared.fault.Fault.TheVariants.{NoMemory, Closed}
 use Rattle.sb_types.specs.Faults.{number_of}
+use Rattle.sb_types.specs.Records.{Settings}
 use Rattle.sb_holdings.specs.Nodes.{Node}
 use Rattle.sb_codec.specs.declared.message.Message.{Message}
 use Rattle.sb_codec.specs.declared.message.Message.TheVariants as kinds
@@ -25,6 +26,7 @@ use Rattle.sb_directory.specs.Serving.{IsLater}
 use Rattle.sb_run.specs.declared.own_writes.Stored.{Stored}
 use Rattle.sb_run.specs.OwnWriting.{version_of, count_owed, count_shared, IsUndisputed, IsHandedIn, IsStored, IsRefused}
 use Rattle.sb_run.specs.OneMessage.{ReceivesOne}
+use Rattle.sb_run.specs.StatusReplies.{IsStatusReply}
 
 -- what the owner's `put` leaves with this answer
 pub record IsPut {L : Type 0} (seen : L → Log) (opening : Node) (old : L) (owed : Option Committed) (before : Seat) (key : List ℕ) (slot : Slot)
@@ -74,11 +76,19 @@ Answers seen opening budget old owed before (kinds.Bye x) new owes after reply =
 Answers seen opening budget old owed before (kinds.Rows x) new owes after reply = (new ≡ old) × (owes ≡ owed) × (after ≡ before) × IsUnknown reply
 Answers seen opening budget old owed before (kinds.Done x) new owes after reply = (new ≡ old) × (owes ≡ owed) × (after ≡ before) × IsUnknown reply
 Answers seen opening budget old owed before (kinds.Refused x) new owes after reply = (new ≡ old) × (owes ≡ owed) × (after ≡ before) × IsUnknown reply
+Answers seen opening budget old owed before (kinds.AskStatus x) new owes after reply = (new ≡ old) × (owes ≡ owed) × (after ≡ before) × IsUnknown reply
+Answers seen opening budget old owed before (kinds.NodeStatus x) new owes after reply = (new ≡ old) × (owes ≡ owed) × (after ≡ before) × IsUnknown reply
+
+-- what a running node answers: a question how it is by its status, and all else as a node of which nothing else is known
+abbrev pub AnswersAll : {L : Type 0} → (L → Log) → Node → Settings → L → Option Committed → Seat → Message → L → Option Committed → Seat → Message → Type 0
+AnswersAll seen opening settings old owed before (kinds.AskStatus asked) new owes after reply =
+    (new ≡ old) × (owes ≡ owed) × IsStatusReply opening settings before asked after reply
+AnswersAll seen opening settings old owed before request new owes after reply = Answers seen opening settings.budget old owed before request new owes after reply
 
 -- this request is answered; or it failed, and nothing changes
-abbrev pub AnswersTo : {L : Type 0} → (L → Log) → Node → ℕ → L → Option Committed → Seat → Message → L → Option Committed → Seat → Bool → Type 0
-AnswersTo seen opening budget old owed before request new owes after failed =
-    ((failed ≡ true) × (new ≡ old) × (owes ≡ owed) × (after ≡ before)) ⊎ ((reply : Message) × Answers seen opening budget old owed before request new owes after reply)
+abbrev pub AnswersTo : {L : Type 0} → (L → Log) → Node → Settings → L → Option Committed → Seat → Message → L → Option Committed → Seat → Bool → Type 0
+AnswersTo seen opening settings old owed before request new owes after failed =
+    ((failed ≡ true) × (new ≡ old) × (owes ≡ owed) × (after ≡ before)) ⊎ ((reply : Message) × AnswersAll seen opening settings old owed before request new owes after reply)
 
 -- if no request is received all stays the same and nothing is written; else one answer is written, or its first bytes
 abbrev pub Controls : Type 0 → (Message → Message → Type 0) → Connection → Connection → Result (Unit {0}) Fault → Type 0

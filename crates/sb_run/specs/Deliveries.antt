@@ -1,6 +1,6 @@
 -- How news is on its way to peers.
 use Rattle.std.specs.Prelude.{◌≡◌, ◌≢◌, ℕ, Bool, true, false, ◌||◌, nat_lt, List, Some, slice_get, IfSome}
-use Rattle.sb_run.specs.declared.delivery.Delivery.{Delivery}
+use Rattle.sb_run.specs.declared.schedule.Delivery.{Delivery}
 
 -- there is news for the peer
 abbrev pub with_news : Delivery → Delivery
@@ -17,6 +17,10 @@ begun delivery = record { is_due = false; is_open = true; is_slow = delivery.is_
 -- the session is over; what became news meanwhile is still to be brought
 abbrev pub ended : Bool → Delivery → Delivery
 ended slow delivery = record { is_due = delivery.is_due; is_open = false; is_slow = slow }
+
+-- the peer was not dialed
+abbrev pub left_out : Delivery → Delivery
+left_out delivery = record { is_due = delivery.is_due; is_open = false; is_slow = delivery.is_slow }
 
 -- a round in turn with the peer is over
 abbrev pub paced : Bool → Delivery → Delivery

@@ -1,4 +1,5 @@
 pub mod OwnWriting
+pub mod OwnPurging
 pub mod OneMessage
 pub mod Control
 pub mod Gates
@@ -9,6 +10,9 @@ pub mod Arriving
 pub mod Running
 pub mod Turns
 pub mod Deliveries
+pub mod News
 pub mod Together
 pub mod Closing
 pub mod LogCauses
+pub mod Facts
+pub mod StatusReplies

@@ -2,9 +2,9 @@
 use Rattle.std.specs.Prelude.{ℕ, ◌==◌, if◌then◌else◌, Option, Some, None}
 use Rattle.sb_log.specs.declared.cause.StoreCause.{StoreCause}
 use Rattle.sb_log.specs.Cause.{number_of, cause_numbered}
-use Rattle.sb_run.specs.declared.log_cause.LogCause.{LogCause}
-use Rattle.sb_run.specs.declared.log_cause.LogCause.TheVariants.{Store, Lost}
-use Rattle.sb_run.specs.declared.log_cause.LogLoss.TheVariants.{Removed, Replaced}
+use Rattle.sb_run.specs.declared.observer.LogCause.{LogCause}
+use Rattle.sb_run.specs.declared.observer.LogCause.TheVariants.{Store, Lost}
+use Rattle.sb_run.specs.declared.observer.LogLoss.TheVariants.{Removed, Replaced}
 
 -- the number of the cause of its store, and two more
 abbrev pub number_of_cause : LogCause → ℕ

@@ -1,5 +1,5 @@
 -- What a worker takes from a source.
-use Rattle.std.specs.Prelude.{ℕ, ◌<◌}
+use Rattle.std.specs.Prelude.{◌<◌}
 use Rattle.sb_run.specs.declared.pool.Taken.{Taken}
 use Rattle.sb_run.specs.declared.pool.Taken.TheVariants.{Session, Question}
 

@@ -9,7 +9,7 @@ use Rattle.sb_holdings.specs.Nodes.{Node, IsNode, NodeHolds}
 use Rattle.sb_digest.specs.Digests.{Digest}
 use Rattle.sb_session.specs.Handlers.{gives}
 use Rattle.sb_views.specs.declared.event.Event.{Event}
-use Rattle.sb_views.specs.declared.event.Event.TheVariants.{TookOwn, Applied}
+use Rattle.sb_views.specs.declared.event.Event.TheVariants.{TookOwn, Applied, Purged}
 use Rattle.sb_directory.specs.Serving.{AnswersAfter}
 
 -- an event of one of the runs, each of which has a number
@@ -34,10 +34,12 @@ abbrev pub CanGive : (ℕ → Node) → (ℕ → Settings) → List RunEvent →
 CanGive opening settings all blocks =
     (run : ℕ) × (digest : Digest) × AnswersAfter (opening run) (settings run) (history_of run all) (gives digest (Ok blocks))
 
--- after all this a run may take a write of its owner, and a delta that some run could give by then: late, again, in any order, or never
+-- after all this a run may take a write of its owner, and a delta that some run could give by then: late, again, in any order, or never.
+-- And it may purge its own table
 abbrev pub MayHappen : (List ℕ → List Write) → (ℕ → Node) → (ℕ → Settings) → List RunEvent → ℕ → Event → Type 0
 MayHappen writes opening settings all run (TookOwn e) = Written (writes (opening run).held.me) e
 MayHappen writes opening settings all run (Applied blocks ends) = (earlier : List RunEvent) × IsPrefix earlier all × CanGive opening settings earlier blocks
+MayHappen writes opening settings all run (Purged floor) = Unit {0}
 
 -- each of these events came when it could
 abbrev pub HappenInTurn : (List ℕ → List Write) → (ℕ → Node) → (ℕ → Settings) → List RunEvent → Type 0

@@ -1,14 +1,17 @@
 -- How peers are by their rounds, and whose turn is next.
-use Rattle.std.specs.Prelude.{ℕ, Bool, true, false, nat_eq, nat_lt, if◌then◌else◌, Result, Ok, Err}
+use Rattle.std.specs.Prelude.{ℕ, ◌+◌, Bool, true, false, not, nat_eq, nat_lt, if◌then◌else◌, Result, Ok, Err}
 use Rattle.sb_types.specs.declared.fault.Fault.{Fault}
 use Rattle.sb_types.specs.declared.fault.Fault.TheVariants as faults
 use Rattle.sb_types.specs.Faults.{number_of}
 use Rattle.sb_session.specs.declared.talk.Ended.{Ended}
 use Rattle.sb_session.specs.declared.talk.Ended.TheVariants as endings
-use Rattle.sb_run.specs.declared.peer_state.DownReason.{DownReason}
-use Rattle.sb_run.specs.declared.peer_state.DownReason.TheVariants.{Unreachable, Silent, ReadFailed, HungUp, BrokenOff, EndedEarly}
-use Rattle.sb_run.specs.declared.peer_state.PeerState.{PeerState}
-use Rattle.sb_run.specs.declared.peer_state.PeerState.TheVariants.{Never, Answers, Down, Failed}
+use Rattle.sb_session.specs.declared.pushing.PushEnd.{PushEnd}
+use Rattle.sb_session.specs.declared.pushing.PushEnd.TheVariants.{AfterHello, BeforeHello}
+use Rattle.sb_run.specs.declared.peers.DownReason.{DownReason}
+use Rattle.sb_run.specs.declared.peers.DownReason.TheVariants.{Unreachable, Silent, ReadFailed, HungUp, BrokenOff, EndedEarly}
+use Rattle.sb_run.specs.declared.peers.PeerState.{PeerState}
+use Rattle.sb_run.specs.declared.peers.PeerState.TheVariants.{Never, Answers, Down, Failed}
+use Rattle.sb_run.specs.declared.peers.Peer.{Peer}
 
 -- how a peer is by a session that ended so, whether it was heard in it, and whether no byte came for too long
 abbrev pub state_of : Result Ended Fault → Bool → Bool → PeerState
@@ -35,12 +38,51 @@ number_of_state Answers = 0
 number_of_state (Down reason) = number_of_reason reason
 number_of_state (Failed fault) = number_of fault
 
--- a peer is dialed for news unless it is down or had a fault
-abbrev pub takes_news : PeerState → Bool
-takes_news Never = true
-takes_news Answers = true
-takes_news (Down reason) = false
-takes_news (Failed fault) = false
+-- how a peer is by a push that ended so
+abbrev pub state_of_push : Result PushEnd Fault → Bool → Bool → PeerState
+state_of_push (Ok AfterHello) was_heard was_silent = Answers
+state_of_push (Ok BeforeHello) was_heard was_silent = Down EndedEarly
+state_of_push (Err fault) was_heard was_silent = state_of (Err fault) was_heard was_silent
+
+-- a session ended well
+abbrev pub is_answer : PeerState → Bool
+is_answer Never = false
+is_answer Answers = true
+is_answer (Down reason) = false
+is_answer (Failed fault) = false
+
+-- how many sessions with a peer in a row did not end well, after one that ended so; more than two are two
+abbrev pub misses_after : PeerState → ℕ → ℕ
+misses_after ended misses = if is_answer ended then 0 else (if nat_lt misses 2 then misses + 1 else misses)
+
+-- a peer is dialed for news unless two sessions in a row did not end well
+abbrev pub takes_news : Peer → Bool
+takes_news peer = nat_lt peer.misses 2
+
+-- the peer after a session that ended so was counted
+abbrev pub with_session : PeerState → Peer → Peer
+with_session ended peer = record {
+  path = peer.path;
+  state = peer.state;
+  round = peer.round;
+  turns_out = peer.turns_out;
+  misses = misses_after ended peer.misses;
+}
+
+-- the number of the state of a peer, in the status of a node
+abbrev pub code_of_reason : DownReason → ℕ
+code_of_reason Unreachable = 2
+code_of_reason Silent = 3
+code_of_reason ReadFailed = 4
+code_of_reason HungUp = 5
+code_of_reason BrokenOff = 6
+code_of_reason EndedEarly = 7
+
+abbrev pub code_of : PeerState → ℕ
+code_of Never = 0
+code_of Answers = 1
+code_of (Down reason) = code_of_reason reason
+code_of (Failed fault) = 32 + number_of fault
 
 -- by such a fault a Hello, or the frame in which it comes, is refused
 abbrev pub is_refusal : Fault → Bool
@@ -72,6 +114,13 @@ is_still (Failed first) (Failed fault) = nat_eq (number_of first) (number_of fau
 -- how a peer is behind a round that ended so: it keeps its first reason or fault as long as it is so still
 abbrev pub state_after : PeerState → PeerState → PeerState
 state_after before ended = if is_still before ended then before else ended
+
+-- how a peer is after a push that ended so: by one that ended well it is as it was by its rounds
+abbrev pub state_after_push : PeerState → PeerState → PeerState
+state_after_push before ended = if is_answer ended then before else state_after before ended
+
+abbrev pub is_changed_by_push : PeerState → PeerState → Bool
+is_changed_by_push before ended = if is_answer ended then false else not (is_still before ended)
 
 -- whose turn it is of so many: behind the last comes the first
 abbrev pub turn_of : ℕ → ℕ → ℕ

@@ -1,19 +1,25 @@
 //! The thread that accepts the connections at both sockets of a node, and hands them on once they have something to say.
-ghost use Rattle.std.specs.Prelude.{◌≡◌, IfErr};
+ghost use Rattle.std.specs.Prelude.{◌≡◌, IfErr, ◌+◌, ◌<◌, ◌≤◌, ◌++◌, ◌∷◌, [], true, vec_len, length, position, MatchBool, OnOk, IfSome, IfOk};
+ghost use Rattle.sb_run.specs.declared.first_message.TheConstants.{FIRST_MOST};
+ghost use Rattle.sb_run.specs.declared.accepting.TheConstants.{WAITING_MOST};
+ghost use Rattle.sb_run.specs.Arriving.{ReadsPiece, is_silent, has_begun, has_number, without_oldest, with_room};
 
 use crate::arrivals::Handover;
-use crate::context::NodeContext;
 use crate::counts::Counts;
-use crate::rounds::RoundsTag;
+use crate::dialer::RoundsTag;
+use crate::first_message::{FIRST_MOST, is_enough};
 use crate::sockets::WAKER_TOKEN;
-use crate::waiting::{Waiting, WaitingList, deadline_after};
+use crate::threads::NodeContext;
 use mio::net::UnixStream;
 use mio::{Events, Interest, Poll, Registry, Token};
+use sb_codec::Message;
+use sb_frames::{Frames, Steps, faults_are_of_the_bytes, receive};
 use sb_types::Fault;
 use std::alloc::Global;
+use std::io::Read;
 use std::marker::Brand;
 use std::sync::Wait;
-use std::sync::ledger::Blank;
+use std::sync::ledger::{Blank, Ledger};
 use std::time::{Clock, Duration, Instant};
 use std::{io, thread};
 
@@ -294,5 +300,318 @@ impl Acceptor {
             backlog.close_late(node.rt);
         }
         unreachable!()
+    }
+}
+
+/// How many connections may wait at one socket.
+pub(crate) const WAITING_MOST: usize = 1_024;
+
+/// A connection that was accepted and that has more to say before it is served.
+#[derive(Drop)]
+pub(crate) struct Waiting {
+    number: usize,
+    stream: UnixStream,
+    /// When it is closed; never if it has no moment.
+    until: Option<Instant>,
+    /// What has come of its request, if it is a caller.
+    frames: Frames,
+    /// How many more reads it may take.
+    left: u64,
+    /// What has come of a peer. Its worker reads that first.
+    came: Vec<u8>,
+}
+
+/// Reads what has come without waiting.
+#[derive(Drop)]
+struct Arrived<'a> {
+    stream: &'a UnixStream,
+    /// Whether the last read would have waited.
+    has_waited: bool,
+}
+
+impl Read for Arrived<'_> {
+    fn read(&mut self, buffer: &mut [u8]) -> io::Result<usize> {
+        let mut stream = self.stream;
+        let answer = stream.read(buffer);
+        self.has_waited = match &answer {
+            Ok(_) => false,
+            Err(error) => error.kind() == io::ErrorKind::WouldBlock,
+        };
+        answer
+    }
+}
+
+/// Makes one read of a stream, if one is left: its first message, once it is whole. None if more is to come. `left` is what is
+/// left after the call. Its faults are those of `receive`, and `Truncated` also at an end before the message. After
+/// `ReadFailed` the call may be made again.
+fn read_piece<R: Read, K: Ledger>(
+    reader: &mut R,
+    frames: &mut Frames,
+    left: &mut u64,
+    steps: &mut Steps<K>,
+) -> Result<Option<Message>, Fault>
+    ensures reads { ReadsPiece frames.old frames.new (R.remaining reader.old) (R.remaining reader.new) result }
+    ensures counted { steps.new + left.new ≤ steps.old + left.old }
+{
+    faults_are_of_the_bytes();
+    if *left == 0 {
+        return Err(Fault::TurnsSpent);
+    }
+    *left -= 1;
+    match receive(reader, frames, 1, steps) {
+        Ok(Some(message)) => Ok(Some(message)),
+        Ok(None) => Err(Fault::Truncated),
+        // The read gave less than the rest of the message.
+        Err(Fault::TurnsSpent) if *left > 0 => Ok(None),
+        Err(fault) => Err(fault),
+    }
+}
+
+/// The moment so many milliseconds from now; none for 0, or if the clock can't be read.
+pub(crate) fn deadline_after<Q: Clock>(clock: &Q, milliseconds: u64) -> Option<Instant> {
+    if milliseconds == 0 {
+        return None;
+    }
+    match Instant::now(clock) {
+        Ok(now) => now.checked_add(Duration::from_millis(milliseconds)),
+        Err(_) => None,
+    }
+}
+
+impl Waiting {
+    /// A connection of this number, which waits until then and may take so many reads.
+    pub(crate) fn new(
+        alloc: Global,
+        number: usize,
+        stream: UnixStream,
+        until: Option<Instant>,
+        max_reads: u64,
+    ) -> Waiting
+        ensures number { result.number ≡ number }
+        ensures silent { is_silent result ≡ true }
+        ensures reads { result.left ≡ max_reads }
+    {
+        Waiting {
+            number,
+            stream,
+            until,
+            frames: Frames::new(alloc),
+            left: max_reads,
+            came: Vec::new(alloc),
+        }
+    }
+
+    /// Whether nothing came of it yet.
+    fn is_silent(&self) -> bool
+        ensures { result ≡ is_silent self.now }
+    {
+        self.frames.held() == 0 && self.came.is_empty()
+    }
+
+    /// Makes one read of a peer, if one is left, without waiting. Says whether a worker is to take it. `Truncated` at an end
+    /// before that, `ReadFailed`, `TurnsSpent`, `NoMemory`; after each it is to be closed.
+    fn hear(&mut self, alloc: Global) -> Result<bool, Fault>
+        ensures number { self.new.number ≡ self.old.number }
+        ensures begun { IfOk result (λ is_enough. is_enough ≡ has_begun FIRST_MOST self.new.came.items) }
+        ensures counted { IfOk result (λ _. self.new.left + 1 ≡ self.old.left) }
+    {
+        if self.left == 0 {
+            return Err(Fault::TurnsSpent);
+        }
+        self.left -= 1;
+        let mut buffer = [0u8; FIRST_MOST];
+        let mut stream = &self.stream;
+        match stream.read(&mut buffer) {
+            Ok(0) => return Err(Fault::Truncated),
+            Ok(count) => self.came.extend_from_slice(&buffer[..count])?,
+            Err(error) if error.kind() == io::ErrorKind::WouldBlock => {}
+            Err(_) => return Err(Fault::ReadFailed),
+        }
+        is_enough(alloc, &self.came)
+    }
+
+    /// Makes one read of its request, without waiting: the request, once it is whole. None if more is to come. Its faults
+    /// are those of `read_piece`, after which it is to be closed.
+    fn read<K: Ledger>(&mut self, steps: &mut Steps<K>) -> Result<Option<Message>, Fault>
+        ensures number { self.new.number ≡ self.old.number }
+        ensures counted { steps.new + self.new.left ≤ steps.old + self.old.left }
+    {
+        let mut reader = Arrived {
+            stream: &self.stream,
+            has_waited: false,
+        };
+        match read_piece(&mut reader, &mut self.frames, &mut self.left, steps) {
+            Err(Fault::ReadFailed) if reader.has_waited => Ok(None),
+            other => other,
+        }
+    }
+}
+
+/// The place of the one of this number.
+fn place_of(all: &[Waiting], number: usize) -> Option<usize>
+    ensures { result ≡ position (has_number number) all.now }
+{
+    all.iter().position(|waiting| waiting.number == number)
+}
+
+/// The place of the oldest that has said nothing.
+fn place_of_silent(all: &[Waiting]) -> Option<usize>
+    ensures { result ≡ position is_silent all.now }
+{
+    all.iter().position(|waiting| waiting.is_silent())
+}
+
+/// The connections that wait at a socket, the oldest first.
+#[derive(Drop)]
+pub(crate) struct WaitingList {
+    all: Vec<Waiting>,
+    ghost bounded: { vec_len all ≤ WAITING_MOST },
+}
+
+impl WaitingList {
+    /// Nobody waits.
+    pub(crate) fn new(alloc: Global) -> WaitingList
+        ensures { result.all.items ≡ [] }
+    {
+        WaitingList {
+            all: Vec::new(alloc),
+        }
+    }
+
+    /// How many wait.
+    pub(crate) fn len(&self) -> usize
+        ensures { result ≡ length self.now.all.items }
+    {
+        self.all.len()
+    }
+
+    /// Closes the oldest that has said nothing, or else the oldest. Says whether there was one.
+    pub(crate) fn close_oldest(&mut self) -> bool
+        ensures { MatchBool result ((vec_len self.new.all + 1 ≡ vec_len self.old.all) × (self.new.all.items ≡ without_oldest self.old.all.items))
+            ((self.old.all.items ≡ []) × (self.new.all.items ≡ [])) }
+    {
+        if self.all.is_empty() {
+            return false;
+        }
+        let oldest = place_of_silent(&self.all).unwrap_or(0);
+        self.all.remove(oldest);
+        true
+    }
+
+    /// If as many wait as may, closes the oldest that has said nothing, or else the oldest. Says whether it did.
+    fn make_room(&mut self) -> bool
+        ensures room { vec_len self.new.all < WAITING_MOST }
+        ensures left { self.new.all.items ≡ with_room WAITING_MOST self.old.all.items }
+    {
+        self.all.len() >= WAITING_MOST && self.close_oldest()
+    }
+
+    /// Adds one that is younger than each that waits. If as many wait as may, the oldest that has said nothing, or else the
+    /// oldest, is closed for it. Says whether one was. `NoMemory`, which closes it.
+    pub(crate) fn push(&mut self, waiting: Waiting) -> Result<bool, Fault>
+        ensures added { OnOk result (self.new.all.items ≡ with_room WAITING_MOST self.old.all.items ++ waiting ∷ []) }
+        ensures memory { IfErr result (λ fault. fault ≡ Fault.NoMemory) }
+    {
+        let has_closed = self.make_room();
+        self.all.push(waiting)?;
+        Ok(has_closed)
+    }
+
+    /// Makes one read of the peer of this number. Gives its connection, and what has come on it, once a worker is to take it. None
+    /// if more is to come, which the registry then reports, or if no such one waits here. A fault closes it.
+    pub(crate) fn take_session(
+        &mut self,
+        alloc: Global,
+        registry: &Registry,
+        number: usize,
+    ) -> Result<Option<(Vec<u8>, UnixStream)>, Fault>
+        ensures begun { IfOk result (λ found. IfSome found (λ taken. has_begun FIRST_MOST taken.0.items ≡ true)) }
+    {
+        let Some(place) = place_of(&self.all, number) else {
+            return Ok(None);
+        };
+        match self.all[place].hear(alloc) {
+            Ok(false) => {
+                self.wait_on(registry, place, number)?;
+                Ok(None)
+            }
+            Ok(true) => {
+                let Waiting { stream, came, .. } = self.all.remove(place);
+                Ok(Some((came, stream)))
+            }
+            Err(fault) => {
+                self.all.remove(place);
+                Err(fault)
+            }
+        }
+    }
+
+    /// Makes one read of the request of this number, and gives it with its connection once it is whole. None if more is to come,
+    /// which the registry then reports, or if no such one waits here. A fault closes it. The read is the first of a ledger.
+    pub(crate) fn take_request<K: Ledger>(
+        &mut self,
+        registry: &Registry,
+        number: usize,
+        blank: Blank,
+    ) -> Result<Option<(Message, UnixStream)>, Fault>
+        requires name { blank.name ≡ K.name }
+        requires parts { blank.parts ≡ K.parts }
+        requires some { 0 < blank.parts }
+    {
+        let Some(place) = place_of(&self.all, number) else {
+            return Ok(None);
+        };
+        let mut steps = Steps::<K>::new(blank);
+        match self.all[place].read(&mut steps) {
+            Ok(None) => {
+                self.wait_on(registry, place, number)?;
+                Ok(None)
+            }
+            Ok(Some(request)) => {
+                let Waiting { stream, .. } = self.all.remove(place);
+                Ok(Some((request, stream)))
+            }
+            Err(fault) => {
+                self.all.remove(place);
+                Err(fault)
+            }
+        }
+    }
+
+    /// Has the registry report the one at this place again. `ReadFailed`, which closes it.
+    fn wait_on(&mut self, registry: &Registry, place: usize, number: usize) -> Result<(), Fault>
+        requires { place < vec_len self.old.all }
+    {
+        let stream = &mut self.all[place].stream;
+        if registry
+            .reregister(stream, Token(number), Interest::READABLE)
+            .is_ok()
+        {
+            return Ok(());
+        }
+        self.all.remove(place);
+        Err(Fault::ReadFailed)
+    }
+
+    /// Closes those whose time is over, and says how many.
+    pub(crate) fn close_late(&mut self, now: Instant) -> u64 {
+        let mut closed: u64 = 0;
+        for _ in 0..WAITING_MOST {
+            match self.first_until() {
+                Some(until) if until <= now => {
+                    self.all.remove(0);
+                    closed = closed.saturating_add(1);
+                }
+                _ => break,
+            }
+        }
+        closed
+    }
+
+    /// When the time of the oldest is over; none if nobody waits, or waits for ever.
+    pub(crate) fn first_until(&self) -> Option<Instant>
+        ensures { IfSome result (λ _. 0 < vec_len self.now.all) }
+    {
+        self.all.first()?.until
     }
 }

@@ -3,11 +3,10 @@ ghost use Rattle.std.specs.Prelude.{◌≡◌, IfOk, IfErr};
 ghost use Rattle.sb_run.specs.Sources.{IsNumbered};
 
 use crate::counts::Counts;
-use crate::ending::EndFlag;
 use crate::node::Pace;
 use crate::pool::{Source, Taken};
-use crate::sockets::{blocking_stream, limit};
-use crate::timed::Timed;
+use crate::sockets::{Timed, blocking_stream, limit};
+use crate::threads::EndFlag;
 use crossbeam_channel::{Receiver, Sender, bounded};
 use mio::net;
 use sb_codec::{Ask, Message};

@@ -18,6 +18,8 @@ pub(crate) struct Bell {
     has_news: AtomicBool,
     /// Whether an owner may have come that was not held.
     has_new_owner: AtomicBool,
+    /// Whether a peer sent writes after ones that are missing.
+    has_gap: AtomicBool,
 }
 
 /// The threads that a bell wakes wait at them.
@@ -41,6 +43,7 @@ impl Bell {
             news: parkers.news.unparker().clone()?,
             has_news: AtomicBool::new(false),
             has_new_owner: AtomicBool::new(false),
+            has_gap: AtomicBool::new(false),
         };
         Ok((bell, parkers))
     }
@@ -70,6 +73,11 @@ impl Bell {
         self.has_news.swap(false, Ordering::SeqCst)
     }
 
+    /// Whether a peer sent writes after ones that are missing, since this was last asked.
+    pub(crate) fn take_gap(&self) -> bool {
+        self.has_gap.swap(false, Ordering::SeqCst)
+    }
+
     /// Whether an owner may have come since this was last asked.
     pub(crate) fn take_new_owner(&self) -> bool {
         self.has_new_owner.swap(false, Ordering::SeqCst)
@@ -89,5 +97,10 @@ impl Gate for Bell {
     fn entered(&self, delta: &Delta) {
         let is_new_owner = delta.blocks().iter().any(|block| block.after() == 0);
         self.ring(is_new_owner);
+    }
+
+    fn missed(&self) {
+        self.has_gap.store(true, Ordering::SeqCst);
+        self.turns.unpark();
     }
 }

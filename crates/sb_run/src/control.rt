@@ -1,27 +1,28 @@
 //! The serving side of a control socket: one request and one answer a connection.
-ghost use Rattle.std.specs.Prelude.{◌≡◌, ◌+◌, true, false};
+ghost use Rattle.std.specs.Prelude.{◌≡◌, ◌+◌, true, false, IfOk};
 ghost use Rattle.sb_types.specs.Faults.{number_of};
 ghost use Rattle.sb_codec.specs.Limits.{is_version};
-ghost use Rattle.sb_frames.specs.Sending.{OnlyWhereFailed};
+ghost use Rattle.sb_frames.specs.Sending.{OnlyWhereFailed, Sends, has_failed};
 ghost use Rattle.sb_codec.specs.declared.message.Message.TheVariants as kinds;
 ghost use Rattle.sb_log.specs.Puts.{IsSettled};
 ghost use Rattle.sb_codec.specs.declared.message.Message.{Message};
 ghost use Rattle.sb_frames.specs.Frames.{frame};
-ghost use Rattle.sb_frames.specs.Sending.{Sends};
 ghost use Rattle.sb_directory.specs.Serving.{IsLater};
 ghost use Rattle.sb_run.specs.Control.{IsPutReply, IsPageReply, IsLookedUp, Answers, Controls};
+ghost use Rattle.sb_frames.specs.declared.last_write.Outcome.{Outcome};
+ghost use Rattle.sb_frames.specs.Connections.{KeepsOutput};
+ghost use Rattle.sb_run.specs.OneMessage.{ReceivesOne, Asks};
 
-use crate::one_message::receive_first;
 use crate::own_writes::OwnWrites;
-use crate::serving::Serving;
+use crate::pool::Serving;
 use sb_codec::{Ask, Done, Message, Refused};
 use sb_directory::{DirectoryTag, EnteredSeat, ReaderSeat};
 use sb_frames::{Connection, send};
 use sb_log::WriteLog;
 use sb_query::answer;
 use sb_types::{
-    Fault, KIND_BYE, KIND_DELTA, KIND_DIGEST, KIND_DONE, KIND_HELLO, KIND_REFUSED, KIND_ROWS, Key,
-    Settings, Slot,
+    Fault, KIND_ASK_STATUS, KIND_BYE, KIND_DELTA, KIND_DIGEST, KIND_DONE, KIND_HELLO,
+    KIND_NODE_STATUS, KIND_REFUSED, KIND_ROWS, Key, Settings, Slot,
 };
 use sb_views::NodeTag;
 use std::alloc::Global;
@@ -31,7 +32,7 @@ use std::sync::ledger::Ledger;
 
 /// The answer that names a fault.
 #[tactic(auto, using(crate::proofs::Numbers::are_numbers))]
-fn refused_by(fault: Fault) -> Message
+pub(crate) fn refused_by(fault: Fault) -> Message
     ensures { result ≡ kinds.Refused (number_of fault) }
 {
     let Ok(refused) = Refused::new(fault.number()) else {
@@ -131,6 +132,8 @@ fn reply_to<L: WriteLog, S: DirectoryTag, H: Wait + Drop, Q: Wait>(
         Message::Rows(_) => (seat, refused_by(Fault::UnknownKind(KIND_ROWS))),
         Message::Done(_) => (seat, refused_by(Fault::UnknownKind(KIND_DONE))),
         Message::Refused(_) => (seat, refused_by(Fault::UnknownKind(KIND_REFUSED))),
+        Message::AskStatus(_) => (seat, refused_by(Fault::UnknownKind(KIND_ASK_STATUS))),
+        Message::NodeStatus(_) => (seat, refused_by(Fault::UnknownKind(KIND_NODE_STATUS))),
     }
 }
 
@@ -213,4 +216,62 @@ impl<S: DirectoryTag, H: Wait + Drop, Q: Wait> Serving<'_, S, H, Q> {
             Err(fault) => (seat, Err(fault)),
         }
     }
+}
+
+/// The next message of a connection. Its faults are those of `Connection::receive`, and `Truncated` at an end before the
+/// message.
+pub(crate) fn receive_one<R: Read, W: Write, K: Ledger>(
+    connection: &mut Connection<R, W, K>,
+) -> Result<Message, Fault>
+    ensures receives { ReceivesOne connection.old connection.new result }
+    ensures counted { connection.new.steps + connection.new.left ≡ connection.old.steps + connection.old.left }
+    // It writes nothing, and no fault of it says that a write failed.
+    ensures kept { KeepsOutput connection.old connection.new }
+    ensures unwritten { (last : Outcome) → OnlyWhereFailed result last }
+{
+    match connection.receive() {
+        Ok(Some(message)) => Ok(message),
+        Ok(None) => Err(Fault::Truncated),
+        Err(fault) => Err(fault),
+    }
+}
+
+/// The message that a talk begins with. Its faults are those of `receive_one`.
+pub(crate) fn receive_first<R: Read, W: Write, K: Ledger>(
+    connection: &mut Connection<R, W, K>,
+) -> Result<Message, Fault>
+    ensures receives { ReceivesOne connection.old connection.new result }
+    ensures counted { connection.new.steps + connection.new.left ≡ connection.old.steps + connection.old.left }
+    ensures output { connection.new.output ≡ connection.old.output }
+    ensures unwritten { (last : Outcome) → OnlyWhereFailed result last }
+    ensures goes_on { IfOk result (λ _. has_failed connection.new.last_write ≡ false) }
+{
+    connection.start()?;
+    receive_one(connection)
+}
+
+/// Sends one request and gives the message that answers it, a `Refused` as any other. After the call the connection says
+/// whether its last write failed.
+///
+/// Its faults:
+///
+/// - `Closed`, with nothing sent, if the connection is closed after a faulty frame.
+/// - `WriteFailed`, with how many bytes of the request are written.
+/// - `BadMark`, `BadVersion`, `BadLength`, `UnknownKind` or `Malformed` of the answer.
+/// - `ReadFailed`.
+/// - `Truncated` if no whole answer comes.
+/// - `TurnsSpent` if the call needs one more read than the connection has left.
+/// - `NoMemory`.
+pub fn ask_control<R: Read, W: Write, K: Ledger>(
+    connection: &mut Connection<R, W, K>,
+    request: &Message,
+) -> Result<Message, Fault>
+    ensures asks { Asks request.now connection.old connection.new result }
+    ensures counted { connection.new.steps + connection.new.left ≡ connection.old.steps + connection.old.left }
+    // A write that did not fail, or that was made before the call, is no reason to stop.
+    ensures failed { OnlyWhereFailed result connection.new.last_write }
+{
+    connection.start()?;
+    connection.send(request)?;
+    receive_one(connection)
 }

@@ -1,21 +1,30 @@
 //! The calling thread of a running node: it answers what callers asked at the control socket, and makes the own writes.
-ghost use Rattle.std.specs.Prelude.{◌≡◌, true, false};
-ghost use Rattle.sb_run.specs.Control.{AnswersTo};
+ghost use Rattle.std.specs.Prelude.{◌≡◌, true, false, IfErr};
+ghost use Rattle.sb_codec.specs.declared.message.Message.{Message};
+ghost use Rattle.sb_directory.specs.Serving.{IsLater, IsStill};
+ghost use Rattle.sb_frames.specs.Frames.{frame};
+ghost use Rattle.sb_frames.specs.Sending.{Sends};
 ghost use Rattle.sb_run.specs.Closing.{seen_by};
+ghost use Rattle.sb_run.specs.Control.{AnswersAll, AnswersTo};
+ghost use Rattle.sb_run.specs.OwnPurging.{MayPurge};
 ghost use Rattle.sb_run.specs.Running.{IsOpenedFrom};
 
 use crate::arrivals::{Request, Requests};
-use crate::closable::ClosableLog;
-use crate::context::NodeContext;
-use crate::log_cause::LogCause;
+use crate::dialer::{Dialing, RoundsTag};
 use crate::node::OnLogFault;
-use crate::observer::Observer;
-use crate::own_writes::OwnWrites;
-use crate::rounds::RoundsTag;
-use crate::sockets::limit;
-use crate::timed::Timed;
+use crate::observer::{LogCause, Observer, Status};
+use crate::own_writes::{ClosableLog, OwnWrites};
+use crate::peers::Peer;
+use crate::purging::PurgeTurns;
+use crate::schedule::RoundCounts;
+use crate::sockets::{Timed, limit};
+use crate::threads::NodeContext;
+use sb_codec::Message;
 use sb_directory::ReaderSeat;
+use sb_frames::send;
 use sb_log::{StoreCause, WriteLog};
+use sb_types::{Fault, Name, OWNERS_MOST};
+use std::io::Write;
 use std::sync::Wait;
 use std::time::Clock;
 
@@ -30,17 +39,42 @@ pub(crate) struct ControlEnd<S: RoundsTag> {
 }
 
 impl<S: RoundsTag, H: Wait + Drop, Q: Wait + Clock> NodeContext<'_, S, H, Q> {
+    /// Writes the answer to a request: the status of the node to an AskStatus, and the answer of `Serving` to any other request.
+    /// `WriteFailed`, with how many bytes of the answer are written; `NoMemory`, with none.
+    fn write_answer<W: Write, L: WriteLog, O: Observer>(
+        &self,
+        writer: &mut W,
+        dialing: &Dialing<'_, O>,
+        writes: &mut OwnWrites<L>,
+        seat: ReaderSeat<S>,
+        request: &Message,
+    ) -> (ReaderSeat<S>, Result<(), Fault>)
+        ensures answers { (reply : Message) × AnswersAll L.seen S.opening S.settings writes.old.log writes.old.owed seat request.now writes.new.log writes.new.owed result.0 reply
+            × Sends (W.contents writer.old) (W.contents writer.new) (frame reply) result.1 }
+        ensures closes { (L.seen writes.old.log).is_open ≡ true → (L.seen writes.new.log).is_open ≡ false → writes.new.has_failed ≡ true }
+    {
+        match request {
+            Message::AskStatus(asked) => {
+                let (seat, reply) = self.reply_to_ask_status(dialing, asked, seat);
+                let sent = send(self.alloc, writer, &reply);
+                (seat, sent)
+            }
+            other => self.serving().answer_request(writer, writes, seat, other),
+        }
+    }
+
     /// Answers a request, and says whether that ended with a fault. The answer is taken within the node's `request`. If that
     /// limit can't be set, nothing is done.
-    fn answer_one<L: WriteLog>(
+    fn answer_one<L: WriteLog, O: Observer>(
         &self,
+        dialing: &Dialing<'_, O>,
         writes: &mut OwnWrites<L>,
         request: Request,
         seat: ReaderSeat<S>,
     ) -> (ReaderSeat<S>, bool)
         ensures closes { (L.seen writes.old.log).is_open ≡ true → (L.seen writes.new.log).is_open ≡ false → writes.new.has_failed ≡ true }
         // This request was answered, or nothing came of it, which is a fault.
-        ensures answers { AnswersTo L.seen S.opening S.settings.budget writes.old.log writes.old.owed seat request.message writes.new.log writes.new.owed result.0 result.1 }
+        ensures answers { AnswersTo L.seen S.opening S.settings writes.old.log writes.old.owed seat request.message writes.new.log writes.new.owed result.0 result.1 }
     {
         let Request { message, stream } = request;
         let pace = &self.pace;
@@ -48,8 +82,7 @@ impl<S: RoundsTag, H: Wait + Drop, Q: Wait + Clock> NodeContext<'_, S, H, Q> {
             return (seat, true);
         }
         let mut output = Timed::new(self.rt, stream, pace.idle, pace.request);
-        let serving = self.serving();
-        let (seat, sent) = serving.answer_request(&mut output, writes, seat, &message);
+        let (seat, sent) = self.write_answer(&mut output, dialing, writes, seat, &message);
         (seat, sent.is_err())
     }
 }
@@ -104,6 +137,32 @@ impl<S: RoundsTag, H: Wait + Drop, Q> NodeContext<'_, S, H, Q> {
     }
 }
 
+impl<S: RoundsTag, H: Wait + Drop, Q: Wait> NodeContext<'_, S, H, Q> {
+    /// Reports what the last request did to the log, then purges if that is due, and reports what that did. Whether the node is to
+    /// end with either, or because the log was closed since; then its other threads end too.
+    fn ends_after<L: WriteLog, O: Observer>(
+        &self,
+        turns: &mut PurgeTurns,
+        writes: &mut OwnWrites<L>,
+        seat: &mut ReaderSeat<S>,
+        observer: &O,
+    ) -> bool
+        ensures exits { result ≡ true → self.now.pace.on_log_fault ≡ OnLogFault.Exit }
+        ensures ends { writes.old.has_failed ≡ true → self.now.pace.on_log_fault ≡ OnLogFault.Exit → result ≡ true }
+        ensures purges { MayPurge L.seen S.opening turns.old.least writes.old.log writes.old.owed seat.old writes.new.log writes.new.owed seat.new }
+        ensures least { turns.new.least ≡ turns.old.least }
+        ensures later { IsLater seat.old seat.new }
+        // A log that the purge closes ends the node too.
+        ensures closes { (L.seen writes.old.log).is_open ≡ true → (L.seen writes.new.log).is_open ≡ false → self.now.pace.on_log_fault ≡ OnLogFault.Exit → result ≡ true }
+    {
+        if self.ends_with_log(writes, observer) {
+            return true;
+        }
+        self.purge_after(turns, writes, seat, observer);
+        self.ends_with_log(writes, observer)
+    }
+}
+
 impl<S: RoundsTag, H: Wait + Drop, Q: Wait + Clock> NodeContext<'_, S, H, Q> {
     /// Answers one request after another, until the node is to end. It ends the node itself if the log takes no more writes and
     /// the node is to exit then. If the log is closed at the start, that is before the first request.
@@ -112,12 +171,13 @@ impl<S: RoundsTag, H: Wait + Drop, Q: Wait + Clock> NodeContext<'_, S, H, Q> {
         requests: Requests,
         writes: OwnWrites<ClosableLog<L>>,
         seat: ReaderSeat<S>,
-        observer: &O,
+        dialing: &Dialing<'_, O>,
     ) -> ControlEnd<S>
         requires opened { IsOpenedFrom (seen_by (L.seen writes.log.log) writes.log.closed_by) S.opening }
         ensures exits { result.has_left ≡ true → self.now.pace.on_log_fault ≡ OnLogFault.Exit }
         ensures failed { writes.has_failed ≡ true → self.now.pace.on_log_fault ≡ OnLogFault.Exit → result.has_left ≡ true }
     {
+        let observer = dialing.observer();
         let (mut writes, mut current) = (writes, seat);
         let mut faults: u64 = 0;
         if self.ends_with_log(&mut writes, observer) {
@@ -127,6 +187,7 @@ impl<S: RoundsTag, H: Wait + Drop, Q: Wait + Clock> NodeContext<'_, S, H, Q> {
                 has_left: true,
             };
         }
+        let mut turns = PurgeTurns::new(self.pace.purge_removals);
         for _ in self.rt.forever() {
             let Some(request) = requests.next(self.rt, self.ending) else {
                 // A thread that dials ends the node too if it finds the log lost.
@@ -137,10 +198,11 @@ impl<S: RoundsTag, H: Wait + Drop, Q: Wait + Clock> NodeContext<'_, S, H, Q> {
                 };
             };
             self.close_lost_log(&mut writes, observer);
-            let (seat, failed) = self.answer_one(&mut writes, request, current);
+            turns.note(&request.message);
+            let (seat, failed) = self.answer_one(dialing, &mut writes, request, current);
             current = seat;
             faults = faults.saturating_add(u64::from(failed));
-            if self.ends_with_log(&mut writes, observer) {
+            if self.ends_after(&mut turns, &mut writes, &mut current, observer) {
                 return ControlEnd {
                     seat: current,
                     faults,
@@ -149,5 +211,75 @@ impl<S: RoundsTag, H: Wait + Drop, Q: Wait + Clock> NodeContext<'_, S, H, Q> {
             }
         }
         unreachable!()
+    }
+}
+
+/// The owners that the node holds at version 0, in ascending order: those with nothing but a stage, and itself before its first
+/// write. `NoMemory`.
+pub(crate) fn owners_at_zero<S: RoundsTag, H: Wait + Drop, Q: Wait>(
+    node: &NodeContext<S, H, Q>,
+    seat: &mut ReaderSeat<S>,
+) -> Result<Vec<Name>, Fault>
+    ensures still { IsStill seat.old seat.new }
+    ensures memory { IfErr result (λ fault. fault ≡ Fault.NoMemory) }
+{
+    let mut owners = Vec::new(node.alloc);
+    let mut from = None;
+    for _ in 0..OWNERS_MOST {
+        let digest = node.directory.digest(node.rt, seat, from, false)?;
+        for pair in digest.pairs() {
+            if pair.upto == 0 {
+                owners.push(pair.owner)?;
+            }
+        }
+        from = digest.next_from();
+        if from.is_none() {
+            break;
+        }
+    }
+    Ok(owners)
+}
+
+impl<S: RoundsTag, H: Wait + Drop, Q: Wait + Clock> NodeContext<'_, S, H, Q> {
+    /// Reports to the observer how the node is. If memory is missing, no owner at version 0 is listed.
+    pub(crate) fn report_status<O: Observer>(
+        &self,
+        observer: &O,
+        counts: RoundCounts,
+        peers: &[Peer<'_>],
+        seat: ReaderSeat<S>,
+    ) -> ReaderSeat<S> {
+        let mut seat = seat;
+        let uptime = self.counts.uptime(self.rt);
+        let keys = self.directory.key_count(self.rt, &mut seat);
+        let conflict = self.directory.conflict(self.rt, &mut seat);
+        let at_zero = match owners_at_zero(self, &mut seat) {
+            Ok(owners) => owners,
+            Err(_) => Vec::new(self.alloc),
+        };
+        match seat.enter() {
+            Ok(entered) => {
+                observer.status(&Status {
+                    rounds: counts.ended,
+                    faults: counts.faults,
+                    pushes: self.counts.push_counts(),
+                    sessions: self.counts.sessions(),
+                    is_caught_up: peers.iter().all(|peer| 0 < peer.round()),
+                    uptime,
+                    workers: self.directory.settings().workers(),
+                    busy_workers: self.counts.busy_workers(),
+                    troubles: self.counts.troubles(uptime),
+                    purges: self.counts.purges(),
+                    keys,
+                    log_cause: self.counts.log_cause(),
+                    conflict,
+                    snapshot: entered.snapshot(),
+                    owners_at_zero: at_zero.as_slice(),
+                    peers,
+                });
+                entered.leave()
+            }
+            Err(seat) => seat,
+        }
     }
 }

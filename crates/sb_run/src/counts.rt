@@ -1,8 +1,7 @@
 //! What the threads of a running node count for whoever looks at it.
 
-use crate::busy::BusyWorkers;
-use crate::log_cause::LogCause;
-use crate::status::Troubles;
+use crate::observer::{LogCause, PushCounts, Troubles};
+use crate::peers::PeerState;
 use sb_session::Ended;
 use sb_types::Fault;
 use std::sync::atomic::{AtomicU64, Ordering};
@@ -14,6 +13,7 @@ pub(crate) struct Counts {
     /// When the node started; none if the clock could not be read.
     started: Option<Instant>,
     sessions: AtomicU64,
+    purges: AtomicU64,
     /// The number of the cause by which the log takes no more writes, 0 if it takes them.
     log_cause: AtomicU64,
     /// How many sessions that others dialed ended with a fault.
@@ -26,6 +26,14 @@ pub(crate) struct Counts {
     turned_away: AtomicU64,
     /// How many writes were refused because there are too many keys.
     full_writes: AtomicU64,
+    /// How many pushes the node made, how many of them had a fault, and how many bytes the deltas have that peers took.
+    pushes: AtomicU64,
+    push_faults: AtomicU64,
+    pushed_bytes: AtomicU64,
+    /// How many deltas of others had writes after ones that are missing.
+    gaps: AtomicU64,
+    /// How many rounds in turn were made before their time because of such a delta.
+    hastened_rounds: AtomicU64,
     busy: BusyWorkers,
 }
 
@@ -35,12 +43,18 @@ impl Counts {
         Counts {
             started: Instant::now(clock).ok(),
             sessions: AtomicU64::new(0),
+            purges: AtomicU64::new(0),
             log_cause: AtomicU64::new(0),
             session_faults: AtomicU64::new(0),
             last_session_fault: AtomicU64::new(0),
             other_versions: AtomicU64::new(0),
             turned_away: AtomicU64::new(0),
             full_writes: AtomicU64::new(0),
+            pushes: AtomicU64::new(0),
+            push_faults: AtomicU64::new(0),
+            pushed_bytes: AtomicU64::new(0),
+            gaps: AtomicU64::new(0),
+            hastened_rounds: AtomicU64::new(0),
             busy: BusyWorkers::new(workers),
         }
     }
@@ -64,6 +78,16 @@ impl Counts {
     /// How many connections of peers there were.
     pub(crate) fn sessions(&self) -> u64 {
         self.sessions.load(Ordering::SeqCst)
+    }
+
+    /// The own table was purged, and the log with it.
+    pub(crate) fn add_purge(&self) {
+        self.purges.fetch_add(1, Ordering::SeqCst);
+    }
+
+    /// How many times that was.
+    pub(crate) fn purges(&self) -> u64 {
+        self.purges.load(Ordering::SeqCst)
     }
 
     /// A worker is free, and waits for something to do.
@@ -103,6 +127,43 @@ impl Counts {
         self.full_writes.fetch_add(1, Ordering::SeqCst);
     }
 
+    /// A push has ended by which the peer is so; its delta has so many bytes.
+    pub(crate) fn add_push(&self, state: &PeerState, bytes: u64) {
+        self.pushes.fetch_add(1, Ordering::SeqCst);
+        if state.has_fault() {
+            self.push_faults.fetch_add(1, Ordering::SeqCst);
+        }
+        if state.is_answer() {
+            self.pushed_bytes.fetch_add(bytes, Ordering::SeqCst);
+        }
+    }
+
+    /// How many pushes had a fault.
+    pub(crate) fn push_faults(&self) -> u64 {
+        self.push_faults.load(Ordering::SeqCst)
+    }
+
+    /// A delta of another had writes after ones that are missing.
+    pub(crate) fn add_gap(&self) {
+        self.gaps.fetch_add(1, Ordering::SeqCst);
+    }
+
+    /// A round in turn is made before its time because of such a delta.
+    pub(crate) fn add_hastened_round(&self) {
+        self.hastened_rounds.fetch_add(1, Ordering::SeqCst);
+    }
+
+    /// What the node pushed, and what came of pushes to it.
+    pub(crate) fn push_counts(&self) -> PushCounts {
+        PushCounts {
+            made: self.pushes.load(Ordering::SeqCst),
+            faults: self.push_faults(),
+            bytes: self.pushed_bytes.load(Ordering::SeqCst),
+            gaps: self.gaps.load(Ordering::SeqCst),
+            hastened_rounds: self.hastened_rounds.load(Ordering::SeqCst),
+        }
+    }
+
     /// How many workers are busy.
     pub(crate) fn busy_workers(&self) -> u64 {
         self.busy.busy()
@@ -131,5 +192,79 @@ impl Counts {
     /// Why the log takes no more writes; none if it takes them.
     pub(crate) fn log_cause(&self) -> Option<LogCause> {
         LogCause::from_number(self.log_cause.load(Ordering::SeqCst))
+    }
+}
+
+/// For longer than this all workers are busy before that counts, in milliseconds.
+const BUSY_LIMIT: u64 = 1_000;
+
+/// In place of a moment: this time was counted already.
+const COUNTED: u64 = u64::MAX;
+
+/// How many workers are busy, and how many times all of them were busy for longer than a second. A moment is in milliseconds since
+/// the node started.
+#[derive(Drop)]
+pub(crate) struct BusyWorkers {
+    workers: u64,
+    busy: AtomicU64,
+    /// One more than the moment since which all are busy; `COUNTED` once that was counted; 0 if one is free.
+    since: AtomicU64,
+    /// How many times all were busy for longer than the limit.
+    times: AtomicU64,
+}
+
+/// Whether the time since a moment, as `since` keeps it, is to be counted now.
+fn is_long(since: u64, now: u64) -> bool {
+    since != 0 && since != COUNTED && now.saturating_sub(since - 1) > BUSY_LIMIT
+}
+
+impl BusyWorkers {
+    /// So many workers. Each is busy until it first waits for something to do.
+    pub(crate) fn new(workers: u64) -> BusyWorkers {
+        BusyWorkers {
+            workers,
+            busy: AtomicU64::new(workers),
+            since: AtomicU64::new(0),
+            times: AtomicU64::new(0),
+        }
+    }
+
+    /// A free worker is busy from this moment on.
+    pub(crate) fn begin(&self, now: u64) {
+        let before = self.busy.fetch_add(1, Ordering::SeqCst);
+        if before.saturating_add(1) >= self.workers {
+            let since = now.saturating_add(1);
+            let _ = self
+                .since
+                .compare_exchange(0, since, Ordering::SeqCst, Ordering::SeqCst);
+        }
+    }
+
+    /// A busy worker is free from this moment on.
+    pub(crate) fn end(&self, now: u64) {
+        self.busy.fetch_sub(1, Ordering::SeqCst);
+        let since = self.since.swap(0, Ordering::SeqCst);
+        if is_long(since, now) {
+            self.times.fetch_add(1, Ordering::SeqCst);
+        }
+    }
+
+    /// How many are busy.
+    pub(crate) fn busy(&self) -> u64 {
+        self.busy.load(Ordering::SeqCst)
+    }
+
+    /// How many times all were busy for longer than a second, until this moment.
+    pub(crate) fn times_until(&self, now: u64) -> u64 {
+        let since = self.since.load(Ordering::SeqCst);
+        if self.busy() >= self.workers && is_long(since, now) {
+            let counted = self
+                .since
+                .compare_exchange(since, COUNTED, Ordering::SeqCst, Ordering::SeqCst);
+            if counted.is_ok() {
+                self.times.fetch_add(1, Ordering::SeqCst);
+            }
+        }
+        self.times.load(Ordering::SeqCst)
     }
 }

@@ -1,25 +1,31 @@
 //! What the threads that dial the peers of a node share: they make its rounds, in turn and for news.
 ghost use Rattle.std.specs.Prelude.{◌≡◌, vec_len, vec_capacity, IfErr};
+ghost use Rattle.crossbeam_channel.specs.Claims.{IsSeatAt};
+ghost use Rattle.crossbeam_channel.specs.Ends.{sends_on, receives_on};
 
+use crate::backlogs::{Backlogs, Lack};
 use crate::bell::Parkers;
-use crate::context::NodeContext;
-use crate::dialing::{dial_peer, digests_of_all};
-use crate::moments::{has_come, moment_after};
+use crate::dialing::{OwnDigests, dial_peer, digests_of_all};
 use crate::node::Pace;
 use crate::observer::Observer;
-use crate::rounds::RoundsTag;
-use crate::schedule::{Cause, NewsStep, RoundEnd, Schedule};
-use crate::turns::Turns;
+use crate::peers::{Peer, PeerState};
+use crate::pushing::{News, push_peer};
+use crate::schedule::{Cause, NewsStep, Schedule, SessionEnd};
+use crate::threads::NodeContext;
 use core::mem::replace_with;
+use crossbeam_channel::protocol::{Free, Split};
+use crossbeam_channel::{Pass, RuledReceiver, RuledSender, bounded_with};
 use crossbeam_utils::sync::Parker;
-use sb_directory::ReaderSeat;
+use sb_budget::Backlog;
+use sb_directory::{DirectoryTag, ReaderSeat};
 use sb_types::Fault;
 use std::alloc::Global;
+use std::marker::{Brand, PhantomData};
 use std::net::{Net, TcpListener, TcpStream};
 use std::sync::{Mutex, Wait};
 use std::thread;
 use std::thread::Threads;
-use std::time::Clock;
+use std::time::{Clock, Duration, Instant};
 
 /// How long a session takes, at least, whose peer is a slow one, in milliseconds.
 const SLOW_SESSION: u64 = 500;
@@ -31,8 +37,53 @@ pub(crate) struct Dialing<'a, O> {
     schedule: Mutex<Schedule<'a>>,
     /// The thread for news that is to dial next waits at it.
     parker: Mutex<Parker>,
-    /// How many exchanges cover all owners that the node holds, if that was counted.
-    exchanges: Mutex<Option<u64>>,
+    /// The digests of all owners that the node holds, if they were made.
+    digests: Mutex<Option<OwnDigests>>,
+    /// What the peers may lack.
+    backlogs: Mutex<Backlogs>,
+}
+
+/// What is done for a peer for which there is news.
+#[derive(Drop)]
+enum Plan<S: RoundsTag> {
+    /// It lacks nothing, or what it lacks is due after the round that is under way with it.
+    Nothing,
+    /// It is pushed what it may lack: the backlog to give back if that fails, and the news to push.
+    Push(Backlog, News<S>),
+    /// A round is made with it.
+    Round,
+}
+
+/// When a session was begun with a peer, as far as that counts at its end.
+#[derive(Clone, Copy)]
+struct SessionStart {
+    /// From when on it has waited as long as a connection may be idle. None if there is no such limit.
+    waited_from: Option<Instant>,
+    /// From when on the peer is a slow one.
+    slow_from: Option<Instant>,
+}
+
+impl SessionStart {
+    /// A session that begins now, whose connection may be idle for so long, 0 for no limit.
+    fn now<Q: Clock>(clock: &Q, idle: u64) -> SessionStart {
+        SessionStart {
+            waited_from: if idle == 0 {
+                None
+            } else {
+                moment_after(clock, idle)
+            },
+            slow_from: moment_after(clock, SLOW_SESSION),
+        }
+    }
+
+    /// How it ended, which it did now.
+    fn ended<Q: Clock>(&self, clock: &Q, state: PeerState) -> SessionEnd {
+        SessionEnd {
+            state,
+            has_waited: has_come(clock, self.waited_from),
+            is_slow: has_come(clock, self.slow_from),
+        }
+    }
 }
 
 impl<'a, O: Observer> Dialing<'a, O> {
@@ -50,12 +101,14 @@ impl<'a, O: Observer> Dialing<'a, O> {
     {
         let Parkers { turns, news } = parkers;
         let schedule = Schedule::new(alloc, paths, pace.rounds, threads)?;
+        let backlogs = Backlogs::new(alloc, paths.len())?;
         let turns = Turns::new(alloc, &schedule, threads == 0, turns)?;
         let dialing = Dialing {
             observer,
             schedule: Mutex::new(schedule),
             parker: Mutex::new(news),
-            exchanges: Mutex::new(None),
+            digests: Mutex::new(None),
+            backlogs: Mutex::new(backlogs),
         };
         Ok((dialing, turns))
     }
@@ -70,21 +123,78 @@ impl<'a, O: Observer> Dialing<'a, O> {
         &self.schedule
     }
 
-    /// How many exchanges cover all owners that the node holds; 1 if there is no memory to count them.
-    fn count_exchanges<S: RoundsTag, H: Wait + Drop, Q: Wait>(
+    /// The digests of all owners that the node holds; one without length if memory is missing to make them.
+    fn own_digests<S: RoundsTag, H: Wait + Drop, Q: Wait>(
         &self,
         node: &NodeContext<S, H, Q>,
         seat: &mut ReaderSeat<S>,
-    ) -> u64 {
-        let mut exchanges = self.exchanges.lock(node.rt);
+    ) -> OwnDigests {
+        let mut digests = self.digests.lock(node.rt);
         if node.bell.take_new_owner() {
-            *exchanges = None;
+            *digests = None;
         }
-        if let Some(count) = *exchanges {
-            return count;
+        if let Some(made) = *digests {
+            return made;
         }
-        *exchanges = digests_of_all(node, seat);
-        (*exchanges).unwrap_or(1)
+        *digests = digests_of_all(node, seat);
+        (*digests).unwrap_or(OwnDigests {
+            count: 1,
+            length: 0,
+        })
+    }
+
+    /// Takes the latest news, which each peer may lack, and begins a round with the peer at this index.
+    fn begin_round<S: RoundsTag, H: Wait + Drop, Q: Wait>(
+        &self,
+        node: &NodeContext<S, H, Q>,
+        index: usize,
+    ) {
+        let mut backlogs = self.backlogs.lock(node.rt);
+        backlogs.add(&node.directory.take_news(node.rt));
+        backlogs.begin_round(index);
+    }
+
+    /// Takes the latest news, which each peer may lack, and then what the peer at this index may lack.
+    fn take_backlog<S: RoundsTag, H: Wait + Drop, Q: Wait>(
+        &self,
+        node: &NodeContext<S, H, Q>,
+        index: usize,
+    ) -> Lack {
+        let mut backlogs = self.backlogs.lock(node.rt);
+        backlogs.add(&node.directory.take_news(node.rt));
+        match backlogs.take(index) {
+            Some(backlog) => Lack::Known(backlog),
+            None => {
+                if backlogs.await_round(index) {
+                    Lack::InRound
+                } else {
+                    Lack::Unknown
+                }
+            }
+        }
+    }
+
+    /// Takes down how a round with the peer at this index ended. News that waited for that is due to the peer now.
+    fn end_round<S: RoundsTag, H: Wait + Drop, Q: Wait>(
+        &self,
+        node: &NodeContext<S, H, Q>,
+        index: usize,
+        cause: Cause,
+        end: SessionEnd,
+    ) {
+        let was_awaited = self
+            .backlogs
+            .lock(node.rt)
+            .end_round(index, end.state.is_answer());
+        let takes_news = self
+            .schedule
+            .lock(node.rt)
+            .end_round(index, cause, end, self.observer);
+        if !takes_news {
+            self.backlogs.lock(node.rt).forget(index);
+        } else if was_awaited {
+            self.schedule.lock(node.rt).expect(index);
+        }
     }
 
     /// Makes one round with the peer at this index, which has begun.
@@ -96,20 +206,88 @@ impl<'a, O: Observer> Dialing<'a, O> {
         cause: Cause,
     ) -> ReaderSeat<S> {
         let mut seat = seat;
-        let exchanges = self.count_exchanges(node, &mut seat);
+        let digests = self.own_digests(node, &mut seat);
+        self.begin_round(node, index);
         let path = self.schedule.lock(node.rt).path(index);
-        let patience = moment_after(node.rt, node.pace.dial_idle);
-        let slow_from = moment_after(node.rt, SLOW_SESSION);
-        let (seat, state) = dial_peer(node, path, seat, exchanges);
-        let end = RoundEnd {
-            state,
-            has_waited: node.pace.dial_idle != 0 && has_come(node.rt, patience),
-            is_slow: has_come(node.rt, slow_from),
-        };
-        self.schedule
-            .lock(node.rt)
-            .end_round(index, cause, end, self.observer);
+        let start = SessionStart::now(node.rt, node.pace.dial_idle);
+        let (seat, state) = dial_peer(node, path, seat, digests.count);
+        self.end_round(node, index, cause, start.ended(node.rt, state));
         self.look_at_log(node);
+        node.bell.wake();
+        seat
+    }
+
+    /// What is to be done for the peer at this index, for which there is news.
+    fn plan<S: RoundsTag, H: Wait + Drop, Q: Wait>(
+        &self,
+        node: &NodeContext<S, H, Q>,
+        seat: &mut ReaderSeat<S>,
+        index: usize,
+    ) -> Plan<S> {
+        let backlog = match self.take_backlog(node, index) {
+            Lack::Known(backlog) => backlog,
+            Lack::InRound => return Plan::Nothing,
+            Lack::Unknown => return Plan::Round,
+        };
+        let owners = backlog.owners().count();
+        if owners == 0 {
+            return Plan::Nothing;
+        }
+        if let Ok(news) = node.news(seat, &backlog) {
+            let digests = self.own_digests(node, seat);
+            if node.can_push(&news, owners, digests.length) {
+                return Plan::Push(backlog, news);
+            }
+        }
+        self.backlogs.lock(node.rt).give_back(index, backlog);
+        Plan::Round
+    }
+
+    /// Pushes news to the peer at this index, which lacked this.
+    fn push<S: RoundsTag, H: Wait + Drop, Q: Wait + Net + Clock>(
+        &self,
+        node: &NodeContext<S, H, Q>,
+        index: usize,
+        backlog: Backlog,
+        news: News<S>,
+    ) {
+        let path = self.schedule.lock(node.rt).path(index);
+        let length = news.frame_length();
+        let start = SessionStart::now(node.rt, node.pace.dial_idle);
+        let state = push_peer(node, path, news);
+        let end = start.ended(node.rt, state);
+        node.counts.add_push(&state, length);
+        if !state.is_answer() {
+            self.backlogs.lock(node.rt).give_back(index, backlog);
+        }
+        let takes_news = self
+            .schedule
+            .lock(node.rt)
+            .end_push(index, end, self.observer);
+        if !takes_news {
+            self.backlogs.lock(node.rt).forget(index);
+        }
+    }
+
+    /// Brings the peer at this index the news for it. It makes a round if there is much of it, or if nobody knows what the peer
+    /// lacks, and pushes it otherwise.
+    pub(crate) fn bring_news<S: RoundsTag, H: Wait + Drop, Q: Wait + Net + Clock>(
+        &self,
+        node: &NodeContext<S, H, Q>,
+        seat: ReaderSeat<S>,
+        index: usize,
+    ) -> ReaderSeat<S> {
+        let mut seat = seat;
+        match self.plan(node, &mut seat, index) {
+            Plan::Push(backlog, news) => self.push(node, index, backlog, news),
+            Plan::Round => {
+                if self.schedule.lock(node.rt).begin_round_for_news() {
+                    return self.round(node, seat, index, Cause::News);
+                }
+                self.schedule.lock(node.rt).leave_out(index);
+            }
+            Plan::Nothing => self.schedule.lock(node.rt).leave_out(index),
+        }
         node.bell.wake();
         seat
     }
@@ -125,12 +303,13 @@ impl<'a, O: Observer> Dialing<'a, O> {
         }
     }
 
-    /// How many rounds had a fault, once all that are to be made have ended.
+    /// How many rounds and pushes had a fault, once all rounds that are to be made have ended.
     pub(crate) fn faults_if_done<S: RoundsTag, H: Wait + Drop, Q: Wait>(
         &self,
         node: &NodeContext<S, H, Q>,
     ) -> Option<u64> {
-        self.schedule.lock(node.rt).faults_if_done()
+        let faults = self.schedule.lock(node.rt).faults_if_done()?;
+        Some(faults.saturating_add(node.counts.push_faults()))
     }
 
     /// What a thread that dials for news is to do next.
@@ -172,7 +351,7 @@ impl<'a, O: Observer> Dialing<'a, O> {
         let mut current = seat;
         for _ in node.rt.forever() {
             match self.wait_for_news(node) {
-                Some(index) => current = self.round(node, current, index, Cause::News),
+                Some(index) => current = self.bring_news(node, current, index),
                 None => return (current, ()),
             }
         }
@@ -212,5 +391,333 @@ impl<O: Observer + Sync> Dialing<'_, O> {
             );
         }
         seats
+    }
+}
+
+/// After how long the observer gets the status of the node again, in milliseconds.
+const STATUS_INTERVAL: u64 = 1_000;
+
+/// What the thread has alone that dials in turn.
+#[derive(Drop)]
+pub(crate) struct Turns<'a> {
+    /// It waits at it.
+    parker: Parker,
+    /// Whether it dials for news too, since there is no other thread for that.
+    is_alone: bool,
+    /// How the peers were in the last status.
+    peers: Vec<Peer<'a>>,
+    /// How many rounds had ended then.
+    reported: u64,
+    /// When the observer is to get the status of the node again; at once if this is none.
+    status_due: Option<Instant>,
+    /// Whether the observer knows that another node writes under this node's name.
+    is_conflict_reported: bool,
+    /// When the next round in turn is due. None if the clock can't be read.
+    due: Option<Instant>,
+    /// From when on a gap may hasten the next round in turn. None if none was hastened.
+    hastens_from: Option<Instant>,
+}
+
+impl<'a> Turns<'a> {
+    /// Dials the peers of this schedule, also for news if it is alone, and waits at this parker. `NoMemory`.
+    pub(crate) fn new(
+        alloc: Global,
+        schedule: &Schedule<'a>,
+        is_alone: bool,
+        parker: Parker,
+    ) -> Result<Turns<'a>, Fault>
+        ensures { IfErr result (λ fault. fault ≡ Fault.NoMemory) }
+    {
+        Ok(Turns {
+            parker,
+            is_alone,
+            peers: schedule.peers(alloc)?,
+            reported: 0,
+            status_due: None,
+            is_conflict_reported: false,
+            due: None,
+            hastens_from: None,
+        })
+    }
+
+    /// Whether the observer is to get the status of the node: a peer is otherwise than before, or a round has ended and the last
+    /// status is a second old.
+    fn is_status_due<O: Observer, Q: Wait + Clock>(
+        &self,
+        rt: &Q,
+        dialing: &Dialing<'a, O>,
+    ) -> bool {
+        let mut schedule = dialing.schedule().lock(rt);
+        let ended = schedule.counts().ended;
+        let has_changed = schedule.take_change();
+        let is_late = self.status_due.is_none() || has_come(rt, self.status_due);
+        has_changed || ended != self.reported && is_late
+    }
+
+    /// Reports the status of the node to the observer, if it wants to know and it is time.
+    fn tell_status<S: RoundsTag, H: Wait + Drop, Q: Wait + Clock, O: Observer>(
+        &mut self,
+        node: &NodeContext<S, H, Q>,
+        dialing: &Dialing<'a, O>,
+        seat: ReaderSeat<S>,
+    ) -> ReaderSeat<S> {
+        let observer = dialing.observer();
+        if !self.is_status_due(node.rt, dialing) || !observer.wants_status() {
+            return seat;
+        }
+        self.status_due = moment_after(node.rt, STATUS_INTERVAL);
+        let counts = dialing.schedule().lock(node.rt).report(&mut self.peers);
+        self.reported = counts.ended;
+        node.report_status(observer, counts, self.peers.as_slice(), seat)
+    }
+
+    /// Publishes what there was no memory to publish before, and reports to the observer, once, that another node writes under this
+    /// node's name.
+    fn refresh_and_report<S: RoundsTag, H: Wait + Drop, Q: Wait, O: Observer>(
+        &mut self,
+        node: &NodeContext<S, H, Q>,
+        observer: &O,
+        seat: &mut ReaderSeat<S>,
+    ) {
+        let _ = node.directory.refresh(node.rt, seat);
+        if self.is_conflict_reported {
+            return;
+        }
+        if let Some(version) = node.directory.conflict(node.rt, seat) {
+            self.is_conflict_reported = true;
+            observer.conflict(version);
+        }
+    }
+
+    /// Makes the round in turn that has begun, with the peer at this index if there are peers. The next is due after the pause.
+    fn make_round<S: RoundsTag, H: Wait + Drop, Q: Wait + Net + Clock, O: Observer>(
+        &mut self,
+        node: &NodeContext<S, H, Q>,
+        dialing: &Dialing<'a, O>,
+        seat: ReaderSeat<S>,
+        next: Option<usize>,
+    ) -> ReaderSeat<S> {
+        let mut current = seat;
+        // What is missing by now this round may bring.
+        let _ = node.bell.take_gap();
+        match next {
+            Some(index) => current = dialing.round(node, current, index, Cause::Turn),
+            None => {
+                dialing.schedule().lock(node.rt).count_round(false);
+                dialing.look_at_log(node);
+            }
+        }
+        current = self.tell_status(node, dialing, current);
+        self.refresh_and_report(node, dialing.observer(), &mut current);
+        self.due = moment_after(node.rt, node.pace.pause);
+        current
+    }
+
+    /// Waits until the next round in turn is due or the thread is woken, and no longer than until this moment, if it is one.
+    fn park<Q: Wait + Clock>(&self, rt: &Q, until: Option<Instant>) {
+        let moment = match (self.due, until) {
+            (Some(due), Some(until)) if due <= until => Some(due),
+            (due, None) => due,
+            (_, until) => until,
+        };
+        match moment {
+            Some(moment) => self.parker.park_deadline(rt, moment),
+            None => self.parker.park(rt),
+        }
+    }
+
+    /// Whether the next round in turn is made at once, since a peer sent writes after ones that are missing. That is so
+    /// once a pause at most, and only if there is a round left.
+    fn is_hastened<S: RoundsTag, H: Wait + Drop, Q: Wait + Clock, O: Observer>(
+        &mut self,
+        node: &NodeContext<S, H, Q>,
+        dialing: &Dialing<'a, O>,
+    ) -> bool {
+        if !node.bell.take_gap() || !dialing.schedule().lock(node.rt).has_round_left() {
+            return false;
+        }
+        if self.hastens_from.is_some() && !has_come(node.rt, self.hastens_from) {
+            return false;
+        }
+        self.hastens_from = moment_after(node.rt, node.pace.pause);
+        node.counts.add_hastened_round();
+        true
+    }
+
+    /// Waits until the next round in turn is due or hastened, or the node is to end. Meanwhile it reports to the observer what
+    /// the other threads met, and dials for news itself if it is alone.
+    fn wait_for_turn<S: RoundsTag, H: Wait + Drop, Q: Wait + Net + Clock, O: Observer>(
+        &mut self,
+        node: &NodeContext<S, H, Q>,
+        dialing: &Dialing<'a, O>,
+        seat: ReaderSeat<S>,
+    ) -> ReaderSeat<S> {
+        let mut current = seat;
+        for _ in node.rt.forever() {
+            if node.ending.is_raised()
+                || has_come(node.rt, self.due)
+                || self.is_hastened(node, dialing)
+            {
+                return current;
+            }
+            let step = if self.is_alone {
+                dialing.next_news(node)
+            } else {
+                NewsStep::Wait(None)
+            };
+            match step {
+                NewsStep::Dial(index) => {
+                    current = dialing.bring_news(node, current, index);
+                    current = self.tell_status(node, dialing, current);
+                }
+                NewsStep::Wait(until) => {
+                    current = self.tell_status(node, dialing, current);
+                    self.park(node.rt, until);
+                }
+            }
+        }
+        unreachable!()
+    }
+
+    /// Makes all rounds in turn of the node's pace, and waits until those for news have ended. None if the node is to end before.
+    pub(crate) fn dial_all<S: RoundsTag, H: Wait + Drop, Q: Wait + Net + Clock, O: Observer>(
+        self,
+        node: &NodeContext<S, H, Q>,
+        dialing: &Dialing<'a, O>,
+        seat: ReaderSeat<S>,
+    ) -> (ReaderSeat<S>, Option<Rounds<S>>) {
+        let mut turns = self;
+        let mut current = seat;
+        for _ in node.rt.forever() {
+            if node.ending.is_raised() {
+                return (current, None);
+            }
+            let begun = dialing.schedule().lock(node.rt).begin_turn();
+            match begun {
+                Some(next) => {
+                    current = turns.make_round(node, dialing, current, next);
+                    current = turns.wait_for_turn(node, dialing, current);
+                }
+                None => match dialing.faults_if_done(node) {
+                    Some(faults) => return (current, Some(Rounds::new(node.pace.rounds, faults))),
+                    None => turns.parker.park(node.rt),
+                },
+            }
+        }
+        unreachable!()
+    }
+}
+
+/// The moment so many milliseconds after this one. None if the clock can't be read.
+pub(crate) fn moment_after<Q: Clock>(clock: &Q, milliseconds: u64) -> Option<Instant> {
+    match Instant::now(clock) {
+        Ok(now) => now.checked_add(Duration::from_millis(milliseconds)),
+        Err(_) => None,
+    }
+}
+
+/// Whether a moment has come. If the clock can't be read, it has, since that is no reason to wait.
+pub(crate) fn is_past<Q: Clock>(clock: &Q, moment: Instant) -> bool {
+    match Instant::now(clock) {
+        Ok(now) => now >= moment,
+        Err(_) => true,
+    }
+}
+
+/// Whether there is such a moment, and it has come.
+pub(crate) fn has_come<Q: Clock>(clock: &Q, moment: Option<Instant>) -> bool {
+    moment.is_some_and(|moment| is_past(clock, moment))
+}
+
+/// A running node that also names, in proofs alone, how many rounds it is to make.
+pub(crate) trait RoundsTag: DirectoryTag {
+    ghost use Rattle.std.specs.Prelude.{ℕ};
+
+    ghost rounds: { ℕ };
+}
+
+impl RoundsTag for Brand {
+    ghost rounds = { 0 };
+}
+
+/// The rounds that were made, which are all.
+#[derive(Drop)]
+pub(crate) struct Rounds<S: RoundsTag> {
+    pub(crate) made: u64,
+    /// How many of them had a fault.
+    pub(crate) faults: u64,
+    of: PhantomData<S>,
+    ghost all: { made ≡ S.rounds },
+}
+
+impl<S: RoundsTag> Rounds<S> {
+    pub(crate) fn new(made: u64, faults: u64) -> Rounds<S>
+        requires { made ≡ S.rounds }
+    {
+        Rounds {
+            made,
+            faults,
+            of: PhantomData,
+        }
+    }
+}
+
+/// The end of the dialing thread.
+#[derive(Drop)]
+pub(crate) struct RoundsSender<S: RoundsTag> {
+    to: RuledSender<Rounds<S>, (), Free>,
+    pass: Pass<Rounds<S>, ()>,
+    ghost fits: { IsSeatAt (sends_on to) pass },
+}
+
+/// The end of the calling thread.
+#[derive(Drop)]
+pub(crate) struct RoundsReceiver<S: RoundsTag> {
+    from: RuledReceiver<Rounds<S>, (), Free>,
+    pass: Pass<Rounds<S>, ()>,
+    ghost fits: { IsSeatAt (receives_on from) pass },
+}
+
+/// Neither end knows anything.
+struct NothingKnown;
+
+impl Split<()> for NothingKnown {
+    ghost left = { λ v. v };
+
+    ghost right = { λ v. v };
+}
+
+/// A channel for one message. `NoMemory`.
+pub(crate) fn rounds_channel<S: RoundsTag>(
+    alloc: Global,
+) -> Result<(RoundsSender<S>, RoundsReceiver<S>), Fault>
+    ensures { IfErr result (λ fault. fault ≡ Fault.NoMemory) }
+{
+    let (to, from, mut pass) = bounded_with::<Rounds<S>, (), Free, Global>(alloc, 1)?;
+    let other = to.another::<NothingKnown>(&mut pass);
+    Ok((
+        RoundsSender { to, pass },
+        RoundsReceiver { from, pass: other },
+    ))
+}
+
+impl<S: RoundsTag> RoundsSender<S> {
+    /// Sends the rounds, at the end.
+    pub(crate) fn send<R: Wait>(self, rt: &R, rounds: Rounds<S>) {
+        let RoundsSender { to, mut pass } = self;
+        let _ = to.send_as::<Free, R>(rt, &mut pass, rounds);
+    }
+}
+
+impl<S: RoundsTag> RoundsReceiver<S> {
+    /// Waits until the rounds are sent. `NoMemory` if the other end is gone before.
+    pub(crate) fn receive<R: Wait>(self, rt: &R) -> Result<Rounds<S>, Fault>
+        ensures { IfErr result (λ fault. fault ≡ Fault.NoMemory) }
+    {
+        let RoundsReceiver { from, mut pass } = self;
+        match from.recv_as::<Free, R>(rt, &mut pass) {
+            Ok(rounds) => Ok(rounds),
+            Err(_) => Err(Fault::NoMemory),
+        }
     }
 }

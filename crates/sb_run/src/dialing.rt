@@ -3,13 +3,12 @@ ghost use Rattle.std.specs.Prelude.{◌≡◌, ◌+◌, ◌<◌, ◌≤◌};
 ghost use Rattle.sb_directory.specs.Serving.{IsStill, IsLater};
 ghost use Rattle.sb_run.specs.Hellos.{Greets};
 
-use crate::context::NodeContext;
+use crate::dialer::RoundsTag;
 use crate::gate::GatedHandler;
-use crate::greeting::session_of;
-use crate::peer_reader::PeerReader;
-use crate::peer_state::{DownReason, PeerState};
-use crate::rounds::RoundsTag;
+use crate::peers::{DownReason, PeerState};
+use crate::pool::session_of;
 use crate::sockets::{connect, limit};
+use crate::threads::NodeContext;
 use sb_directory::{ReaderSeat, SeatHandler};
 use sb_frames::{Connection, Steps};
 use sb_session::{Ended, dial};
@@ -22,25 +21,39 @@ use std::os::unix::net::UnixStream;
 use std::sync::Wait;
 use std::sync::ledger::{Blank, Ledger};
 
-/// How many digests it takes to cover all owners that the node holds, at least 1; none if memory runs out.
+/// The digests that cover all owners that the node holds.
+#[derive(Clone, Copy)]
+pub(crate) struct OwnDigests {
+    /// How many they are, at least 1.
+    pub(crate) count: u64,
+    /// How many bytes their payloads have.
+    pub(crate) length: u64,
+}
+
+/// The digests that cover all owners that the node holds; none if memory runs out.
 pub(crate) fn digests_of_all<S: RoundsTag, H: Wait + Drop, Q: Wait>(
     node: &NodeContext<S, H, Q>,
     seat: &mut ReaderSeat<S>,
-) -> Option<u64>
+) -> Option<OwnDigests>
     ensures { IsStill seat.old seat.new }
 {
     let mut from = None;
+    let mut length: u64 = 0;
     let most = OWNERS_MOST as u64;
     for count in 1..most {
         let Ok(digest) = node.directory.digest(node.rt, seat, from, false) else {
             return None;
         };
+        length = length.saturating_add(digest.encoded_length());
         from = digest.next_from();
         if from.is_none() {
-            return Some(count);
+            return Some(OwnDigests { count, length });
         }
     }
-    Some(most)
+    Some(OwnDigests {
+        count: most,
+        length,
+    })
 }
 
 impl<S: RoundsTag, H: Wait + Drop, Q: Wait> NodeContext<'_, S, H, Q> {
@@ -90,7 +103,7 @@ fn dial_stream<S: RoundsTag, H: Wait + Drop, Q: Wait, K: Ledger>(
 }
 
 /// A connection to the peer at a path, with the node's `dial_idle` as its limit.
-fn reach<S: RoundsTag, H: Wait + Drop, Q: Net>(
+pub(crate) fn reach<S: RoundsTag, H: Wait + Drop, Q: Net>(
     node: &NodeContext<S, H, Q>,
     path: &str,
 ) -> io::Result<UnixStream> {
@@ -113,5 +126,59 @@ pub(crate) fn dial_peer<S: RoundsTag, H: Wait + Drop, Q: Wait + Net>(
             dial_stream::<S, H, Q, Brand>(node, &stream, seat, exchanges, Blank::new(1))
         }
         Err(_) => (seat, PeerState::Down(DownReason::Unreachable)),
+    }
+}
+
+/// Reads from a peer, and notes what came of it.
+#[derive(Drop)]
+pub(crate) struct PeerReader<'a> {
+    stream: &'a UnixStream,
+    was_heard: bool,
+    was_silent: bool,
+}
+
+impl<'a> PeerReader<'a> {
+    /// Nothing was read yet.
+    pub(crate) fn new(stream: &'a UnixStream) -> PeerReader<'a> {
+        PeerReader {
+            stream,
+            was_heard: false,
+            was_silent: false,
+        }
+    }
+
+    /// Whether any byte came.
+    pub(crate) fn was_heard(&self) -> bool
+        ensures { result ≡ self.now.was_heard }
+    {
+        self.was_heard
+    }
+
+    /// Whether the last read that failed waited for longer than the connection may be idle.
+    pub(crate) fn was_silent(&self) -> bool
+        ensures { result ≡ self.now.was_silent }
+    {
+        self.was_silent
+    }
+}
+
+/// Whether a read failed since no byte came in time.
+fn is_timeout(error: &io::Error) -> bool {
+    matches!(
+        error.kind(),
+        io::ErrorKind::WouldBlock | io::ErrorKind::TimedOut
+    )
+}
+
+impl Read for PeerReader<'_> {
+    fn read(&mut self, buffer: &mut [u8]) -> io::Result<usize> {
+        let mut stream = self.stream;
+        let read = stream.read(buffer);
+        match &read {
+            Ok(count) if *count > 0 => self.was_heard = true,
+            Ok(_) => {}
+            Err(error) => self.was_silent = is_timeout(error),
+        }
+        read
     }
 }

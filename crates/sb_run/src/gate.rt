@@ -33,6 +33,9 @@ pub trait Gate {
     /// Sessions call it after each delta that entered something.
     fn entered(&self, _delta: &Delta) {}
 
+    /// Sessions call it after each delta with a block that does not join on to what is held.
+    fn missed(&self) {}
+
     /// A worker calls it once the session of this number is over.
     fn ended(&self, _session: u64, _ended: &Result<Ended, Fault>) {}
 }
@@ -59,6 +62,11 @@ fn has_entered(end: &BlockEnd) -> bool {
         BlockEnd::TooManyKeys(count) | BlockEnd::NoMemory(count) => *count != 0,
         _ => false,
     }
+}
+
+/// Whether writes are missing before those of a block that ended so.
+fn is_gap(end: &BlockEnd) -> bool {
+    matches!(end, BlockEnd::Gap)
 }
 
 /// A handler behind a gate, for the session of this number.
@@ -127,6 +135,9 @@ impl<H: Handler, G: Gate> Handler for GatedHandler<'_, H, G> {
         let report = self.inner.apply(delta)?;
         if report.ends().iter().any(has_entered) {
             self.gate.entered(delta);
+        }
+        if report.ends().iter().any(is_gap) {
+            self.gate.missed();
         }
         Ok(report)
     }

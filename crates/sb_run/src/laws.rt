@@ -41,14 +41,14 @@ use sb_views::views_show_what_is_held;
 /// (`sessions_keep_truth` of `sb_node`). A node that opens with what its log holds is such an opening node
 /// (`opened_nodes_hold` and `holdings_make_nodes` of `sb_holdings`). `running_nodes_tell_truth` speaks of many nodes.
 pub fn running_nodes_keep_truth()
-    ensures given { (writes : List ℕ → List Write) (opening : Node) (history : List Event) (page : NodeView) (owner key : List ℕ) (value : Value) (version : ℕ) →
+    ensures given { (writes : List ℕ → List Write) (opening : Node) (history : List Event) (node_view : NodeView) (owner key : List ℕ) (value : Value) (version : ℕ) →
         IsNode opening → NodeHolds writes opening → AreNodeEvents (flat_map node_events_of history) → AllTrueAt writes opening.held.me (flat_map node_events_of history) →
-        IsView (node_after opening history) page → row_of page owner key ≡ Some (value, version) →
+        IsView (node_after opening history) node_view → row_of node_view owner key ≡ Some (value, version) →
         Written (writes owner) (record { key = key; version = version; slot = Set value }) }
-    ensures exact { (writes : List ℕ → List Write) (opening : Node) (history : List Event) (page : NodeView) (owner : List ℕ) (e : Entry) →
+    ensures exact { (writes : List ℕ → List Write) (opening : Node) (history : List Event) (node_view : NodeView) (owner : List ℕ) (e : Entry) →
         IsNode opening → NodeHolds writes opening → AreNodeEvents (flat_map node_events_of history) → AllTrueAt writes opening.held.me (flat_map node_events_of history) →
-        IsView (node_after opening history) page → Written (writes owner) e → (Superseded (writes owner) e → ⊥) → e.version ≤ upto_of page owner →
-        row_of page owner e.key ≡ shown_slot e.version e.slot }
+        IsView (node_after opening history) node_view → Written (writes owner) e → (Superseded (writes owner) e → ⊥) → e.version ≤ upto_of node_view owner →
+        row_of node_view owner e.key ≡ shown_slot e.version e.slot }
     ensures honest { (writes : List ℕ → List Write) (opening : Node) (settings : Settings) (history : List Event) (digest : Digest) (blocks : List Block) (b : Block) →
         IsNode opening → NodeHolds writes opening → AreNodeEvents (flat_map node_events_of history) → AllTrueAt writes opening.held.me (flat_map node_events_of history) →
         AnswersAfter opening settings history (gives digest (Ok blocks)) → Stands blocks b → Honest (writes b.owner) b }
@@ -92,15 +92,15 @@ pub fn running_nodes_keep_truth()
 /// them.
 pub fn running_nodes_tell_truth()
     ensures given { (writes : List ℕ → List Write) (opening : ℕ → Node) (settings : ℕ → Settings) (all : List RunEvent) (run : ℕ)
-        (page : NodeView) (owner key : List ℕ) (value : Value) (version : ℕ) →
+        (node_view : NodeView) (owner key : List ℕ) (value : Value) (version : ℕ) →
         AreOpened writes opening → HappenInTurn writes opening settings all →
-        IsView (node_after (opening run) (history_of run all)) page → row_of page owner key ≡ Some (value, version) →
+        IsView (node_after (opening run) (history_of run all)) node_view → row_of node_view owner key ≡ Some (value, version) →
         Written (writes owner) (record { key = key; version = version; slot = Set value }) }
     ensures exact { (writes : List ℕ → List Write) (opening : ℕ → Node) (settings : ℕ → Settings) (all : List RunEvent) (run : ℕ)
-        (page : NodeView) (owner : List ℕ) (e : Entry) →
+        (node_view : NodeView) (owner : List ℕ) (e : Entry) →
         AreOpened writes opening → HappenInTurn writes opening settings all →
-        IsView (node_after (opening run) (history_of run all)) page → Written (writes owner) e → (Superseded (writes owner) e → ⊥) → e.version ≤ upto_of page owner →
-        row_of page owner e.key ≡ shown_slot e.version e.slot }
+        IsView (node_after (opening run) (history_of run all)) node_view → Written (writes owner) e → (Superseded (writes owner) e → ⊥) → e.version ≤ upto_of node_view owner →
+        row_of node_view owner e.key ≡ shown_slot e.version e.slot }
     ensures honest { (writes : List ℕ → List Write) (opening : ℕ → Node) (settings : ℕ → Settings) (all : List RunEvent) (blocks : List Block) (b : Block) →
         AreOpened writes opening → HappenInTurn writes opening settings all → CanGive opening settings all blocks → Stands blocks b → Honest (writes b.owner) b }
     ensures reached { (writes : List ℕ → List Write) (opening : ℕ → Node) (settings : ℕ → Settings) (all : List RunEvent) (run : ℕ)

@@ -47,6 +47,11 @@
 //!   alone. The tests of `sb_run` and `tools/check-node` refuse it.
 //! - No burst is dialed, or its peers are dialed one after another. The tests of `sb_run` and `tools/check-node`
 //!   refuse it.
+//! - A peer is pushed less than it may lack, because news is left out of its backlog, or because the delta is made before
+//!   the news is taken. The tests of `sb_run` and `tools/check-node` refuse it.
+//! - A push counts as taken although the peer did not end it. The tests of `sb_run` and `tools/check-node` refuse it.
+//! - A gap hastens no round, or each gap hastens one. The tests of `sb_run` and `tools/check-node` refuse it.
+//! - Pushes, gaps or hastened rounds are counted wrongly. The tests of `sb_run` refuse it.
 //! - A session for news begins that `Deliveries::begin` refused, or ends unnoted, so that its peer gets no more news.
 //!   The tests of `sb_run` and `tools/check-node` refuse it.
 //! - Slow peers hold all threads for news, or a session counts as slow that is not. Only `tools/check-node` refuses it.
@@ -60,6 +65,8 @@
 //! - A request or session may take too long, because its time never begins, or because it goes on once its time is
 //!   over. The tests of `sb_run` and `tools/check-node` refuse it.
 //! - A log that failed while the node runs does not end a node that must exit. Tests and `tools/check-node` refuse it.
+//! - A running node purges too seldom or never, or does not count or report it. `tools/check-node` refuses it.
+//! - A node purges its own table although its log is closed. `tools/check-node` refuses it.
 //! - A node never asks whether the file of its log is lost, or goes on writing to it. Tests and `tools/check-node`
 //!   refuse it.
 //! - `run_closed_node` opens with another table than it was given. No clause promises what a node shows. Tests refuse
@@ -89,63 +96,42 @@
 //! - A worker asks the gate for another session than its own. `a_session_waits_for_another` refuses it.
 //! - `serve_control` answers each question with the number of `Closed`. No clause promises that a seat may enter.
 //!   Tests and `tools/check-node` refuse it.
+//! - The status of a node has a wrong uptime or a wrong count of owners, removals, rounds, workers or troubles. Clauses
+//!   cover its version, its keys, its conflict, and whether it is caught up. Tests and `tools/check-node` refuse it.
 //! - `OwnWrites::put`, `serve_control`, `ask_control`, `serve_pool` or `run_node` never returns. Tests end.
 #![tactic(auto)]
 
 mod accepting;
 mod arrivals;
-mod asking;
+mod backlogs;
 mod bell;
-mod busy;
-mod closable;
-mod context;
 mod control;
 mod control_socket;
 mod counts;
-mod delivery;
 mod dialer;
 mod dialing;
-mod ending;
+mod facts;
 mod first_message;
 mod gate;
-mod greeting;
 mod laws;
-mod log_cause;
-mod log_watch;
-mod moments;
 mod node;
-mod node_gate;
 mod observer;
-mod one_message;
 mod own_writes;
-mod peer_reader;
-mod peer_state;
 mod peers;
 mod pool;
-mod reporting;
-mod rounds;
-mod runtime;
+mod purging;
+mod pushing;
 mod schedule;
-mod seats;
-mod serving;
 mod sockets;
-mod status;
-mod tagged;
+mod status_reply;
+mod status_texts;
 mod threads;
-mod timed;
-mod turns;
-mod waiting;
 
-pub use asking::ask_control;
+pub use control::ask_control;
 pub use gate::{Gate, GatePoint, Open};
 pub use laws::{running_nodes_keep_truth, running_nodes_tell_truth};
-pub use log_cause::{LogCause, LogLoss};
-pub use node::{NodeConfig, OnLogFault, Pace, Paths, Ran, run_closed_node, run_node};
-pub use observer::{Nobody, Observer};
+pub use node::{NodeConfig, OnLogFault, Pace, Paths, Ran, Runtime, run_closed_node, run_node};
+pub use observer::{LogCause, LogLoss, Nobody, Observer, PushCounts, Status, Troubles};
 pub use own_writes::{OwnWrites, Stored};
-pub use peer_state::{DownReason, PeerState};
-pub use peers::Peer;
-pub use pool::{Pooled, Source, Taken};
-pub use runtime::Runtime;
-pub use serving::Serving;
-pub use status::{Status, Troubles};
+pub use peers::{DownReason, Peer, PeerState};
+pub use pool::{Pooled, Serving, Source, Taken};

@@ -1,14 +1,21 @@
 //! A node that runs: it serves its peers and its clients, and dials its peers.
-ghost use Rattle.std.specs.Prelude.{◌≡◌, ◌+◌, ◌≤◌, true, false, None, Err, IfOk, IfErr, IfSome, IsErr};
+ghost use Rattle.std.specs.Prelude.{◌≡◌, ◌+◌, ◌≤◌, true, false, None, Err, IfOk, IfErr, IfSome, IsErr, ◌⊎◌, vec_len, vec_capacity, IsOk};
 ghost use Rattle.sb_run.specs.Closing.{seen_by};
 ghost use Rattle.sb_run.specs.Running as spec;
-ghost use Rattle.sb_run.specs.Running.{IsReadFrom, IsRunningFault, IsOpenedFault, RunsClosed};
+ghost use Rattle.sb_run.specs.Running.{IsReadFrom, IsRunningFault, IsOpenedFault, RunsClosed, IsTagOf, IsStarted};
 
-use crate::closable::ClosableLog;
+use crate::accepting::Acceptor;
+use crate::arrivals::{Asked, new_handover};
+use crate::bell::Bell;
+use crate::counts::Counts;
+use crate::dialer::{Dialing, RoundsTag, rounds_channel};
 use crate::observer::Observer;
-use crate::own_writes::OwnWrites;
-use crate::runtime::Runtime;
-use crate::tagged::{DirectoryStart, NodeStart, run_tagged};
+use crate::own_writes::{ClosableLog, OwnWrites};
+use crate::sockets::BoundSockets;
+use crate::threads::{
+    EndFlag, Links, NodeContext, ThreadSeats, ThreadsEnd, gather_seats, part_seats,
+};
+use sb_directory::Directory;
 use sb_log::WriteLog;
 use sb_node::NodeCore;
 use sb_table::Table;
@@ -17,16 +24,20 @@ use sb_views::NewHistory;
 use std::alloc::Global;
 use std::marker::Brand;
 use std::net::{Net, TcpListener, TcpStream};
+use std::rt::Files;
+use std::sync::Wait;
 use std::sync::ledger::Blank;
+use std::thread::Threads;
+use std::time::Clock;
 
-/// Where a node listens, and whom it dials: the paths of Unix sockets.
+/// The paths of Unix sockets: those at which a node listens, and those that it dials.
 #[derive(Clone, Copy, Debug)]
 pub struct Paths<'a> {
-    /// Where its peers connect.
+    /// The path to which its peers connect.
     pub sock: &'a str,
     /// Where its clients connect, which write its rows and ask for rows of any owner.
     pub control: &'a str,
-    /// Where its peers listen.
+    /// The paths at which its peers listen.
     pub peers: &'a [&'a str],
 }
 
@@ -61,6 +72,8 @@ pub struct Pace {
     pub max_reads: u64,
     /// What it does once its log has failed.
     pub on_log_fault: OnLogFault,
+    /// With how many removed keys it purges its own table while it runs, 64 if this is fewer; 0 for never.
+    pub purge_removals: u64,
 }
 
 /// What a node is to do: its settings, its sockets and its pace.
@@ -76,10 +89,10 @@ pub struct NodeConfig<'a> {
 pub struct Ran {
     /// How many rounds it made.
     pub rounds: u64,
-    /// How many connections ended with a fault, rounds in which the peer could not be reached and connections that could
+    /// How many connections ended with a fault, rounds and pushes in which the peer could not be reached and connections that could
     /// not be accepted among them.
     pub faults: u64,
-    /// How many events its history has: writes of its own, and deltas of its peers.
+    /// How many events its history has: writes of its own, deltas of its peers, and purges of its own table.
     pub events: u64,
 }
 
@@ -107,12 +120,23 @@ fn start_refusal<L: WriteLog>(settings: &Settings, log: &L) -> Option<Fault>
 /// turns, unless nobody else is left. The observer gets each change of a peer's state. After the last round the node waits for
 /// the connections that are open, and ends. It removes what is at the paths of both sockets, even if another put it there since.
 ///
-/// After a write of a client, or something new from a peer, the node dials the next `fanout` peers, except those that are down
-/// or had a fault in their last round. The seats beyond two and one for each worker are for this: so many peers are dialed side
-/// by side. Without such seats they are dialed one after another, between the rounds in turn. A peer has at most one session for
-/// news at a time; news during one makes another after it. Peers whose last session took half a second or more leave one of
-/// these seats to others. News that comes within ten milliseconds goes together. These are rounds too. With no pause there is
-/// no need of them.
+/// After a write of a client, or something new from a peer, the node dials the next `fanout` peers. A peer whose last two
+/// sessions were not made to their end is left out. The node pushes to each what this peer may lack: its Hello, one delta
+/// and a Bye. It makes a round instead in these cases:
+///
+/// - No round with the peer was made to its end yet. If one is under way, the news waits for that.
+/// - An owner was purged above what the peer may have.
+/// - The delta is longer than 1,024 bytes, and than the node's own digests.
+/// - Its frame has no room for one more entry within the budget.
+///
+/// The seats beyond two and one for each worker are for this: so many peers are dialed side by side. Without such seats they
+/// are dialed one after another, between the rounds in turn. A peer has at most one session for news at a time; news during
+/// one makes another after it. Peers whose last session took half a second or more leave one of these seats to others. News
+/// that comes within ten milliseconds goes together. With no pause there is no need of it.
+///
+/// A push is not a round. It counts as taken only if the peer greeted and ended the connection itself. If not, the next push to
+/// this peer has the same again. If a peer's delta has writes after ones that the node lacks, the next round in turn is made at
+/// once, at most once a pause.
 ///
 /// A connection takes a worker or the calling thread only once it has something to say: a peer's whole Hello, or a client's
 /// whole request. Until then it waits, for `idle` milliseconds at `sock` and for `request` at `control`, or `idle` if that is
@@ -287,4 +311,150 @@ fn run_opened<
     };
     let start = NodeStart { directory, writes };
     run_tagged::<Brand, L, R, O>(rt, alloc, start, &paths, pace, observer)
+}
+
+/// What a running node asks of its runtime, beside sockets: threads, locks, a clock and files. A runtime that has all of them is
+/// one. The sockets are beside it in each signature, since a caller whose runtime is a type of its own has to see their types.
+pub trait Runtime: Threads + Wait + Clock + Files + Send + Sync {}
+
+impl<R: Threads + Wait + Clock + Files + Send + Sync> Runtime for R {}
+
+/// What the directory of a node starts from.
+#[derive(Drop)]
+pub(crate) struct DirectoryStart {
+    /// The node's history, in which nothing has happened yet.
+    pub(crate) new_history: NewHistory,
+    /// The ledger in which the directory's seats count their events, with a part for each seat.
+    pub(crate) blank: Blank,
+    /// The node as it was opened.
+    pub(crate) core: NodeCore,
+}
+
+/// What a node starts from.
+#[derive(Drop)]
+pub(crate) struct NodeStart<L: WriteLog> {
+    pub(crate) directory: DirectoryStart,
+    /// Its log, and the write in it that is still to be handed to the directory.
+    pub(crate) writes: OwnWrites<ClosableLog<L>>,
+}
+
+/// Makes the directory, and gives a seat to each thread; those beyond are for news, in a list with room for all. `NoMemory`.
+fn seat_all<S: RoundsTag, R: Wait>(
+    rt: &R,
+    alloc: Global,
+    start: DirectoryStart,
+) -> Result<(Directory<S, &R>, ThreadSeats<S>), Fault>
+    requires history { start.new_history.seen.book ≡ S.history }
+    requires tagged { IsTagOf S.opening S.settings S.seats S.parts start.core }
+    requires name { start.blank.name ≡ S.name }
+    requires parts { start.blank.parts ≡ S.parts }
+    requires enough { start.core.settings.workers + 2 ≤ start.core.settings.seats }
+    ensures workers { IfOk result (λ seated. vec_len seated.1.workers ≡ S.settings.workers) }
+    ensures all { IfOk result (λ seated. vec_len seated.1.news + (vec_len seated.1.workers + 2) ≡ S.seats) }
+    ensures room { IfOk result (λ seated. S.seats ≤ vec_capacity seated.1.news) }
+    ensures memory { IfErr result (λ fault. fault ≡ Fault.NoMemory) }
+{
+    let DirectoryStart {
+        new_history,
+        blank,
+        core,
+    } = start;
+    let settings = core.settings();
+    let all = settings.seats() as usize;
+    let made = Directory::<S, &R>::make(rt, alloc, new_history, blank, core, all);
+    // Settings allow no number of seats that a directory refuses, so only memory can be missing.
+    let Ok((directory, seats)) = made else {
+        return Err(Fault::NoMemory);
+    };
+    let thread_seats = part_seats(seats, settings.workers() as usize)?;
+    Ok((directory, thread_seats))
+}
+
+/// Makes the directory and its seats, binds both sockets, runs the threads, and removes the sockets' files. `NoMemory`;
+/// `ReadFailed` if a socket can't be bound; `StoreFailed` if the log failed and the node is to exit then.
+pub(crate) fn run_tagged<
+    S: RoundsTag + Send + Sync,
+    L: WriteLog + Drop,
+    R: Runtime + Net<Listener = TcpListener, Stream = TcpStream>,
+    O: Observer + Sync,
+>(
+    rt: &R,
+    alloc: Global,
+    start: NodeStart<L>,
+    paths: &Paths,
+    pace: Pace,
+    observer: &O,
+) -> Result<Ran, Fault>
+    requires history { start.directory.new_history.seen.book ≡ S.history }
+    requires tagged { IsTagOf S.opening S.settings S.seats S.parts start.directory.core }
+    requires name { start.directory.blank.name ≡ S.name }
+    requires parts { start.directory.blank.parts ≡ S.parts }
+    requires started { IsStarted (seen_by (L.seen start.writes.log.log) start.writes.log.closed_by) start.directory.core }
+    requires rounds { pace.rounds ≡ S.rounds }
+    ensures rounds { IfOk result (λ ran. ran.rounds ≡ pace.rounds) }
+    ensures fault { IfErr result (IsOpenedFault pace.on_log_fault) }
+    ensures failed { start.writes.has_failed ≡ true → pace.on_log_fault ≡ OnLogFault.Exit → IsErr result }
+{
+    let (rounds_sender, rounds_receiver) = rounds_channel::<S>(alloc)?;
+    let (bell, parkers) = Bell::new(alloc)?;
+    let (handover, jobs, requests) = new_handover(alloc)?;
+    let events = Acceptor::events(alloc)?;
+    let (directory, thread_seats) = seat_all::<S, R>(rt, alloc, start.directory)?;
+    let threads = thread_seats.news.len();
+    let (dialing, turns) = Dialing::new(alloc, paths.peers, &pace, threads, observer, parkers)?;
+    let Ok((sockets, poll)) = BoundSockets::bind(rt, paths.sock, paths.control, observer) else {
+        return Err(Fault::ReadFailed);
+    };
+    observer.listening();
+    let links = Links {
+        acceptor: Acceptor::new(alloc, poll, events, handover),
+        jobs,
+        turns,
+        requests,
+        rounds_sender,
+        rounds_receiver,
+    };
+    let workers = directory.settings().workers();
+    let (ending, counts, asked) = (EndFlag::new(), Counts::new(rt, workers), Asked::new());
+    let node = NodeContext {
+        rt,
+        alloc,
+        directory: &directory,
+        sockets: &sockets,
+        ending: &ending,
+        bell: &bell,
+        counts: &counts,
+        asked: &asked,
+        pace,
+    };
+    let finished = dialing.run_threads(&node, start.writes, thread_seats, links);
+    sockets.remove(rt);
+    close(rt, directory, finished?)
+}
+
+/// Closes the directory, and says what the node did.
+fn close<S: RoundsTag, R: Wait>(
+    rt: &R,
+    directory: Directory<S, &R>,
+    finished: ThreadsEnd<S>,
+) -> Result<Ran, Fault>
+    requires parts { S.seats ≡ S.parts }
+    requires all { vec_len finished.thread_seats.news + (vec_len finished.thread_seats.workers + 2) ≡ S.seats }
+    requires room { S.seats ≤ vec_capacity finished.thread_seats.news }
+    ensures ok { IsOk result }
+    ensures rounds { IfOk result (λ ran. ran.rounds ≡ S.rounds) }
+{
+    let ThreadsEnd {
+        thread_seats,
+        rounds,
+        faults,
+    } = finished;
+    match directory.close(rt, gather_seats(thread_seats)) {
+        Ok(closing) => Ok(Ran {
+            rounds: rounds.made,
+            faults,
+            events: closing.events,
+        }),
+        Err(_) => unreachable!(),
+    }
 }

@@ -1,8 +1,12 @@
 //! The observer of a running node.
+ghost use Rattle.std.specs.Prelude.{◌≡◌};
+ghost use Rattle.sb_run.specs.LogCauses as spec;
 
-use crate::log_cause::{LogCause, LogLoss};
-use crate::peer_state::PeerState;
-use crate::status::Status;
+use crate::peers::{Peer, PeerState};
+use sb_log::StoreCause;
+use sb_types::Name;
+use sb_views::Snapshot;
+use std::fmt;
 
 /// Receives the events of a running node. Each method runs on the thread where the event happened, and that thread waits until it
 /// returns.
@@ -64,6 +68,14 @@ pub trait Observer {
         None
     }
 
+    /// The release of the program that runs the node, for whoever asks how the node is.
+    fn release(&self) -> &str {
+        "-"
+    }
+
+    /// The node's own table and its log were purged up to this version while the node runs.
+    fn table_purged(&self, _floor: u64) {}
+
     /// Whether it wants to know how the node is.
     fn wants_status(&self) -> bool {
         false
@@ -87,4 +99,134 @@ impl Observer for Nobody {
     fn dialed(&self, _peer: &str, _state: PeerState) {}
 
     fn conflict(&self, _version: u64) {}
+}
+
+/// How the file of a log was lost while its node runs.
+#[derive(Clone, Copy, Debug, PartialEq, Eq)]
+pub enum LogLoss {
+    /// At its path there is no file any more.
+    Removed,
+    /// At its path there is another file.
+    Replaced,
+}
+
+/// Why a node takes no more writes into its log.
+#[derive(Clone, Copy, Debug, PartialEq, Eq)]
+pub enum LogCause {
+    /// The store of the log failed.
+    Store(StoreCause),
+    /// The file of the log was lost, so the next start would not find a write.
+    Lost(LogLoss),
+}
+
+impl LogCause {
+    /// Its number, 1 to 9.
+    pub(crate) fn number(self) -> u64
+        ensures { result ≡ spec.number_of_cause self }
+    {
+        match self {
+            LogCause::Store(cause) => cause.number(),
+            LogCause::Lost(LogLoss::Removed) => 8,
+            LogCause::Lost(LogLoss::Replaced) => 9,
+        }
+    }
+
+    /// The cause of this number; none if there is no such cause.
+    pub fn from_number(number: u64) -> Option<LogCause>
+        ensures { result ≡ spec.log_cause_numbered number }
+    {
+        match number {
+            8 => Some(LogCause::Lost(LogLoss::Removed)),
+            9 => Some(LogCause::Lost(LogLoss::Replaced)),
+            _ => Some(LogCause::Store(StoreCause::from_number(number)?)),
+        }
+    }
+
+    /// Its name in one word, for programs.
+    pub fn name(self) -> &'static str {
+        match self {
+            LogCause::Store(cause) => cause.name(),
+            LogCause::Lost(LogLoss::Removed) => "removed",
+            LogCause::Lost(LogLoss::Replaced) => "replaced",
+        }
+    }
+}
+
+impl fmt::Display for LogCause {
+    fn fmt<W: fmt::Write>(&self, f: &mut fmt::Formatter<W>) -> fmt::Result {
+        match self {
+            LogCause::Store(cause) => write!(f, "{cause}"),
+            LogCause::Lost(LogLoss::Removed) => f.write_str("its file was removed"),
+            LogCause::Lost(LogLoss::Replaced) => f.write_str("its file was replaced"),
+        }
+    }
+}
+
+/// How a running node is, as the thread that dials finds it.
+#[derive(Drop)]
+pub struct Status<'a> {
+    /// How many rounds it made.
+    pub rounds: u64,
+    /// How many of them had a fault.
+    pub faults: u64,
+    /// What it pushed to its peers, and what came of what others pushed. A push is not a round.
+    pub pushes: PushCounts,
+    /// How many connections of peers it took.
+    pub sessions: u64,
+    /// Whether each of its peers has had a round that ended since it started.
+    pub is_caught_up: bool,
+    /// For how long it runs, in milliseconds.
+    pub uptime: u64,
+    /// How many workers serve its peers and answer questions, and how many of them are busy.
+    pub workers: u64,
+    pub busy_workers: u64,
+    /// What it suffered.
+    pub troubles: Troubles,
+    /// How many times it purged its own table.
+    pub purges: u64,
+    /// How many keys its own table has, removed ones counted.
+    pub keys: usize,
+    /// Why its log takes no writes; none if it takes them.
+    pub log_cause: Option<LogCause>,
+    /// The version under its name that another node wrote; none if no such was seen.
+    pub conflict: Option<u64>,
+    /// What the seat of the thread that dials in turn sees of it.
+    pub snapshot: Snapshot<'a>,
+    /// The owners that it held at version 0 shortly before, in ascending order: those with nothing but a stage, and itself before
+    /// its first write. None is listed if memory is missing. The snapshot may show some of them by now.
+    pub owners_at_zero: &'a [Name],
+    /// Whom it dials.
+    pub peers: &'a [Peer<'a>],
+}
+
+/// What a node pushed to its peers since it started, and what came of what others pushed.
+#[derive(Clone, Copy, Debug, PartialEq, Eq)]
+pub struct PushCounts {
+    /// Pushes that it made.
+    pub made: u64,
+    /// How many of them had a fault.
+    pub faults: u64,
+    /// How many bytes the frames of the deltas have that peers took.
+    pub bytes: u64,
+    /// Deltas of others with writes after ones that it lacks.
+    pub gaps: u64,
+    /// Rounds in turn that it made before their time because of such a delta.
+    pub hastened_rounds: u64,
+}
+
+/// What a node suffered since it started, by how many times.
+#[derive(Clone, Copy, Debug, PartialEq, Eq)]
+pub struct Troubles {
+    /// Sessions that other nodes dialed and that ended with a fault.
+    pub session_faults: u64,
+    /// The number of the fault of the last of them; 0 if there was none.
+    pub last_session_fault: u64,
+    /// Frames of another version that came, at either socket.
+    pub other_versions: u64,
+    /// Connections at either socket that it could not accept, or that it closed to make room for others.
+    pub turned_away: u64,
+    /// Writes that it refused because it has as many keys as it may.
+    pub full_writes: u64,
+    /// Times that all its workers were busy for longer than a second. The present time counts too.
+    pub busy_times: u64,
 }

@@ -5,12 +5,17 @@ ghost use Rattle.sb_log.specs.Puts.{Puts, IsSettled};
 ghost use Rattle.sb_directory.specs.Seats.{with_last_call};
 ghost use Rattle.sb_directory.specs.Serving.{IsLater};
 ghost use Rattle.sb_run.specs.OwnWriting.{IsUndisputed, version_of, count_owed, count_shared, news_after, IsHeldBack, IsHandedIn, IsStored, IsRefused};
+ghost use Rattle.sb_log.specs.Records as records;
+ghost use Rattle.sb_run.specs.Closing as spec;
 
-use crate::closable::ClosableLog;
 use sb_directory::{Directory, DirectoryTag, ReaderSeat, Receipt};
 use sb_log::{Committed, StoreCause, WriteLog};
+use sb_table::Table;
 use sb_types::{Fault, Key, Name, Slot};
+use std::alloc::Global;
 use std::sync::Wait;
+
+mod purging;
 
 /// What became of a write that the log took.
 #[derive(Clone, Copy, Debug, PartialEq, Eq)]
@@ -228,5 +233,85 @@ impl<L: WriteLog> OwnWrites<ClosableLog<L>> {
         ensures same { (self.new.owed ≡ self.old.owed) × (self.new.stored ≡ self.old.stored) × (self.new.has_failed ≡ self.old.has_failed) }
     {
         self.log.close_by(cause);
+    }
+}
+
+/// A log that its node can close although its store did not fail, because a write into it would be lost.
+#[derive(Drop)]
+pub(crate) struct ClosableLog<L: WriteLog> {
+    log: L,
+    /// Why the node closed it; none if it did not.
+    closed_by: Option<StoreCause>,
+}
+
+impl<L: WriteLog> ClosableLog<L> {
+    /// The log as it is.
+    pub(crate) fn new(log: L) -> ClosableLog<L>
+        ensures log { result.log ≡ log }
+        ensures open { result.closed_by ≡ None }
+    {
+        ClosableLog {
+            log,
+            closed_by: None,
+        }
+    }
+
+    /// Closes it, by this cause.
+    pub(crate) fn close_by(&mut self, cause: StoreCause)
+        ensures log { self.new.log ≡ self.old.log }
+        ensures closed { self.new.closed_by ≡ Some cause }
+    {
+        self.closed_by = Some(cause);
+    }
+}
+
+impl<L: WriteLog> WriteLog for ClosableLog<L> {
+    ghost use Rattle.sb_run.specs.Closing as spec;
+
+    ghost seen = { λ l. spec.seen_by (L.seen l.log) l.closed_by };
+
+    ghost leaves = { λ l. L.leaves l.log };
+
+    ghost why = { λ l. spec.why_of (L.why l.log) l.closed_by };
+
+    fn owner(&self) -> &Name {
+        self.log.owner()
+    }
+
+    fn cluster(&self) -> &Name {
+        self.log.cluster()
+    }
+
+    fn cause(&self) -> Option<StoreCause> {
+        match self.closed_by {
+            Some(cause) => Some(cause),
+            None => self.log.cause(),
+        }
+    }
+
+    fn put(&mut self, key: &Key, slot: &Slot) -> Result<Committed, Fault> {
+        if self.closed_by.is_some() {
+            return Err(Fault::Closed);
+        }
+        self.log.put(key, slot)
+    }
+
+    fn purge(&mut self, floor: u64) -> Result<(), Fault> {
+        if self.closed_by.is_some() {
+            return Err(Fault::Closed);
+        }
+        self.log.purge(floor)
+    }
+
+    fn load(&mut self, alloc: Global) -> Result<Table, Fault> {
+        if self.closed_by.is_some() {
+            return Err(Fault::Closed);
+        }
+        self.log.load(alloc)
+    }
+
+    fn close(self) -> Result<(), Fault> {
+        let ClosableLog { log, closed_by: _ } = self;
+        log.close()
     }
 }

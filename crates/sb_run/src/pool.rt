@@ -6,16 +6,16 @@ ghost use Rattle.sb_run.specs.Hellos.{Greets};
 ghost use Rattle.sb_directory.specs.Serving.{IsLater};
 ghost use Rattle.sb_run.specs.Pools.{IsKept, AreKept};
 ghost use Rattle.sb_run.specs.Sources.{IsNumbered, IsQuestion};
+ghost use Rattle.sb_session.specs.Sessions.{new_session};
 
 use crate::gate::{Gate, GatedHandler};
-use crate::greeting::session_of;
-use crate::serving::Serving;
 use core::mem::replace_with;
 use sb_codec::Ask;
-use sb_directory::{DirectoryTag, ReaderSeat, SeatHandler};
+use sb_directory::{Directory, DirectoryTag, ReaderSeat, SeatHandler};
 use sb_frames::{Connection, Steps};
-use sb_session::serve;
+use sb_session::{Session, serve};
 use sb_types::Fault;
+use std::alloc::Global;
 use std::io::{Read, Write};
 use std::marker::Brand;
 use std::sync::Wait;
@@ -278,4 +278,21 @@ where
             { self.work_in_place(source, gate, tally, seat) },
         );
     }
+}
+
+/// What it takes to serve a connection: a directory, a runtime that waits for its lock, memory, and a limit on reads.
+#[derive(Drop)]
+pub struct Serving<'a, S: DirectoryTag, H: Wait + Drop, Q> {
+    pub rt: &'a Q,
+    pub alloc: Global,
+    pub directory: &'a Directory<S, H>,
+    /// How many reads one connection may take.
+    pub max_reads: u64,
+}
+
+/// A session of the node of a directory, under its own name and of its cluster, that has not begun.
+pub(crate) fn session_of<S: DirectoryTag, H: Wait + Drop>(directory: &Directory<S, H>) -> Session
+    ensures { result ≡ new_session S.settings.cluster S.opening.held.me }
+{
+    Session::new(directory.settings().cluster(), *directory.name())
 }

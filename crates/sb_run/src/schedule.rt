@@ -1,14 +1,15 @@
 //! Whom to dial next, and the rounds that were made: what the threads that dial share, under one lock.
-ghost use Rattle.std.specs.Prelude.{◌≡◌, true, false, None, IfSome, IfErr};
+ghost use Rattle.std.specs.Prelude.{◌≡◌, true, false, None, IfSome, IfOk, IfErr, ◌+◌, slice_get, vec_len};
 ghost use Rattle.sb_run.specs.Deliveries as spec;
+ghost use Rattle.sb_run.specs.StatusReplies.{have_had_rounds};
+ghost use Rattle.sb_run.specs.Turns.{turn_of};
 
 use crate::bell::Bell;
-use crate::delivery::Deliveries;
-use crate::moments::{has_come, moment_after};
+use crate::dialer::{has_come, moment_after};
 use crate::node::Pace;
 use crate::observer::Observer;
-use crate::peer_state::PeerState;
-use crate::peers::{Peer, Peers};
+use crate::peers::{Peer, PeerState, Peers, turn_of};
+use sb_codec::PeerStatus;
 use sb_types::Fault;
 use std::alloc::Global;
 use std::time::{Clock, Instant};
@@ -16,9 +17,9 @@ use std::time::{Clock, Instant};
 /// How long after a burst begins news is gathered for the next, in milliseconds.
 const NEWS_INTERVAL: u64 = 10;
 
-/// How a round ended.
+/// How a session with a peer ended: a round, or a push.
 #[derive(Clone, Copy)]
-pub(crate) struct RoundEnd {
+pub(crate) struct SessionEnd {
     /// How the peer is by it.
     pub(crate) state: PeerState,
     /// Whether it took as long as a connection to a peer may be idle.
@@ -52,6 +53,15 @@ pub(crate) struct RoundCounts {
     pub(crate) ended: u64,
     /// How many of these had a fault.
     pub(crate) faults: u64,
+}
+
+/// What the status of a node says of its rounds and its peers.
+#[derive(Drop)]
+pub(crate) struct PeersReport {
+    pub(crate) counts: RoundCounts,
+    /// Whether each peer has had a round that ended.
+    pub(crate) is_caught_up: bool,
+    pub(crate) peers: Vec<PeerStatus>,
 }
 
 /// Whom to dial next, and the rounds that were made.
@@ -96,7 +106,7 @@ impl<'a> Schedule<'a> {
     }
 
     /// Whether another round may begin.
-    fn has_round_left(&self) -> bool
+    pub(crate) fn has_round_left(&self) -> bool
         ensures { result ≡ spec.has_round_left self.now.most self.now.begun }
     {
         self.most == 0 || self.begun < self.most
@@ -139,7 +149,7 @@ impl<'a> Schedule<'a> {
     /// What a thread that dials for news is to do next. A burst begins if there is news and no earlier news can be
     /// brought. News that comes soon after a burst began is gathered first.
     pub(crate) fn next_news<Q: Clock>(&mut self, clock: &Q, bell: &Bell, pace: &Pace) -> NewsStep {
-        if pace.pause == 0 || pace.fanout == 0 || !self.has_round_left() {
+        if pace.pause == 0 || pace.fanout == 0 {
             return NewsStep::Wait(None);
         }
         let mut next = self.begin_delivery();
@@ -152,21 +162,60 @@ impl<'a> Schedule<'a> {
             self.begin_burst(pace.fanout);
             next = self.begin_delivery();
         }
-        let Some(index) = next else {
-            return NewsStep::Wait(None);
-        };
-        self.begun = self.begun.saturating_add(1);
-        NewsStep::Dial(index)
+        match next {
+            Some(index) => NewsStep::Dial(index),
+            None => NewsStep::Wait(None),
+        }
     }
 
-    /// Takes down how a round with a peer ended, and reports it to the observer if the peer is otherwise than before.
+    /// Begins a round for news, if another round may begin, and says whether it does.
+    pub(crate) fn begin_round_for_news(&mut self) -> bool
+        ensures { result ≡ spec.has_round_left self.old.most self.old.begun }
+    {
+        if !self.has_round_left() {
+            return false;
+        }
+        self.begun = self.begun.saturating_add(1);
+        true
+    }
+
+    /// Notes that there is news for the peer at this index.
+    pub(crate) fn expect(&mut self, index: usize) {
+        self.deliveries.expect(index);
+    }
+
+    /// Ends a session for news with a peer that was not dialed.
+    pub(crate) fn leave_out(&mut self, index: usize) {
+        self.deliveries.leave_out(index);
+    }
+
+    /// Takes down how a push to a peer ended, and tells the observer if the peer is otherwise than before. Returns whether the
+    /// peer is still dialed for news.
+    pub(crate) fn end_push<O: Observer>(
+        &mut self,
+        index: usize,
+        end: SessionEnd,
+        observer: &O,
+    ) -> bool {
+        self.deliveries.end(index, end.is_slow);
+        if self
+            .peers
+            .note_push(index, end.state, end.has_waited, observer)
+        {
+            self.has_changed = true;
+        }
+        self.peers.takes_news(index)
+    }
+
+    /// Takes down how a round with a peer ended, and tells the observer if the peer is otherwise than before. Returns whether
+    /// the peer is dialed for news from then on.
     pub(crate) fn end_round<O: Observer>(
         &mut self,
         index: usize,
         cause: Cause,
-        end: RoundEnd,
+        end: SessionEnd,
         observer: &O,
-    ) {
+    ) -> bool {
         self.count_round(end.state.has_fault());
         let round = self.counts.ended;
         match cause {
@@ -179,6 +228,7 @@ impl<'a> Schedule<'a> {
         {
             self.has_changed = true;
         }
+        self.peers.takes_news(index)
     }
 
     /// Counts a round that has ended, with a fault or not.
@@ -226,11 +276,182 @@ impl<'a> Schedule<'a> {
         Ok(copies)
     }
 
+    /// What the status of a node says of its rounds and its peers. `NoMemory`.
+    pub(crate) fn peers_report(&self, alloc: Global) -> Result<PeersReport, Fault>
+        ensures caught_up { IfOk result (λ report. report.is_caught_up ≡ have_had_rounds report.peers.items) }
+        ensures memory { IfErr result (λ fault. fault ≡ Fault.NoMemory) }
+    {
+        let peers = self.peers.statuses(alloc)?;
+        Ok(PeersReport {
+            counts: self.counts,
+            is_caught_up: peers.iter().all(|peer| 0 < peer.round),
+            peers,
+        })
+    }
+
     /// Which rounds were made; copies how the peers are over an older copy.
     pub(crate) fn report(&self, copies: &mut [Peer<'a>]) -> RoundCounts {
         for (copy, peer) in copies.iter_mut().zip(self.peers.all()) {
             *copy = *peer;
         }
         self.counts
+    }
+}
+
+/// How news is on its way to one peer.
+#[derive(Clone, Copy, Drop)]
+pub(crate) struct Delivery {
+    /// There is news for it, which no session has begun to bring.
+    is_due: bool,
+    /// A session for news with it is under way.
+    is_open: bool,
+    /// Its last session took long, or there was none yet.
+    is_slow: bool,
+}
+
+impl Delivery {
+    /// Whether a session for news can begin, if there is room for a slow peer or is not.
+    fn can_begin(&self, has_room: bool) -> bool
+        ensures due { result ≡ true → (self.now.is_due ≡ true) × (self.now.is_open ≡ false) }
+        ensures goes { self.now.is_due ≡ true → self.now.is_open ≡ false → self.now.is_slow ≡ false → result ≡ true }
+    {
+        self.is_due && !self.is_open && (has_room || !self.is_slow)
+    }
+}
+
+/// The deliveries of news to the peers of a node, in the order of the peers.
+#[derive(Drop)]
+pub(crate) struct Deliveries {
+    all: Vec<Delivery>,
+    /// How many sessions for news there can be at a time.
+    most: usize,
+    /// Whose turn comes next to be brought news.
+    turn: usize,
+}
+
+impl Deliveries {
+    /// Nothing is due to so many peers. So many of them can be brought news at a time. Each counts as slow until a session with
+    /// it was short. `NoMemory`.
+    pub(crate) fn new(alloc: Global, count: usize, most: usize) -> Result<Deliveries, Fault>
+        ensures memory { IfErr result (λ fault. fault ≡ Fault.NoMemory) }
+    {
+        let mut all = Vec::with_capacity(alloc, count)?;
+        for _ in 0..count {
+            all.push(Delivery {
+                is_due: false,
+                is_open: false,
+                is_slow: true,
+            })?;
+        }
+        Ok(Deliveries { all, most, turn: 0 })
+    }
+
+    /// How many peers there are.
+    pub(crate) fn len(&self) -> usize {
+        self.all.len()
+    }
+
+    /// The index of the peer whose turn it is to be brought news; after the last comes the first.
+    pub(crate) fn next_index(&mut self) -> usize
+        ensures index { result ≡ turn_of (vec_len self.old.all) self.old.turn }
+        ensures next { self.new.turn ≡ result + 1 }
+        ensures same { (self.new.all ≡ self.old.all) × (self.new.most ≡ self.old.most) }
+    {
+        let index = turn_of(self.all.len(), self.turn);
+        self.turn = index.saturating_add(1);
+        index
+    }
+
+    /// Whether one more session with a slow peer leaves room for a session with another. It does if there is room for one alone.
+    fn has_room(&self) -> bool {
+        let mut slow: usize = 0;
+        for delivery in &self.all {
+            if delivery.is_open && delivery.is_slow {
+                slow = slow.saturating_add(1);
+            }
+        }
+        self.most < 2 || slow < self.most - 1
+    }
+
+    /// Notes that there is news for the peer at this index.
+    pub(crate) fn expect(&mut self, index: usize)
+        ensures most { self.new.most ≡ self.old.most }
+        ensures changes { spec.Changes index spec.with_news self.old.all.items self.new.all.items }
+    {
+        if let Some(delivery) = self.all.get_mut(index) {
+            delivery.is_due = true;
+        }
+    }
+
+    /// Notes that no news need be brought to the peer at this index.
+    pub(crate) fn forget(&mut self, index: usize)
+        ensures most { self.new.most ≡ self.old.most }
+        ensures changes { spec.Changes index spec.without_news self.old.all.items self.new.all.items }
+    {
+        if let Some(delivery) = self.all.get_mut(index) {
+            delivery.is_due = false;
+        }
+    }
+
+    /// Begins a session for news with the peer at this index, if it can begin, and says whether it does. It can if there is news
+    /// for the peer, no other session for news with it is under way, and the peer is not slow or there is room for a slow one.
+    pub(crate) fn begin(&mut self, index: usize) -> bool
+        ensures most { self.new.most ≡ self.old.most }
+        ensures begins { IfSome (slice_get self.old.all.items index) (λ delivery. result ≡ true → (delivery.is_due ≡ true) × (delivery.is_open ≡ false)) }
+        // One that is not slow begins whatever room there is for slow ones.
+        ensures goes { IfSome (slice_get self.old.all.items index) (λ delivery. delivery.is_due ≡ true → delivery.is_open ≡ false → delivery.is_slow ≡ false → result ≡ true) }
+        ensures changes { result ≡ true → spec.Changes index spec.begun self.old.all.items self.new.all.items }
+        ensures same { result ≡ false → self.new.all ≡ self.old.all }
+    {
+        let Some(delivery) = self.all.get(index) else {
+            return false;
+        };
+        if !delivery.can_begin(self.has_room()) {
+            return false;
+        }
+        self.open(index);
+        true
+    }
+
+    /// Notes that a session for news with the peer at this index is under way.
+    fn open(&mut self, index: usize)
+        ensures most { self.new.most ≡ self.old.most }
+        ensures changes { spec.Changes index spec.begun self.old.all.items self.new.all.items }
+    {
+        if let Some(delivery) = self.all.get_mut(index) {
+            delivery.is_due = false;
+            delivery.is_open = true;
+        }
+    }
+
+    /// Ends a session for news with the peer at this index, which took long or not.
+    pub(crate) fn end(&mut self, index: usize, is_slow: bool)
+        ensures most { self.new.most ≡ self.old.most }
+        ensures changes { spec.Changes index (spec.ended is_slow) self.old.all.items self.new.all.items }
+    {
+        if let Some(delivery) = self.all.get_mut(index) {
+            delivery.is_open = false;
+            delivery.is_slow = is_slow;
+        }
+    }
+
+    /// Ends a session for news with the peer at this index, which was not dialed.
+    pub(crate) fn leave_out(&mut self, index: usize)
+        ensures most { self.new.most ≡ self.old.most }
+        ensures changes { spec.Changes index spec.left_out self.old.all.items self.new.all.items }
+    {
+        if let Some(left) = self.all.get_mut(index) {
+            left.is_open = false;
+        }
+    }
+
+    /// Notes whether a round in turn with the peer at this index took long.
+    pub(crate) fn note_pace(&mut self, index: usize, is_slow: bool)
+        ensures most { self.new.most ≡ self.old.most }
+        ensures changes { spec.Changes index (spec.paced is_slow) self.old.all.items self.new.all.items }
+    {
+        if let Some(delivery) = self.all.get_mut(index) {
+            delivery.is_slow = is_slow;
+        }
     }
 }

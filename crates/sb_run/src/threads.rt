@@ -1,29 +1,29 @@
 //! The threads of a running node.
-ghost use Rattle.std.specs.Prelude.{◌≡◌, true, false, vec_len, vec_capacity, Ok, Err, IfOk, IfErr, IsErr};
+ghost use Rattle.std.specs.Prelude.{◌≡◌, true, false, vec_len, vec_capacity, Ok, Err, IfOk, IfErr, IsErr, ◌+◌, ◌≤◌, length};
 ghost use Rattle.std.specs.Thread.{IsSend, IsSync};
 ghost use Rattle.sb_run.specs.Closing.{seen_by};
 ghost use Rattle.sb_run.specs.Running.{IsEndFault, IsOpenedFrom};
 
 use crate::accepting::Acceptor;
-use crate::arrivals::{Arrivals, Jobs, Requests};
-use crate::closable::ClosableLog;
-use crate::context::NodeContext;
+use crate::arrivals::{Arrivals, Asked, Jobs, Requests};
+use crate::bell::Bell;
 use crate::control_socket::ControlEnd;
-use crate::dialer::Dialing;
-use crate::node::OnLogFault;
-use crate::node_gate::NodeGate;
-use crate::observer::Observer;
-use crate::own_writes::OwnWrites;
-use crate::pool::Pooled;
-use crate::rounds::{Rounds, RoundsReceiver, RoundsSender, RoundsTag};
-use crate::runtime::Runtime;
-use crate::seats::ThreadSeats;
-use crate::turns::Turns;
-use sb_directory::{DirectoryTag, ReaderSeat};
-use sb_log::WriteLog;
-use sb_types::Fault;
+use crate::counts::Counts;
+use crate::dialer::{Dialing, Rounds, RoundsReceiver, RoundsSender, RoundsTag, Turns};
+use crate::gate::{Gate, GatePoint};
+use crate::node::{OnLogFault, Pace, Runtime};
+use crate::observer::{LogCause, Observer};
+use crate::own_writes::{ClosableLog, OwnWrites};
+use crate::pool::{Pooled, Serving};
+use crate::sockets::BoundSockets;
+use sb_directory::{Directory, DirectoryTag, ReaderSeat};
+use sb_log::{StoreCause, WriteLog};
+use sb_session::Ended;
+use sb_types::{Delta, Fault};
+use std::alloc::Global;
 use std::net::{Net, TcpListener, TcpStream};
 use std::sync::Wait;
+use std::sync::atomic::{AtomicBool, Ordering};
 use std::thread;
 use std::thread::{JoinHandle, Promise, PromisedHandle, Scope, Threads};
 use std::time::Clock;
@@ -278,7 +278,7 @@ impl<'a, O: Observer + Sync> Dialing<'a, O> {
             serving.join(node.rt);
             return Err(Fault::NoMemory);
         };
-        let at_control = node.answer_requests(requests, writes, control, self.observer());
+        let at_control = node.answer_requests(requests, writes, control, self);
         let rounds = rounds_receiver.receive(node.rt);
         let dialed = dialing.join(node.rt);
         let (pooled, of_accepting) = serving.join(node.rt);
@@ -369,4 +369,203 @@ fn threads_end<S: RoundsTag>(
         rounds,
         faults,
     })
+}
+
+/// The seats of a node's threads. Each worker and each thread that dials for news has one, and so have the thread that dials in
+/// turn and the calling thread.
+#[derive(Drop)]
+pub(crate) struct ThreadSeats<S: DirectoryTag> {
+    pub(crate) workers: Vec<ReaderSeat<S>>,
+    /// With room for all seats of the node.
+    pub(crate) news: Vec<ReaderSeat<S>>,
+    pub(crate) dialing: ReaderSeat<S>,
+    pub(crate) control: ReaderSeat<S>,
+}
+
+/// Gives so many workers, the thread that dials in turn and the calling thread a seat each; all others are for news. `NoMemory`.
+pub(crate) fn part_seats<S: DirectoryTag>(
+    seats: Vec<ReaderSeat<S>>,
+    workers: usize,
+) -> Result<ThreadSeats<S>, Fault>
+    requires { workers + 2 ≤ vec_len seats }
+    ensures workers { IfOk result (λ parted. vec_len parted.workers ≡ workers) }
+    ensures news { IfOk result (λ parted. vec_len parted.news + (workers + 2) ≡ vec_len seats) }
+    ensures room { IfOk result (λ parted. vec_len seats ≤ vec_capacity parted.news) }
+    ensures memory { IfErr result (λ fault. fault ≡ Fault.NoMemory) }
+{
+    let mut front = seats;
+    let mut news = front.split_off(workers)?;
+    news.reserve(workers)?;
+    let Some(dialing) = news.pop() else {
+        unreachable!();
+    };
+    let Some(control) = news.pop() else {
+        unreachable!();
+    };
+    Ok(ThreadSeats {
+        workers: front,
+        news,
+        dialing,
+        control,
+    })
+}
+
+/// All seats, those for news first.
+pub(crate) fn gather_seats<S: DirectoryTag>(thread_seats: ThreadSeats<S>) -> Vec<ReaderSeat<S>>
+    requires { vec_len thread_seats.news + (vec_len thread_seats.workers + 2) ≤ vec_capacity thread_seats.news }
+    ensures { vec_len result ≡ vec_len thread_seats.news + (vec_len thread_seats.workers + 2) }
+{
+    let ThreadSeats {
+        mut workers,
+        news,
+        dialing,
+        control,
+    } = thread_seats;
+    let mut all = news;
+    all.push_reserved(control);
+    all.push_reserved(dialing);
+    match all.append(&mut workers) {
+        Ok(()) => all,
+        Err(_) => unreachable!(),
+    }
+}
+
+/// A running node, which its threads share.
+#[derive(Drop)]
+pub(crate) struct NodeContext<'a, S: RoundsTag, H: Wait + Drop, Q> {
+    pub(crate) rt: &'a Q,
+    pub(crate) alloc: Global,
+    pub(crate) directory: &'a Directory<S, H>,
+    pub(crate) sockets: &'a BoundSockets<'a>,
+    pub(crate) ending: &'a EndFlag,
+    pub(crate) bell: &'a Bell,
+    pub(crate) counts: &'a Counts,
+    pub(crate) asked: &'a Asked,
+    pub(crate) pace: Pace,
+    ghost paced: { pace.rounds ≡ S.rounds },
+}
+
+impl<S: RoundsTag, H: Wait + Drop, Q> NodeContext<'_, S, H, Q> {
+    /// What it takes to serve a connection of the node.
+    pub(crate) fn serving(&self) -> Serving<'_, S, H, Q>
+        ensures { result.max_reads ≡ self.now.pace.max_reads }
+    {
+        Serving {
+            rt: self.rt,
+            alloc: self.alloc,
+            directory: self.directory,
+            max_reads: self.pace.max_reads,
+        }
+    }
+}
+
+impl<S: RoundsTag, H: Wait + Drop, Q> NodeContext<'_, S, H, Q> {
+    /// Ends the thread that accepts, and with it what the workers and the calling thread wait for, and wakes those that dial.
+    pub(crate) fn end(&self) {
+        self.ending.raise(self.sockets);
+        self.bell.wake();
+    }
+}
+
+/// Whether the node is to end. Whoever waits for the next connection, request or turn asks it after each wait.
+#[derive(Drop)]
+pub(crate) struct EndFlag {
+    flag: AtomicBool,
+}
+
+impl EndFlag {
+    /// It is not to end yet.
+    pub(crate) fn new() -> EndFlag {
+        EndFlag {
+            flag: AtomicBool::new(false),
+        }
+    }
+
+    /// Whether the node is to end.
+    pub(crate) fn is_raised(&self) -> bool {
+        self.flag.load(Ordering::SeqCst)
+    }
+
+    /// Ends the node: wakes the thread that accepts, and its end is that of what the workers and the calling thread wait for.
+    pub(crate) fn raise(&self, sockets: &BoundSockets) {
+        self.flag.store(true, Ordering::SeqCst);
+        sockets.wake();
+    }
+}
+
+impl<S: RoundsTag, H: Wait + Drop, Q> NodeContext<'_, S, H, Q> {
+    /// Notes why the node takes no more writes into its log, and tells the observer, unless another cause was noted before.
+    pub(crate) fn note_log_cause<O: Observer>(&self, cause: LogCause, observer: &O) {
+        if self.counts.fail_log(cause) {
+            observer.log_failed(cause);
+        }
+    }
+
+    /// Notes that the file of the log is lost, if the observer finds that. A log that failed before is not looked at.
+    pub(crate) fn look_at_log<O: Observer>(&self, observer: &O) {
+        if self.counts.log_cause().is_some() {
+            return;
+        }
+        if let Some(loss) = observer.log_loss() {
+            self.note_log_cause(LogCause::Lost(loss), observer);
+        }
+    }
+
+    /// Looks at the file of the log, and closes a log whose file is lost: what it took from then on would be lost too.
+    pub(crate) fn close_lost_log<L: WriteLog, O: Observer>(
+        &self,
+        writes: &mut OwnWrites<ClosableLog<L>>,
+        observer: &O,
+    )
+        ensures log { writes.new.log.log ≡ writes.old.log.log }
+        ensures owed { writes.new.owed ≡ writes.old.owed }
+        ensures failed { writes.new.has_failed ≡ writes.old.has_failed }
+    {
+        self.look_at_log(observer);
+        if let Some(LogCause::Lost(_)) = self.counts.log_cause() {
+            writes.close_log(StoreCause::CannotOpen);
+        }
+    }
+
+    /// Whether the node is to end because its log takes no more writes.
+    pub(crate) fn ends_by_log(&self) -> bool
+        ensures { result ≡ true → self.now.pace.on_log_fault ≡ OnLogFault.Exit }
+    {
+        match self.pace.on_log_fault {
+            OnLogFault::Exit => self.counts.log_cause().is_some(),
+            OnLogFault::Serve => false,
+        }
+    }
+}
+
+/// A gate that turns nobody away, counts each session, its fault and each gap, and rings the bell if a session brings something
+/// new.
+#[derive(Drop)]
+pub(crate) struct NodeGate<'a> {
+    pub(crate) bell: &'a Bell,
+    pub(crate) counts: &'a Counts,
+}
+
+impl Gate for NodeGate<'_> {
+    ghost lets = { λ gate session point. Unit {0} };
+
+    // It turns nobody away.
+    ghost turns_away = { λ gate session point. ⊥ };
+
+    fn pass(&self, _session: u64, _point: GatePoint) -> bool {
+        true
+    }
+
+    fn entered(&self, delta: &Delta) {
+        self.bell.entered(delta);
+    }
+
+    fn missed(&self) {
+        self.counts.add_gap();
+        self.bell.missed();
+    }
+
+    fn ended(&self, _session: u64, ended: &Result<Ended, Fault>) {
+        self.counts.end_session(ended);
+    }
 }

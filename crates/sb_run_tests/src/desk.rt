@@ -8,7 +8,7 @@ use sb_frames::{Connection, Steps};
 use sb_log::PlainLog;
 use sb_node::NodeCore;
 use sb_run::{OwnWrites, Serving, Stored};
-use sb_types::{Delta, Fault};
+use sb_types::{Delta, Fault, Slot};
 use sb_views::NewHistory;
 use std::alloc::Global;
 use std::io;
@@ -67,6 +67,25 @@ impl<S: DirectoryTag, H: Wait + Drop> Desk<S, H> {
         let seat = there(rt, self.seat.as_mut());
         let (key, slot) = (key(rt, text), weight(rt, 5));
         self.owner.put(rt, &self.directory, seat, &key, &slot)
+    }
+
+    /// Removes a key.
+    pub(crate) fn remove<Q: Wait + Abort>(&mut self, rt: &Q, text: &[u8]) -> Result<Stored, Fault> {
+        let seat = there(rt, self.seat.as_mut());
+        let key = key(rt, text);
+        self.owner
+            .put(rt, &self.directory, seat, &key, &Slot::Removed)
+    }
+
+    /// Purges if there are so many removed keys. Returns the new floor if there were, and how many keys there are then.
+    pub(crate) fn purge<Q: Wait + Abort>(
+        &mut self,
+        rt: &Q,
+        least: u64,
+    ) -> Result<(Option<u64>, usize), Fault> {
+        let seat = there(rt, self.seat.as_mut());
+        let floor = self.owner.purge(rt, &self.directory, seat, least)?;
+        Ok((floor, self.directory.key_count(rt, seat)))
     }
 
     /// Makes the directory take a delta.

@@ -23,6 +23,10 @@ mod peers;
 #[cfg(test)]
 mod pooling;
 #[cfg(test)]
+mod purging;
+#[cfg(test)]
+mod pushing;
+#[cfg(test)]
 mod running;
 #[cfg(test)]
 mod side_by_side;
@@ -30,6 +34,8 @@ mod side_by_side;
 mod silence;
 #[cfg(test)]
 mod starting;
+#[cfg(test)]
+mod statuses;
 #[cfg(test)]
 mod suffering;
 #[cfg(test)]

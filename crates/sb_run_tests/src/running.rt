@@ -2,6 +2,7 @@
 
 use crate::making::{name, new_log, settings};
 use crate::peers::{hears_only, next_of, node_with, put_is_done, reach, serve_as_b, talk};
+use crate::waking::silent_b;
 use crate::{got, holds, same};
 use sb_log::PlainLog;
 use sb_run::{
@@ -47,6 +48,7 @@ pub(crate) fn pace(rounds: u64, idle: u64) -> Pace {
         request: 0,
         max_reads: 99,
         on_log_fault: OnLogFault::Serve,
+        purge_removals: 0,
     }
 }
 
@@ -426,12 +428,12 @@ fn an_observer_is_told_of_each_change_of_a_peer_once(rt: HostRuntime) {
     );
 }
 
-/// Takes the next two connections and hangs up, one at once and the other after a Hello of its own. Serves the third as b.
+/// Takes the next two connections and hangs up, one at once and the other after a Hello of its own. Serves the third as b, which wrote nothing.
 fn end_early_twice(rt: &impl Abort, alloc: Global, listener: &UnixListener) {
     drop(next_of(rt, listener));
     answer_by(rt, listener, HELLO_B);
     let dialed = next_of(rt, listener);
-    serve_as_b(rt, alloc, &dialed);
+    talk(rt, alloc, &mut silent_b(rt, alloc), &dialed, None);
 }
 
 #[test]

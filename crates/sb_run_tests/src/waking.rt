@@ -61,7 +61,7 @@ fn news_is_passed_on_at_once(rt: HostRuntime) {
     let paths = paths_of("wake.sock", "wake.control", &["wake.b"]);
     let alloc = rt.alloc();
     let listener = got(&rt, UnixListener::bind(&rt, "wake.b"));
-    let mut pace = pace(3, 0);
+    let mut pace = pace(1, 0);
     pace.pause = 5_000;
     let (ran, heard) = thread::join(
         &rt,
@@ -71,7 +71,7 @@ fn news_is_passed_on_at_once(rt: HostRuntime) {
     got(&rt, fs::remove_file(&rt, "wake.b"));
     same(&rt, &heard, &([true, true, true], [1, 1]));
     let ran = got(&rt, ran);
-    same(&rt, &(ran.rounds, ran.faults), &(3, 0));
+    same(&rt, &(ran.rounds, ran.faults), &(1, 0));
 }
 
 #[test]

@@ -7,7 +7,7 @@ use Rattle.sb_world.specs.declared.event.Event.TheVariants as events
 use Rattle.sb_world.specs.declared.event.Answer.{Answer}
 use Rattle.sb_world.specs.Places.{Seen}
 use Rattle.sb_script.specs.declared.playing.Given.{Given}
-use Rattle.sb_script.specs.Giving.{Sends, Happen, LinesUp, lining, giving, given_with, all_comes, Offers, ShowsSent, TakesUp, Closes, PlaysGive}
+use Rattle.sb_script.specs.Giving.{Sends, Happen, LinesUp, line_events, giving_connection, given_with, all_comes, Offers, ShowsSent, TakesUp, Closes, PlaysGive}
 use Rattle.sb_script.specs.Printed.{lines_of}
 
 -- ---- events in turn
@@ -26,37 +26,37 @@ first_sends old mid new first last events frame answer (Err it, happens, is) res
 
 -- a frame is lined up with a fault, and nothing else happens
 pub lining_fails : (old new : Seen) (frame : Option ℕ) (last : Event) (events : List Event) (fault : Fault)
-    → LinesUp old frame (Err fault) new → Happen old (lining frame ++ events) last (Err fault) new
+    → LinesUp old frame (Err fault) new → Happen old (line_events frame ++ events) last (Err fault) new
 lining_fails old new None last events fault (same, is) = absurd cc
 lining_fails old new (Some number) last events fault (Ok it, happens, is) = absurd cc
 lining_fails old new (Some number) last events fault (Err it, happens, is) = (Err it, new, happens, (refl, cc))
 
 -- it is lined up, and the others happen
 pub lining_goes : (old mid new : Seen) (frame : Option ℕ) (last : Event) (events : List Event) (done : Unit {0}) (answer : Result Answer Fault)
-    → LinesUp old frame (Ok done) mid → Happen mid events last answer new → Happen old (lining frame ++ events) last answer new
+    → LinesUp old frame (Ok done) mid → Happen mid events last answer new → Happen old (line_events frame ++ events) last answer new
 lining_goes old mid new None last events done answer (same, is) rest = subst (λ s. Happen s events last answer new) same rest
 lining_goes old mid new (Some number) last events done answer (Ok it, happens, is) rest = (Ok it, mid, happens, rest)
 lining_goes old mid new (Some number) last events done answer (Err it, happens, is) rest = absurd cc
 
 -- the same of the last frame
 pub last_fails : (old new : Seen) (frame : Option ℕ) (last : Event) (fault : Fault)
-    → LinesUp old frame (Err fault) new → Happen old (lining frame) last (Err fault) new
+    → LinesUp old frame (Err fault) new → Happen old (line_events frame) last (Err fault) new
 last_fails old new None last fault up = lining_fails old new None last [] fault up
 last_fails old new (Some number) last fault up = lining_fails old new (Some number) last [] fault up
 
 pub last_goes : (old mid new : Seen) (frame : Option ℕ) (last : Event) (done : Unit {0}) (answer : Result Answer Fault)
-    → LinesUp old frame (Ok done) mid → Happen mid [] last answer new → Happen old (lining frame) last answer new
+    → LinesUp old frame (Ok done) mid → Happen mid [] last answer new → Happen old (line_events frame) last answer new
 last_goes old mid new None last done answer up rest = lining_goes old mid new None last [] done answer up rest
 last_goes old mid new (Some number) last done answer up rest = lining_goes old mid new (Some number) last [] done answer up rest
 
 -- ---- the giver
 
 pub offers_nothing : (old new : Seen) (giver : List ℕ) (after : ℕ) (fault : Fault)
-    → Sends old (events.Connect giver giving) (Err fault) new → Offers old giver after (Err fault) new
+    → Sends old (events.Connect giver giving_connection) (Err fault) new → Offers old giver after (Err fault) new
 offers_nothing old new giver after fault sends = (Err fault, new, sends, (refl, refl))
 
 pub offers_next : (old mid new : Seen) (giver : List ℕ) (after : ℕ) (frame : Option ℕ) (delta : Result (Option ℕ) Fault)
-    → Sends old (events.Connect giver giving) (Ok frame) mid → Sends mid (events.Offer giver giver after) delta new
+    → Sends old (events.Connect giver giving_connection) (Ok frame) mid → Sends mid (events.Offer giver giver after) delta new
     → Offers old giver after (given_with frame delta) new
 offers_next old mid new giver after frame delta sends offers = (Ok frame, mid, sends, (delta, offers, refl))
 

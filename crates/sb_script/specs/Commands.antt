@@ -27,6 +27,7 @@ IsCommand (lines.Write w) command = IsOfWrite w (λ slot. commands.Write (events
 IsCommand (lines.Crash w is_kept) command = IsOfWrite w (λ slot. commands.Step (events.CrashInCommit w.node.now w.key.now slot is_kept)) command
 IsCommand (lines.Take node) command = command ≡ commands.Step (events.Take node.now)
 IsCommand (lines.Purge node floor) command = command ≡ commands.Step (events.Purge node.now floor)
+IsCommand (lines.Trim node floor) command = command ≡ commands.Step (events.Trim node.now floor)
 IsCommand (lines.Restart node) command = command ≡ commands.Step (events.Restart node.now)
 IsCommand (lines.Connect node connection) command = command ≡ commands.Step (events.Connect node.now connection)
 IsCommand (lines.Close connection) command = command ≡ commands.Step (events.Close connection)

@@ -47,11 +47,11 @@ abbrev pub Sends : Seen → Event → Result (Option ℕ) Fault → Seen → Typ
 Sends old event sent new = (answer : Result Answer Fault) × Happens old event answer new × (sent ≡ sent_by answer)
 
 -- the connections of a give, which no line of a script can name
-abbrev pub giving : ℕ
-giving = 1000000
+abbrev pub giving_connection : ℕ
+giving_connection = 1000000
 
-abbrev pub taking : ℕ
-taking = 1000001
+abbrev pub taking_connection : ℕ
+taking_connection = 1000001
 
 -- the Hello and the delta, unless the delta has a fault
 abbrev pub given_with : Option ℕ → Result (Option ℕ) Fault → Result Given Fault
@@ -67,12 +67,12 @@ OffersNext (Ok hello) old giver after given new =
 -- the giver connects, and offers what it wrote above a version
 abbrev pub Offers : Seen → List ℕ → ℕ → Result Given Fault → Seen → Type 0
 Offers old giver after given new =
-    (hello : Result (Option ℕ) Fault) × (middle : Seen) × Sends old (events.Connect giver giving) hello middle × OffersNext hello middle giver after given new
+    (hello : Result (Option ℕ) Fault) × (middle : Seen) × Sends old (events.Connect giver giving_connection) hello middle × OffersNext hello middle giver after given new
 
 -- the event that lines up a frame towards the taker, if it was sent
-abbrev pub lining : Option ℕ → List Event
-lining None = []
-lining (Some number) = events.Line taking number ∷ []
+abbrev pub line_events : Option ℕ → List Event
+line_events None = []
+line_events (Some number) = events.Line taking_connection number ∷ []
 
 -- only the fault of an answer
 abbrev pub done_of : Result Answer Fault → Result (Unit {0}) Fault
@@ -82,19 +82,19 @@ done_of (Err fault) = Err fault
 -- a frame is lined up, if it was sent
 abbrev pub LinesUp : Seen → Option ℕ → Result (Unit {0}) Fault → Seen → Type 0
 LinesUp old None result new = (new ≡ old) × (result ≡ Ok tt)
-LinesUp old (Some number) result new = (answer : Result Answer Fault) × Happens old (events.Line taking number) answer new × (result ≡ done_of answer)
+LinesUp old (Some number) result new = (answer : Result Answer Fault) × Happens old (events.Line taking_connection number) answer new × (result ≡ done_of answer)
 
 -- all that is in the queue to the taker comes
 abbrev pub all_comes : Event
-all_comes = events.Piece taking 18446744073709551615
+all_comes = events.Piece taking_connection 18446744073709551615
 
 -- the taker connects, the frames that were sent enter its queue, and all of them come at once
 abbrev pub TakesUp : Seen → List ℕ → Given → Result Answer Fault → Seen → Type 0
-TakesUp old taker given answer new = Happen old (events.Connect taker taking ∷ lining given.hello ++ lining given.delta) all_comes answer new
+TakesUp old taker given answer new = Happen old (events.Connect taker taking_connection ∷ line_events given.hello ++ line_events given.delta) all_comes answer new
 
 -- both connections are closed, whatever the answers are
 abbrev pub Closes : Seen → Seen → Type 0
-Closes old new = (first second : Result Answer Fault) × (middle : Seen) × Happens old (events.Close giving) first middle × Happens middle (events.Close taking) second new
+Closes old new = (first second : Result Answer Fault) × (middle : Seen) × Happens old (events.Close giving_connection) first middle × Happens middle (events.Close taking_connection) second new
 
 -- the delta's frame is printed, if one was sent, and then what came of it; a fault of the giver's part is printed alone
 abbrev pub PlaysTaking : Result Given Fault → Seen → List ℕ → Option (List ℕ) → Option (List ℕ) → Seen → Type 0

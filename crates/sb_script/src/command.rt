@@ -72,6 +72,7 @@ impl Command {
             Line::Purge { node, floor } => {
                 Ok(Command::Step(Event::Purge(Name::read(node)?, floor)))
             }
+            Line::Trim { node, floor } => Ok(Command::Step(Event::Trim(Name::read(node)?, floor))),
             Line::Restart { node } => Ok(Command::Step(Event::Restart(Name::read(node)?))),
             Line::Connect { node, connection } => {
                 Ok(Command::Step(Event::Connect(Name::read(node)?, connection)))

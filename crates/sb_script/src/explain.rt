@@ -1,7 +1,7 @@
 //! Frames in words.
 ghost use Rattle.std.specs.Prelude.{◌≡◌, OnOk, IfErr};
 ghost use Rattle.sb_script.specs.Told.{Explains};
-ghost use Rattle.sb_script.specs.Written.{printed, taken};
+ghost use Rattle.sb_script.specs.Written.{output_contents, taken_count};
 
 use crate::line::Line;
 use crate::output::Output;
@@ -137,6 +137,8 @@ fn add_message(words: &mut String, message: &Message) -> Result<(), Fault> {
         Message::Put(_) => add(words, "put\n"),
         Message::Done(_) => add(words, "done\n"),
         Message::Refused(_) => add(words, "refused\n"),
+        Message::AskStatus(_) => add(words, "ask status\n"),
+        Message::NodeStatus(_) => add(words, "node status\n"),
     }
 }
 
@@ -210,8 +212,8 @@ pub(crate) fn explain<W: io::Write + Drop>(
     told: &mut u64,
     output: &mut Output<W>,
 ) -> Result<(), Fault>
-    ensures words { OnOk result (Explains detail (printed W.contents output.old) (printed W.contents output.new)) }
-    ensures fault { IfErr result (λ fault. fault ≡ Fault.WriteFailed (taken output.new)) }
+    ensures words { OnOk result (Explains detail (output_contents W.contents output.old) (output_contents W.contents output.new)) }
+    ensures fault { IfErr result (λ fault. fault ≡ Fault.WriteFailed (taken_count output.new)) }
 {
     match detail {
         Detail::Plain => return Ok(()),

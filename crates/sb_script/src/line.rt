@@ -26,6 +26,11 @@ pub(crate) enum Line<'a> {
         node: &'a [u8],
         floor: u64,
     },
+    /// `trim N F`: node N purges its own table up to the version F, and then its log drops its tombstones up to there.
+    Trim {
+        node: &'a [u8],
+        floor: u64,
+    },
     /// `restart N`: node N opens again.
     Restart {
         node: &'a [u8],
@@ -133,6 +138,10 @@ fn parse_node<'a>(words: &[&'a [u8]]) -> Option<Line<'a>> {
     match *words {
         [b"take", node] => Some(Line::Take { node }),
         [b"purge", node, floor] => Some(Line::Purge {
+            node,
+            floor: number_of(floor)?,
+        }),
+        [b"trim", node, floor] => Some(Line::Trim {
             node,
             floor: number_of(floor)?,
         }),

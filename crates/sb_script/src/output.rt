@@ -1,7 +1,7 @@
 //! The answers of a script, on their way out.
 ghost use Rattle.std.specs.Prelude.{◌≡◌, [], OnOk, IfOk, IfErr, IfSome};
 ghost use Rattle.std.specs.Io.KnownBytes.{Appends, Keeps, append_known};
-ghost use Rattle.sb_script.specs.Written.{printed, taken, written};
+ghost use Rattle.sb_script.specs.Written.{output_contents, taken_count, contents_of};
 
 use sb_types::Fault;
 use std::alloc::Global;
@@ -58,7 +58,7 @@ pub struct Output<W: Write + Drop> {
 impl<W: Write + Drop> Output<W> {
     /// Makes an output to a writer, with nothing printed yet. `NoMemory`, with the writer dropped.
     pub fn new(alloc: Global, writer: W) -> Result<Output<W>, Fault>
-        ensures nothing { IfOk result (λ output. printed W.contents output ≡ append_known (W.contents writer) []) }
+        ensures nothing { IfOk result (λ output. output_contents W.contents output ≡ append_known (W.contents writer) []) }
         ensures fault { IfErr result (λ fault. fault ≡ Fault.NoMemory) }
     {
         let counting = Counting {
@@ -74,7 +74,7 @@ impl<W: Write + Drop> Output<W> {
 
     /// Returns the writer, with what was written. If a write failed, what still waits to be written is dropped.
     pub fn into_writer(self) -> W
-        ensures { W.contents result ≡ written W.contents self }
+        ensures { W.contents result ≡ contents_of W.contents self }
     {
         let (counting, _) = self.writer.into_parts();
         counting.into_writer()
@@ -82,8 +82,8 @@ impl<W: Write + Drop> Output<W> {
 
     /// Prints lines. `WriteFailed`, with the number of bytes that were written in all.
     pub(crate) fn print<D: Display + Drop>(&mut self, lines: D) -> Result<(), Fault>
-        ensures printed { OnOk result (IfSome (D.output lines) (Appends (printed W.contents self.old) (printed W.contents self.new))) }
-        ensures fault { IfErr result (λ fault. fault ≡ Fault.WriteFailed (taken self.new)) }
+        ensures printed { OnOk result (IfSome (D.output lines) (Appends (output_contents W.contents self.old) (output_contents W.contents self.new))) }
+        ensures fault { IfErr result (λ fault. fault ≡ Fault.WriteFailed (taken_count self.new)) }
     {
         match self.writer.write_fmt(lines) {
             Ok(()) => Ok(()),
@@ -93,9 +93,9 @@ impl<W: Write + Drop> Output<W> {
 
     /// Writes what waits. `WriteFailed`, with the number of bytes that were written in all.
     pub(crate) fn finish(&mut self) -> Result<(), Fault>
-        ensures kept { Keeps (printed W.contents self.old) (printed W.contents self.new) }
-        ensures written { OnOk result (Keeps (printed W.contents self.old) (written W.contents self.new)) }
-        ensures fault { IfErr result (λ fault. fault ≡ Fault.WriteFailed (taken self.new)) }
+        ensures kept { Keeps (output_contents W.contents self.old) (output_contents W.contents self.new) }
+        ensures written { OnOk result (Keeps (output_contents W.contents self.old) (contents_of W.contents self.new)) }
+        ensures fault { IfErr result (λ fault. fault ≡ Fault.WriteFailed (taken_count self.new)) }
     {
         match self.writer.flush() {
             Ok(()) => Ok(()),
@@ -104,7 +104,7 @@ impl<W: Write + Drop> Output<W> {
     }
 
     fn fault(&self) -> Fault
-        ensures { result ≡ Fault.WriteFailed (taken self.now) }
+        ensures { result ≡ Fault.WriteFailed (taken_count self.now) }
     {
         Fault::WriteFailed(self.writer.get_ref().taken)
     }

@@ -5,7 +5,7 @@ ghost use Rattle.sb_world.specs.Places.{frame_at};
 ghost use Rattle.sb_script.specs.Printed.{lines_of, shown_frame};
 ghost use Rattle.sb_script.specs.Giving.{ShowsSent, Sends, Offers, LinesUp, TakesUp, Closes, PlaysGive};
 ghost use Rattle.sb_script.specs.Played.{PlaysStep, PlaysWrite, Plays, PlaysLine};
-ghost use Rattle.sb_script.specs.Written.{printed, taken};
+ghost use Rattle.sb_script.specs.Written.{output_contents, taken_count};
 
 use crate::command::Command;
 use crate::output::Output;
@@ -41,8 +41,8 @@ fn tell<W: Write + Drop>(
     answer: Result<Answer, Fault>,
     output: &mut Output<W>,
 ) -> Result<(), Fault>
-    ensures printed { OnOk result (Appends (printed W.contents output.old) (printed W.contents output.new) (lines_of event answer)) }
-    ensures fault { IfErr result (λ fault. fault ≡ Fault.WriteFailed (taken output.new)) }
+    ensures printed { OnOk result (Appends (output_contents W.contents output.old) (output_contents W.contents output.new) (lines_of event answer)) }
+    ensures fault { IfErr result (λ fault. fault ≡ Fault.WriteFailed (taken_count output.new)) }
 {
     let printed = output.print(AnswerLines {
         event: &event,
@@ -59,8 +59,8 @@ fn step<W: Write + Drop>(
     event: Event,
     output: &mut Output<W>,
 ) -> Result<(), Fault>
-    ensures played { OnOk result (PlaysStep world.old event (printed W.contents output.old) (printed W.contents output.new) world.new) }
-    ensures fault { IfErr result (λ fault. fault ≡ Fault.WriteFailed (taken output.new)) }
+    ensures played { OnOk result (PlaysStep world.old event (output_contents W.contents output.old) (output_contents W.contents output.new) world.new) }
+    ensures fault { IfErr result (λ fault. fault ≡ Fault.WriteFailed (taken_count output.new)) }
 {
     let answer = world.step(&event);
     tell(event, answer, output)
@@ -72,8 +72,8 @@ fn show<W: Write + Drop>(
     number: u64,
     output: &mut Output<W>,
 ) -> Result<(), Fault>
-    ensures printed { OnOk result (Appends (printed W.contents output.old) (printed W.contents output.new) (shown_frame (frame_at world.now.sent number))) }
-    ensures fault { IfErr result (λ fault. fault ≡ Fault.WriteFailed (taken output.new)) }
+    ensures printed { OnOk result (Appends (output_contents W.contents output.old) (output_contents W.contents output.new) (shown_frame (frame_at world.now.sent number))) }
+    ensures fault { IfErr result (λ fault. fault ≡ Fault.WriteFailed (taken_count output.new)) }
 {
     match world.frame(number) {
         Some(frame) => output.print(FrameLine(frame)),
@@ -88,8 +88,8 @@ fn write<W: Write + Drop>(
     take: Event,
     output: &mut Output<W>,
 ) -> Result<(), Fault>
-    ensures played { OnOk result (PlaysWrite world.old commit take (printed W.contents output.old) (printed W.contents output.new) world.new) }
-    ensures fault { IfErr result (λ fault. fault ≡ Fault.WriteFailed (taken output.new)) }
+    ensures played { OnOk result (PlaysWrite world.old commit take (output_contents W.contents output.old) (output_contents W.contents output.new) world.new) }
+    ensures fault { IfErr result (λ fault. fault ≡ Fault.WriteFailed (taken_count output.new)) }
 {
     let committed = world.step(&commit);
     lose_event(commit);
@@ -163,8 +163,8 @@ fn show_sent<W: Write + Drop>(
     sent: Option<u64>,
     output: &mut Output<W>,
 ) -> Result<(), Fault>
-    ensures printed { OnOk result (ShowsSent world.now.sent sent (printed W.contents output.old) (printed W.contents output.new)) }
-    ensures fault { IfErr result (λ fault. fault ≡ Fault.WriteFailed (taken output.new)) }
+    ensures printed { OnOk result (ShowsSent world.now.sent sent (output_contents W.contents output.old) (output_contents W.contents output.new)) }
+    ensures fault { IfErr result (λ fault. fault ≡ Fault.WriteFailed (taken_count output.new)) }
 {
     match sent {
         Some(number) => show(world, number, output),
@@ -181,8 +181,8 @@ fn give<W: Write + Drop>(
     after: u64,
     output: &mut Output<W>,
 ) -> Result<(), Fault>
-    ensures played { OnOk result (PlaysGive world.old giver taker after (printed W.contents output.old) (printed W.contents output.new) world.new) }
-    ensures fault { IfErr result (λ fault. fault ≡ Fault.WriteFailed (taken output.new)) }
+    ensures played { OnOk result (PlaysGive world.old giver taker after (output_contents W.contents output.old) (output_contents W.contents output.new) world.new) }
+    ensures fault { IfErr result (λ fault. fault ≡ Fault.WriteFailed (taken_count output.new)) }
 {
     let piece = Event::Piece(TAKER, u64::MAX);
     let given = match offer(world, giver, after) {
@@ -210,8 +210,8 @@ fn play_command<W: Write + Drop>(
     command: Command,
     output: &mut Output<W>,
 ) -> Result<(), Fault>
-    ensures played { OnOk result (Plays world.old command (printed W.contents output.old) (printed W.contents output.new) world.new) }
-    ensures fault { IfErr result (λ fault. fault ≡ Fault.WriteFailed (taken output.new)) }
+    ensures played { OnOk result (Plays world.old command (output_contents W.contents output.old) (output_contents W.contents output.new) world.new) }
+    ensures fault { IfErr result (λ fault. fault ≡ Fault.WriteFailed (taken_count output.new)) }
 {
     match command {
         Command::Step(event) => step(world, event, output),
@@ -233,8 +233,8 @@ pub(crate) fn play_line<W: Write + Drop>(
     line: &[u8],
     output: &mut Output<W>,
 ) -> Result<bool, Fault>
-    ensures played { IfOk result (λ is_command. PlaysLine is_command world.old (printed W.contents output.old) (printed W.contents output.new) world.new) }
-    ensures fault { IfErr result (λ fault. fault ≡ Fault.WriteFailed (taken output.new)) }
+    ensures played { IfOk result (λ is_command. PlaysLine is_command world.old (output_contents W.contents output.old) (output_contents W.contents output.new) world.new) }
+    ensures fault { IfErr result (λ fault. fault ≡ Fault.WriteFailed (taken_count output.new)) }
 {
     match Command::read(alloc, line) {
         Ok(Some(command)) => {

@@ -194,6 +194,7 @@ impl fmt::Display for AnswerLines<'_> {
             Answer::Took(version) => writeln!(f, "took {version}"),
             Answer::Crashed => writeln!(f, "crashed"),
             Answer::Purged(floor) => writeln!(f, "purged {floor}"),
+            Answer::Trimmed(floor) => writeln!(f, "trimmed {floor}"),
             Answer::Restarted(version) => writeln!(f, "restarted {version}"),
             Answer::Sent(number) => writeln!(f, "frame {number}"),
             Answer::Shut => writeln!(f, "closed"),

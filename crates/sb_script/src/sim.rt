@@ -5,7 +5,7 @@ ghost use Rattle.sb_script.specs.Printed.{wrong_line};
 ghost use Rattle.sb_script.specs.Faults.{is_world_fault};
 ghost use Rattle.sb_script.specs.Told.{EndsAt, Tells, TellsFrom};
 ghost use Rattle.std.specs.Io.KnownBytes.{Appends};
-ghost use Rattle.sb_script.specs.Written.{printed, taken, written};
+ghost use Rattle.sb_script.specs.Written.{output_contents, taken_count, contents_of};
 ghost use Rattle.sb_script.specs.Reads.{AreCounted, IsRunFault, TellsTaken, comes_before_reads, is_run_fault};
 
 use crate::explain::explain;
@@ -79,11 +79,11 @@ pub fn sim_run<R: Read + Drop, W: Write + Drop, L: Ledger>(
     ensures made { OnOk result (steps.old < steps.new) }
     ensures fault { IfErr result (IsRunFault steps.old steps.new max_reads) }
     ensures early { IfErr result (λ fault. comes_before_reads fault ≡ false → steps.old < steps.new) }
-    ensures written { IfErr result (TellsTaken (taken output.new)) }
+    ensures written { IfErr result (TellsTaken (taken_count output.new)) }
 
     // The writer has the lines of commands that were played in turn in a new world, and nothing else, except words that
     // were asked for.
-    ensures told { IfOk result (λ ending. Tells ending detail (printed W.contents output.old) (written W.contents output.new)) }
+    ensures told { IfOk result (λ ending. Tells ending detail (output_contents W.contents output.old) (contents_of W.contents output.new)) }
 {
     let mut lines = Lines::open(alloc, reader, max_reads, steps)?;
     let ended = play(alloc, &mut lines, output, detail, steps);
@@ -108,8 +108,8 @@ pub fn sim_run_uncounted<R: Read + Drop, W: Write + Drop>(
     ensures made { OnOk result (0 < max_reads) }
     ensures fault { IfErr result (λ fault. is_run_fault fault ≡ true) }
     ensures early { IfErr result (λ fault. comes_before_reads fault ≡ false → 0 < max_reads) }
-    ensures written { IfErr result (TellsTaken (taken output.new)) }
-    ensures told { IfOk result (λ ending. Tells ending detail (printed W.contents output.old) (written W.contents output.new)) }
+    ensures written { IfErr result (TellsTaken (taken_count output.new)) }
+    ensures told { IfOk result (λ ending. Tells ending detail (output_contents W.contents output.old) (contents_of W.contents output.new)) }
 {
     run_on::<R, W, Brand>(alloc, reader, output, max_reads, detail, Blank::new(1))
 }
@@ -129,8 +129,8 @@ fn run_on<R: Read + Drop, W: Write + Drop, L: Ledger>(
     ensures made { OnOk result (0 < max_reads) }
     ensures fault { IfErr result (λ fault. is_run_fault fault ≡ true) }
     ensures early { IfErr result (λ fault. comes_before_reads fault ≡ false → 0 < max_reads) }
-    ensures written { IfErr result (TellsTaken (taken output.new)) }
-    ensures told { IfOk result (λ ending. Tells ending detail (printed W.contents output.old) (written W.contents output.new)) }
+    ensures written { IfErr result (TellsTaken (taken_count output.new)) }
+    ensures told { IfOk result (λ ending. Tells ending detail (output_contents W.contents output.old) (contents_of W.contents output.new)) }
 {
     let mut steps = Steps::<L>::new(blank);
     sim_run(alloc, reader, output, max_reads, detail, &mut steps)
@@ -150,8 +150,8 @@ fn play<R: Read, W: Write + Drop, L: Ledger>(
         (bytes_to_come lines.old.left lines.old.at lines.old.end)
         (bytes_to_come lines.new.left lines.new.at lines.new.end)) }
     ensures fault { IfErr result (IsRunFault steps.old steps.new lines.old.left) }
-    ensures written { IfErr result (TellsTaken (taken output.new)) }
-    ensures told { IfOk result (λ ending. Tells ending detail (printed W.contents output.old) (printed W.contents output.new)) }
+    ensures written { IfErr result (TellsTaken (taken_count output.new)) }
+    ensures told { IfOk result (λ ending. Tells ending detail (output_contents W.contents output.old) (output_contents W.contents output.new)) }
 {
     if !lines.advance(steps)? {
         return Ok(Ending::Whole);
@@ -178,8 +178,8 @@ fn play_in<R: Read, W: Write + Drop, L: Ledger>(
         (bytes_to_come lines.old.left lines.old.at lines.old.end)
         (bytes_to_come lines.new.left lines.new.at lines.new.end)) }
     ensures fault { IfErr result (IsRunFault steps.old steps.new lines.old.left) }
-    ensures written { IfErr result (TellsTaken (taken output.new)) }
-    ensures told { IfOk result (λ ending. TellsFrom world ending detail (printed W.contents output.old) (printed W.contents output.new)) }
+    ensures written { IfErr result (TellsTaken (taken_count output.new)) }
+    ensures told { IfOk result (λ ending. TellsFrom world ending detail (output_contents W.contents output.old) (output_contents W.contents output.new)) }
 {
     let mut told = 0;
     while lines.advance(steps)? {
@@ -194,8 +194,8 @@ fn play_in<R: Read, W: Write + Drop, L: Ledger>(
 /// Ends the run at a line that is not a command, and prints its number. `WriteFailed`.
 fn end_at<W: Write + Drop>(number: u64, output: &mut Output<W>) -> Result<Ending, Fault>
     ensures wrong { IfOk result (λ ending. ending ≡ Ending.WrongLine) }
-    ensures printed { OnOk result (Appends (printed W.contents output.old) (printed W.contents output.new) (wrong_line number)) }
-    ensures fault { IfErr result (λ fault. fault ≡ Fault.WriteFailed (taken output.new)) }
+    ensures printed { OnOk result (Appends (output_contents W.contents output.old) (output_contents W.contents output.new) (wrong_line number)) }
+    ensures fault { IfErr result (λ fault. fault ≡ Fault.WriteFailed (taken_count output.new)) }
 {
     output.print(format_args!("line {number}\n"))?;
     Ok(Ending::WrongLine)
@@ -205,8 +205,8 @@ fn end_at<W: Write + Drop>(number: u64, output: &mut Output<W>) -> Result<Ending
 fn end_without<W: Write + Drop>(fault: Fault, output: &mut Output<W>) -> Result<Ending, Fault>
     requires kind { is_world_fault fault ≡ true }
     ensures none { IfOk result (λ ending. ending ≡ Ending.NoWorld) }
-    ensures told { OnOk result (EndsAt Ending.NoWorld (printed W.contents output.old) (printed W.contents output.new)) }
-    ensures fault { IfErr result (λ fault. fault ≡ Fault.WriteFailed (taken output.new)) }
+    ensures told { OnOk result (EndsAt Ending.NoWorld (output_contents W.contents output.old) (output_contents W.contents output.new)) }
+    ensures fault { IfErr result (λ fault. fault ≡ Fault.WriteFailed (taken_count output.new)) }
 {
     output.print(FaultLine(fault))?;
     Ok(Ending::NoWorld)

@@ -279,6 +279,8 @@ ended_by step s h (kinds.Rows rows) reason s' h' takes = absurd takes
 ended_by step s h (kinds.Put wanted) reason s' h' takes = absurd takes
 ended_by step s h (kinds.Done version) reason s' h' takes = absurd takes
 ended_by step s h (kinds.Refused fault) reason s' h' takes = absurd takes
+ended_by step s h (kinds.AskStatus after) reason s' h' takes = absurd takes
+ended_by step s h (kinds.NodeStatus told) reason s' h' takes = absurd takes
 
 bye_taken : {H : Type 0} (step : H → Act → H → Type 0) (s : Session) (h : H) (m : Message) (answer : Replies) (reason : ℕ) (s' : Session) (h' : H)
     → TakesUp step s h m (Ok answer) s' h' → bye_of answer ≡ Some reason → m ≡ kinds.Bye reason

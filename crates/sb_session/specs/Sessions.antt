@@ -3,7 +3,7 @@ use Rattle.std.specs.Prelude.{ℕ, nat_eq, if◌then◌else◌, List, Option, So
 use Rattle.std.specs.Cmp.Lexicographic.{pointwise}
 use Rattle.sb_types.specs.declared.fault.Fault.{Fault}
 use Rattle.sb_types.specs.declared.fault.Fault.TheVariants as faults
-use Rattle.sb_types.specs.declared.format.TheConstants.{KIND_ASK, KIND_ROWS, KIND_PUT, KIND_DONE, KIND_REFUSED}
+use Rattle.sb_types.specs.declared.format.TheConstants.{KIND_ASK, KIND_ROWS, KIND_PUT, KIND_DONE, KIND_REFUSED, KIND_ASK_STATUS, KIND_NODE_STATUS}
 use Rattle.sb_codec.specs.declared.message.hello.Hello.{Hello}
 use Rattle.sb_codec.specs.declared.message.Message.{Message}
 use Rattle.sb_codec.specs.declared.message.Message.TheVariants as kinds
@@ -69,3 +69,5 @@ refusal_of s (kinds.Rows rows) = kind_refusal s.phase KIND_ROWS
 refusal_of s (kinds.Put wanted) = kind_refusal s.phase KIND_PUT
 refusal_of s (kinds.Done version) = kind_refusal s.phase KIND_DONE
 refusal_of s (kinds.Refused fault) = kind_refusal s.phase KIND_REFUSED
+refusal_of s (kinds.AskStatus after) = kind_refusal s.phase KIND_ASK_STATUS
+refusal_of s (kinds.NodeStatus told) = kind_refusal s.phase KIND_NODE_STATUS

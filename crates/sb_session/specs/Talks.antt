@@ -41,6 +41,8 @@ ends_round (kinds.Rows rows) = false
 ends_round (kinds.Put wanted) = false
 ends_round (kinds.Done version) = false
 ends_round (kinds.Refused fault) = false
+ends_round (kinds.AskStatus after) = false
+ends_round (kinds.NodeStatus told) = false
 
 -- the rounds that are left after a message, which may end one
 abbrev pub rounds_after : Bool → Option ℕ → Option ℕ

@@ -8,7 +8,10 @@ use crate::handler::Handler;
 use crate::replies::Replies;
 use sb_codec::{Hello, Message};
 use sb_digest::Digest;
-use sb_types::{Fault, KIND_ASK, KIND_DONE, KIND_PUT, KIND_REFUSED, KIND_ROWS, Name};
+use sb_types::{
+    Fault, KIND_ASK, KIND_ASK_STATUS, KIND_DONE, KIND_NODE_STATUS, KIND_PUT, KIND_REFUSED,
+    KIND_ROWS, Name,
+};
 use std::marker::Model;
 
 /// How far a session has come.
@@ -84,7 +87,7 @@ impl Session {
     /// Takes a message. Its faults, in their order:
     ///
     /// - `Closed`.
-    /// - `UnknownKind` of the kinds 10 to 14 hex, which have no place here.
+    /// - `UnknownKind` of the kinds 10 to 16 hex, which have no place here.
     /// - `NoHello` of what comes before the peer's Hello.
     /// - `SecondHello`.
     /// - `WrongCluster` and `SameName` of the peer's Hello.
@@ -104,6 +107,8 @@ impl Session {
             (_, Message::Put(_)) => self.refuse(Fault::UnknownKind(KIND_PUT)),
             (_, Message::Done(_)) => self.refuse(Fault::UnknownKind(KIND_DONE)),
             (_, Message::Refused(_)) => self.refuse(Fault::UnknownKind(KIND_REFUSED)),
+            (_, Message::AskStatus(_)) => self.refuse(Fault::UnknownKind(KIND_ASK_STATUS)),
+            (_, Message::NodeStatus(_)) => self.refuse(Fault::UnknownKind(KIND_NODE_STATUS)),
             (Phase::Waiting, Message::Hello(hello)) => self.greet(&hello),
             (Phase::Waiting, _) => self.refuse(Fault::NoHello),
             (Phase::Greeted, Message::Hello(_)) => self.refuse(Fault::SecondHello),
@@ -161,6 +166,8 @@ impl Session {
             (_, Message::Put(_)) => Some(Fault::UnknownKind(KIND_PUT)),
             (_, Message::Done(_)) => Some(Fault::UnknownKind(KIND_DONE)),
             (_, Message::Refused(_)) => Some(Fault::UnknownKind(KIND_REFUSED)),
+            (_, Message::AskStatus(_)) => Some(Fault::UnknownKind(KIND_ASK_STATUS)),
+            (_, Message::NodeStatus(_)) => Some(Fault::UnknownKind(KIND_NODE_STATUS)),
             (Phase::Waiting, Message::Hello(hello)) => self.greeting_fault(hello),
             (Phase::Greeted, Message::Hello(_)) => Some(Fault::SecondHello),
             (_, Message::Digest(_) | Message::Delta(_) | Message::Bye(_)) => Some(Fault::NoHello),
@@ -170,7 +177,7 @@ impl Session {
     /// Takes the first message of a peer that is to say nothing but its Hello. It asks no handler. Its faults, in their order:
     ///
     /// - `Closed`.
-    /// - `UnknownKind` of the kinds 10 to 14 hex.
+    /// - `UnknownKind` of the kinds 10 to 16 hex.
     /// - `NoHello` of a Digest, a Delta or a Bye.
     /// - `SecondHello`.
     /// - `WrongCluster` and `SameName` of the Hello.

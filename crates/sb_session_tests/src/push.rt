@@ -10,7 +10,8 @@ use sb_frames::{Connection, Steps};
 use sb_session::{Ended, PushEnd, Session, push};
 use sb_testing::streams::Pieces;
 use sb_testing::wire::{
-    ASK, BYE, DELTA_A, DELTA_B, DELTA_NONE, DIGEST_B, DONE, HELLO_A, HELLO_B, PUT, REFUSED,
+    ASK, ASK_STATUS, BYE, DELTA_A, DELTA_B, DELTA_NONE, DIGEST_B, DONE, HELLO_A, HELLO_B,
+    NODE_STATUS, PUT, REFUSED,
 };
 use sb_types::{Delta, Fault};
 use std::alloc::Global;
@@ -160,6 +161,8 @@ fn the_first_message_is_of_a_control_socket(rt: HostRuntime) {
     ends_so(&rt, alloc, &[PUT], Err(Fault::UnknownKind(0x12)));
     ends_so(&rt, alloc, &[&DONE], Err(Fault::UnknownKind(0x13)));
     ends_so(&rt, alloc, &[REFUSED], Err(Fault::UnknownKind(0x14)));
+    ends_so(&rt, alloc, &[ASK_STATUS], Err(Fault::UnknownKind(0x15)));
+    ends_so(&rt, alloc, &[NODE_STATUS], Err(Fault::UnknownKind(0x16)));
 }
 
 #[test]

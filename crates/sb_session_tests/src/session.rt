@@ -10,7 +10,8 @@ use sb_holdings::{BlockEnd, Holdings, Report};
 use sb_session::{Handler, Replies, Session};
 use sb_table::Table;
 use sb_testing::wire::{
-    ASK, BYE, DELTA_B, DELTA_NONE, DIGEST_A, DIGEST_B, DONE, HELLO_A, HELLO_B, PUT, REFUSED,
+    ASK, ASK_STATUS, BYE, DELTA_B, DELTA_NONE, DIGEST_A, DIGEST_B, DONE, HELLO_A, HELLO_B,
+    NODE_STATUS, PUT, REFUSED,
 };
 use sb_types::{BUDGET_LEAST, Block, Delta, Entry, Fault, Key, Name, Slot, Value};
 use std::alloc::Global;
@@ -79,7 +80,7 @@ impl Node {
     fn lacking(&self, theirs: &Digest) -> Result<Delta, Fault> {
         let mut blocks = Vec::new(self.alloc);
         for (owner, table) in self.holdings.tables_from(None) {
-            let number = theirs.number(owner, table.floor());
+            let number = theirs.start(owner, table.floor(), table.upto()).after;
             if !theirs.covers(owner) || table.upto() <= number {
                 continue;
             }
@@ -329,6 +330,8 @@ fn messages_out_of_place_close(rt: HostRuntime) {
     has_no_place(&rt, alloc, PUT, 0x12);
     has_no_place(&rt, alloc, &DONE, 0x13);
     has_no_place(&rt, alloc, REFUSED, 0x14);
+    has_no_place(&rt, alloc, ASK_STATUS, 0x15);
+    has_no_place(&rt, alloc, NODE_STATUS, 0x16);
 }
 
 /// Tests that the message of a frame is refused if so many calls of the handler are granted, which are too few.

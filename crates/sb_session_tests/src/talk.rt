@@ -8,7 +8,8 @@ use sb_frames::{Connection, Steps};
 use sb_session::{Ended, Session, dial, serve};
 use sb_testing::streams::Pieces;
 use sb_testing::wire::{
-    ASK, BYE, DELTA_B, DELTA_NONE, DIGEST_A, DIGEST_B, DONE, HELLO_A, HELLO_B, PUT, REFUSED,
+    ASK, ASK_STATUS, BYE, DELTA_B, DELTA_NONE, DIGEST_A, DIGEST_B, DONE, HELLO_A, HELLO_B,
+    NODE_STATUS, PUT, REFUSED,
 };
 use sb_types::Fault;
 use std::alloc::Global;
@@ -574,6 +575,8 @@ fn end_behind(rt: &impl Abort, alloc: Global, greeting: &[u8]) {
     ends_behind(rt, alloc, greeting, PUT, 0x12);
     ends_behind(rt, alloc, greeting, &DONE, 0x13);
     ends_behind(rt, alloc, greeting, REFUSED, 0x14);
+    ends_behind(rt, alloc, greeting, ASK_STATUS, 0x15);
+    ends_behind(rt, alloc, greeting, NODE_STATUS, 0x16);
 }
 
 /// Tests that messages end the talks if they must not come there.

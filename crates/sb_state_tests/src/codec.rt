@@ -1,11 +1,12 @@
 //! Payloads by hand, the greatest of each kind, and bytes that are not payloads.
 ghost use Rattle.std.specs.Prelude.{◌≤◌};
 
+use crate::status::{ask_status, one_status};
 use crate::words::{
-    ASK, ASK_BEHIND, BELOW_ITS_FLOOR, BYE, DIGEST, DIGEST_OF_A_RANGE, DONE, EVERY_SLOT,
-    GREATEST_HEAD, GREATEST_NUMBERS, HELLO, LAST_ENTRY, LAST_ROW, LONGEST_ASK, LONGEST_ENTRY,
-    LONGEST_HELLO, LONGEST_PUT, LONGEST_ROW, NO_BLOCK, NO_ENTRY, ONE_ENTRY, ONE_TEXT, PUT,
-    PUT_OF_A_REMOVAL, REFUSED, ROWS, UP_TO_ITS_FLOOR, WRONG,
+    ASK, ASK_BEHIND, ASK_STATUS, BELOW_ITS_FLOOR, BYE, DIGEST, DIGEST_OF_A_RANGE, DONE,
+    EMPTY_STATUS, EVERY_SLOT, GREATEST_HEAD, GREATEST_NUMBERS, HELLO, LAST_ENTRY, LAST_ROW,
+    LONGEST_ASK, LONGEST_ENTRY, LONGEST_HELLO, LONGEST_PUT, LONGEST_ROW, NO_BLOCK, NO_ENTRY,
+    NODE_STATUS, ONE_ENTRY, ONE_TEXT, PUT, PUT_OF_A_REMOVAL, REFUSED, ROWS, UP_TO_ITS_FLOOR, WRONG,
 };
 use crate::{entry, got, holds, key, name, one, push, refusal, same, same_at, weighing, weight};
 use bytes::Bytes;
@@ -234,6 +235,9 @@ fn assert_client_payloads(rt: &impl Abort, alloc: Global) {
     assert_payload(rt, alloc, put(rt), PUT);
     assert_payload(rt, alloc, done(rt, 1), DONE);
     assert_payload(rt, alloc, refused(rt, 13), REFUSED);
+    assert_payload(rt, alloc, ask_status(3), ASK_STATUS);
+    let status = Message::NodeStatus(one_status(rt, alloc));
+    assert_payload(rt, alloc, status, NODE_STATUS);
 }
 
 /// Blocks with a floor, which may be above their reach. Some reach further than their last entry, and some have no
@@ -389,6 +393,9 @@ const LENGTHS: &[(&str, u32)] = &[
     (PUT_OF_A_REMOVAL, 10),
     (DONE, 15),
     (REFUSED, 8),
+    (ASK_STATUS, 15),
+    (NODE_STATUS, 57),
+    (EMPTY_STATUS, 18),
     (LONGEST_HELLO, 73),
     (LONGEST_ASK, 203),
     (LONGEST_ROW, 631),
@@ -583,7 +590,7 @@ fn payloads_of_unknown_kinds(rt: HostRuntime) {
     assert_unknown(&rt, alloc, 0x00, b"\x00");
     assert_unknown(&rt, alloc, 0x05, b"\x05\x01");
     assert_unknown(&rt, alloc, 0x0f, b"\x0f");
-    assert_unknown(&rt, alloc, 0x15, b"\x15\x01");
+    assert_unknown(&rt, alloc, 0x17, b"\x17\x01");
     assert_unknown(&rt, alloc, 0x55, b"\x55");
     assert_unknown(&rt, alloc, 0xff, b"\xff");
 }
@@ -617,6 +624,7 @@ fn payloads_in_shared_bytes(rt: HostRuntime) {
     assert_shared(&rt, alloc, BYE, Ok(8));
     assert_shared(&rt, alloc, ROWS, Ok(31));
     assert_shared(&rt, alloc, PUT, Ok(18));
+    assert_shared(&rt, alloc, NODE_STATUS, Ok(57));
     assert_shared(&rt, alloc, "03 0001", Err(Fault::Malformed(KIND_DELTA)));
     assert_shared(&rt, alloc, "55", Err(Fault::UnknownKind(0x55)));
 }
@@ -660,4 +668,6 @@ fn refused_allocations(rt: HostRuntime) {
     assert_read(&rt, alloc, PUT, 18);
     assert_read(&rt, alloc, DONE, 15);
     assert_read(&rt, alloc, REFUSED, 8);
+    assert_read(&rt, alloc, ASK_STATUS, 15);
+    assert_read(&rt, alloc, NODE_STATUS, 57);
 }

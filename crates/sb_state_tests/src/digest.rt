@@ -54,7 +54,11 @@ fn example_of_digest(rt: HostRuntime) {
     let [a, b] = [name(&rt, b"a"), name(&rt, b"b")];
     let digest = example(&rt, rt.alloc(), a, b);
     let are_covered = [digest.covers(&a), digest.covers(&b)];
-    let found = (are_covered, digest.number(&a, 0), digest.next_from());
+    let found = (
+        are_covered,
+        digest.start(&a, 0, 5).after,
+        digest.next_from(),
+    );
     same(&rt, &found, &([true, false], 3, Some(b)));
 }
 
@@ -146,7 +150,8 @@ fn wanting(from: Option<Name>, until: Option<Name>, pairs: usize, length: u64) -
 fn are_told(digest: &Digest, owners: &[Name], wanted: &[(bool, u64)]) -> bool {
     let mut are_right = owners.len() == wanted.len();
     for (owner, (is_covered, held)) in owners.iter().zip(wanted) {
-        are_right &= digest.covers(owner) == *is_covered && digest.number(owner, 0) == *held;
+        are_right &= digest.covers(owner) == *is_covered
+            && digest.start(owner, 0, 9).after == *held;
     }
     are_right
 }
@@ -178,25 +183,43 @@ fn staged(rt: &impl Abort) -> Pair {
     Pair::new(name(rt, b"a"), 5, Some((9, 7)))
 }
 
-/// Returns the versions above which senders of these floors offer entries of a. Also returns that of b, which has no
-/// pair in the digest.
-fn numbers(rt: &impl Abort, digest: &Digest, floors: [u64; 5]) -> ([u64; 5], u64) {
-    let [a, b] = [name(rt, b"a"), name(rt, b"b")];
-    let [first, second, third, fourth, fifth] = floors;
-    let low = [digest.number(&a, first), digest.number(&a, second)];
-    let high = [digest.number(&a, fourth), digest.number(&a, fifth)];
-    let numbers = [low[0], low[1], digest.number(&a, third), high[0], high[1]];
-    (numbers, digest.number(&b, third))
+/// The version above which a sender of this floor and this held version offers the table of an owner. Then the floor
+/// under which it offers that.
+fn start(rt: &impl Abort, digest: &Digest, owner: &[u8], floor: u64, upto: u64) -> (u64, u64) {
+    let start = digest.start(&name(rt, owner), floor, upto);
+    (start.after, start.floor)
 }
 
-/// A sender whose floor is at or below the held version offers what is above that. A sender with the stage's floor
-/// continues the stage. Every other sender offers all.
+/// A sender whose floor is at or below the held version offers what is above that, under its own floor.
 #[test]
-fn a_number_is_that_of_the_floor(rt: HostRuntime) {
+fn a_peer_that_reaches_the_floor(rt: HostRuntime) {
     let pairs = one(&rt, rt.alloc(), staged(&rt));
     let digest = got(&rt, Digest::new(true, None, None, pairs));
-    let found = numbers(&rt, &digest, [0, 5, 6, 9, 10]);
-    same(&rt, &found, &([5, 5, 0, 7, 0], 0));
+    same(&rt, &start(&rt, &digest, b"a", 0, 20), &(5, 0));
+    same(&rt, &start(&rt, &digest, b"a", 5, 20), &(5, 5));
+    same(&rt, &start(&rt, &digest, b"a", 3, 4), &(5, 3));
+}
+
+/// Here a sender's floor is above the held version, and at or below the stage's. It continues the stage if it holds as
+/// far as the stage's floor.
+#[test]
+fn a_stage_that_can_go_on(rt: HostRuntime) {
+    let pairs = one(&rt, rt.alloc(), staged(&rt));
+    let digest = got(&rt, Digest::new(true, None, None, pairs));
+    same(&rt, &start(&rt, &digest, b"a", 6, 9), &(7, 9));
+    same(&rt, &start(&rt, &digest, b"a", 9, 9), &(7, 9));
+    same(&rt, &start(&rt, &digest, b"a", 9, 20), &(7, 9));
+}
+
+/// Every other sender offers all, as if it were purged as far as it holds.
+#[test]
+fn a_stage_that_cannot_go_on(rt: HostRuntime) {
+    let pairs = one(&rt, rt.alloc(), staged(&rt));
+    let digest = got(&rt, Digest::new(true, None, None, pairs));
+    same(&rt, &start(&rt, &digest, b"a", 6, 8), &(0, 8));
+    same(&rt, &start(&rt, &digest, b"a", 10, 20), &(0, 20));
+    same(&rt, &start(&rt, &digest, b"b", 6, 20), &(0, 20));
+    same(&rt, &start(&rt, &digest, b"b", 0, 20), &(0, 0));
 }
 
 /// The two numbers of a stage may have any values.
@@ -204,8 +227,15 @@ fn a_number_is_that_of_the_floor(rt: HostRuntime) {
 fn a_stage_of_any_numbers_is_told(rt: HostRuntime) {
     let pairs = one(&rt, rt.alloc(), Pair::new(name(&rt, b"a"), 3, Some((0, 5))));
     let digest = got(&rt, Digest::new(true, None, None, pairs));
-    let found = numbers(&rt, &digest, [0, 3, 4, 5, u64::MAX]);
-    same(&rt, &found, &([3, 3, 0, 0, 0], 0));
+    same(&rt, &start(&rt, &digest, b"a", 0, 9), &(3, 0));
+    same(&rt, &start(&rt, &digest, b"a", 3, 9), &(3, 3));
+    same(&rt, &start(&rt, &digest, b"a", 4, 9), &(0, 9));
+    same(
+        &rt,
+        &start(&rt, &digest, b"a", u64::MAX, u64::MAX),
+        &(0, u64::MAX),
+    );
+    same(&rt, &start(&rt, &digest, b"b", 4, 9), &(0, 9));
     same(&rt, &digest.encoded_length(), &32);
 }
 
@@ -380,8 +410,12 @@ fn a_digest_tells_how_far_a_stage_has_come(rt: HostRuntime) {
     let digest = asked(&rt, rt.alloc(), &holdings, None, true, 1_024);
     let found = (are_pairs(&digest, &[(a, 0), (b, 0)]), extent(&digest));
     same(&rt, &found, &(true, wanting(None, None, 2, 58)));
-    let told = numbers(&rt, &digest, [0, 4, 5, 6, 3]);
-    same(&rt, &told, &([0, 0, 3, 0, 0], 0));
+    same(&rt, &start(&rt, &digest, b"a", 0, 9), &(0, 0));
+    same(&rt, &start(&rt, &digest, b"a", 4, 9), &(3, 5));
+    same(&rt, &start(&rt, &digest, b"a", 5, 9), &(3, 5));
+    same(&rt, &start(&rt, &digest, b"a", 6, 9), &(0, 9));
+    same(&rt, &start(&rt, &digest, b"a", 3, 4), &(0, 4));
+    same(&rt, &start(&rt, &digest, b"b", 5, 9), &(0, 9));
 }
 
 /// What a node holds besides the first write of each of these.

@@ -75,7 +75,7 @@ fn own_version_in_digest(alloc: Global, me: Name) -> Result<u64, Fault> {
     table.push(Entry::new(key, 1, Slot::Set(Value::flag(true))))?;
     let holdings = Holdings::new(alloc, me, table)?;
     let digest = build(alloc, &holdings, None, true, BUDGET_LEAST)?;
-    Ok(digest.number(&me, 0))
+    Ok(digest.start(&me, 0, 1).after)
 }
 
 #[test]

@@ -19,6 +19,8 @@ mod kinds;
 #[cfg(test)]
 mod stages;
 #[cfg(test)]
+mod status;
+#[cfg(test)]
 mod table;
 #[cfg(test)]
 mod types;

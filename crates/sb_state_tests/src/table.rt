@@ -1,7 +1,7 @@
 //! Tables: what no clause states, and the greatest number of keys.
 ghost use Rattle.std.specs.Prelude.{◌≡◌, IfOk, map};
-ghost use Rattle.sb_types.specs.Runs.{above};
-ghost use Rattle.sb_table.specs.Order.{by_key, under};
+ghost use Rattle.sb_types.specs.Runs.{newer_entries};
+ghost use Rattle.sb_table.specs.Order.{by_key, entries_with_prefix};
 
 use crate::{entry, got, key, push, refusal, same, same_at, settled, weighing, weight};
 use sb_table::{Stage, Table};
@@ -56,7 +56,7 @@ fn shown_under(table: &Table, keys: [&[u8]; 3]) -> (usize, u64, [Found; 3]) {
 
 // What the iterators state reaches their callers.
 fn versions_after(alloc: Global, table: &Table, version: u64) -> Result<Vec<u64>, AllocError>
-    ensures { IfOk result (λ v. v.items ≡ map (λ e. e.version) (above version table.now.entries)) }
+    ensures { IfOk result (λ v. v.items ≡ map (λ e. e.version) (newer_entries version table.now.entries)) }
 {
     table
         .after(version)
@@ -65,7 +65,7 @@ fn versions_after(alloc: Global, table: &Table, version: u64) -> Result<Vec<u64>
 }
 
 fn versions_under(alloc: Global, table: &Table, prefix: &Prefix) -> Result<Vec<u64>, AllocError>
-    ensures { IfOk result (λ v. v.items ≡ map (λ e. e.version) (by_key (under prefix.now table.now.entries))) }
+    ensures { IfOk result (λ v. v.items ≡ map (λ e. e.version) (by_key (entries_with_prefix prefix.now table.now.entries))) }
 {
     table
         .prefix(prefix)

@@ -67,6 +67,18 @@ pub(crate) const DONE: &str = "13 0000000000000001";
 
 pub(crate) const REFUSED: &str = "14 0d";
 
+/// Asks how a node is, and how its peers are after the first three.
+pub(crate) const ASK_STATUS: &str = "15 0000000000000003";
+
+/// The status of the node a of the cluster c1, which runs 0.3.0. It is caught up and has three keys. Its one peer, b.sock,
+/// answered in its last round, which was the fourth.
+pub(crate) const NODE_STATUS: &str = "16 00 0161 026331 05302e332e30 0002 \
+    02 0000000000000001 06 0000000000000003 \
+    0001 06622e736f636b 01 0000000000000004";
+
+/// A status without figures. More peers follow, and it has none.
+pub(crate) const EMPTY_STATUS: &str = "16 01 0161 0161 0130 0000 0000";
+
 // The longest of their kinds: names of 32 bytes, keys of 64, and a text of 512.
 
 pub(crate) const LONGEST_HELLO: &str = "01 \
@@ -199,6 +211,26 @@ pub(crate) const WRONG: &[&str] = &[
     "14 00",
     "14 20",
     "14 0d 00",
+    // one byte less; one more byte
+    "15 00000000000003",
+    "15 0000000000000003 00",
+    // more is 2; a node and a cluster with a capital; no release; a release that is not UTF-8
+    "16 02 0161 0161 0130 0000 0000",
+    "16 01 0141 0161 0130 0000 0000",
+    "16 01 0161 0141 0130 0000 0000",
+    "16 01 0161 0161 00 0000 0000",
+    "16 01 0161 0161 01ff 0000 0000",
+    // a figure of the number 0; the numbers 2, then 1; 2 twice; a value of 7 bytes
+    "16 01 0161 0161 0130 0001 00 0000000000000001 0000",
+    "16 01 0161 0161 0130 0002 02 0000000000000001 01 0000000000000001 0000",
+    "16 01 0161 0161 0130 0002 02 0000000000000001 02 0000000000000001 0000",
+    "16 01 0161 0161 0130 0001 02 00000000000001 0000",
+    // no path; a path that is not UTF-8; a peer without its round; a peer that is missing; one more byte
+    "16 01 0161 0161 0130 0000 0001 00 01 0000000000000004",
+    "16 01 0161 0161 0130 0000 0001 01ff 01 0000000000000004",
+    "16 01 0161 0161 0130 0000 0001 0162 01",
+    "16 01 0161 0161 0130 0000 0002 0162 01 0000000000000004",
+    "16 01 0161 0161 0130 0000 0000 00",
 ];
 
 /// The head of the greatest delta.

@@ -4,7 +4,7 @@ use Rattle.std.proofs.lemmas.Bool.Decides.{nat_tests}
 use Rattle.std.specs.List.{AllWithin}
 use Rattle.std.specs.List.Sorted.{IsNonDecreasingBy}
 use Rattle.sb_types.specs.Records.{Entry}
-use Rattle.sb_types.specs.Runs.{above, are_ascending, last_version}
+use Rattle.sb_types.specs.Runs.{newer_entries, are_ascending, last_version}
 
 pub are_ascending-filter : (p : Entry → Bool) (low last : ℕ) (es : List Entry) → low ≤ last → are_ascending last es ≡ true → are_ascending low (filter p es) ≡ true
 are_ascending-filter p low last [] le up = refl
@@ -35,7 +35,7 @@ versions_rise last (x ∷ xs) up (suc i) zero d le lt = absurd (omega arith)
 versions_rise last (x ∷ xs) up (suc i) (suc j) d le lt = grind (arith, nat_tests, versions_rise x.version xs)
 
 -- where a place parts the versions up to v from those above it
-pub drop_at_place : (v i : ℕ) (es : List Entry) → AllWithin (λ e. leb e.version v ≡ true) es 0 i → AllWithin (λ e. leb e.version v ≡ false) es i (length es) → drop i es ≡ above v es
+pub drop_at_place : (v i : ℕ) (es : List Entry) → AllWithin (λ e. leb e.version v ≡ true) es 0 i → AllWithin (λ e. leb e.version v ≡ false) es i (length es) → drop i es ≡ newer_entries v es
 drop_at_place v zero [] upto behind = refl
 drop_at_place v (suc i) [] upto behind = refl
 drop_at_place v zero (x ∷ xs) upto behind =

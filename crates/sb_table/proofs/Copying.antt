@@ -5,12 +5,12 @@ use Rattle.std.proofs.lemmas.Cmp.{nat_list_eq_equiv}
 use Rattle.std.proofs.lemmas.List.Folds.{list_any-append}
 use Rattle.std.specs.Cmp.Lexicographic.{pointwise}
 use Rattle.sb_types.specs.Records.{Entry, Table}
-use Rattle.sb_types.specs.Runs.{above, are_ascending, are_distinct, has_key, last_version}
+use Rattle.sb_types.specs.Runs.{newer_entries, are_ascending, are_distinct, has_key, last_version}
 use Rattle.sb_table.specs.Plain.{IsPlainTable, plain_table, with_entry, is_full_for}
 use Rattle.sb_table.proofs.Enter.{without-none}
 use Rattle.sb_table.proofs.Plain.{plain_table-entered}
 
-pub above_all : (least last : ℕ) (es : List Entry) → least ≤ last → are_ascending last es ≡ true → above least es ≡ es
+pub above_all : (least last : ℕ) (es : List Entry) → least ≤ last → are_ascending last es ≡ true → newer_entries least es ≡ es
 above_all least last [] le up = refl
 above_all least last (x ∷ xs) le up = grind (arith, nat_tests, above_all least x.version xs)
 
@@ -28,7 +28,7 @@ pub record IsCopying (t copy : Table) (rest : List Entry) : Type 0 where
   pub parts : copy.entries ++ rest ≡ t.entries
   pub plain : copy ≡ plain_table copy.entries
 
-pub copying-begins : (t copy : Table) (rest : List Entry) → IsPlainTable t → copy ≡ plain_table [] → rest ≡ above 0 t.entries → IsCopying t copy rest
+pub copying-begins : (t copy : Table) (rest : List Entry) → IsPlainTable t → copy ≡ plain_table [] → rest ≡ newer_entries 0 t.entries → IsCopying t copy rest
 copying-begins t copy rest is new all = record {
   parts = ap (λ (c : Table). c.entries ++ rest) new ∙ all ∙ above_all 0 0 t.entries (omega arith) is.run.ascending;
   plain = new ∙ sym (ap (λ (c : Table). plain_table c.entries) new);

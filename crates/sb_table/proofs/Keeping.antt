@@ -6,10 +6,10 @@ use Rattle.sb_types.specs.declared.fault.Fault.TheVariants.{TableFull}
 use Rattle.sb_types.specs.Faults.{Gives}
 use Rattle.sb_types.specs.declared.limits.TheConstants.{KEYS_MOST}
 use Rattle.sb_types.specs.Records.{Entry, Table, Stage}
-use Rattle.sb_types.specs.Runs.{IsRun, above, up_to, under_keys_of, entered, has_key, is_set, live, are_ascending, are_distinct, last_version}
+use Rattle.sb_types.specs.Runs.{IsRun, newer_entries, entries_up_to, entries_with_keys, entries_after, has_key, is_set, live_entries, are_ascending, are_distinct, last_version}
 use Rattle.sb_types.proofs.Live.{live-live, live-above, live-entered}
 use Rattle.sb_table.specs.Plain.{IsPlainTable, plain_table, with_entry, is_full_for}
-use Rattle.sb_table.specs.Floors.{IsKeptTable, IsKeptStage, are_live, are_table_entries, merged, raised, stage_with_entry, swapped}
+use Rattle.sb_table.specs.Floors.{IsKeptTable, IsKeptStage, are_live, are_table_entries, merged_entries, table_at_floor, stage_with_entry, table_after_swap}
 use Rattle.sb_table.proofs.Order.{run_kept, run_entered}
 use Rattle.sb_table.proofs.Enter.{length-entered}
 use Rattle.sb_table.proofs.Plain.{IsPlainTable-with_entry}
@@ -21,7 +21,7 @@ lives floor entry = is_set entry.slot || nat_lt floor entry.version
 run_further : {a u v : ℕ} {es : List Entry} → u ≤ v → IsRun a u es → IsRun a v es
 run_further {a} {u} {v} {es} l r = record { ascending = r.ascending; most = omega (arith, r.most, l); distinct = r.distinct }
 
-pub kept-raised : (upto floor : ℕ) (t : Table) → IsKeptTable t → t.held ≤ upto → floor ≤ upto → IsKeptTable (raised upto floor t)
+pub kept-raised : (upto floor : ℕ) (t : Table) → IsKeptTable t → t.held ≤ upto → floor ≤ upto → IsKeptTable (table_at_floor upto floor t)
 kept-raised upto floor t kept further order = record {
   is = record {
     run = run_further further (run_kept (lives floor) kept.is.run);
@@ -33,33 +33,33 @@ kept-raised upto floor t kept further order = record {
 
 module _ (t : Table) (s : Stage) where
   module _ (kept : IsKeptTable t) (staged : IsKeptStage s) (beyond : t.held ≤ s.progress) where
-    pub kept-swapped : s.floor ≤ s.progress → IsKeptTable (swapped t s)
+    pub kept-swapped : s.floor ≤ s.progress → IsKeptTable (table_after_swap t s)
     kept-swapped reach = record {
       is = record {
         run = swapped_run kept.is.run staged.run s.floor beyond;
         floor = reach;
-        live = live-live s.floor (merged t.held s.entries t.entries);
+        live = live-live s.floor (merged_entries t.held s.entries t.entries);
       };
       limit = omega (arith, staged.limit, length-swapped kept.is.run staged.run s.floor);
     }
 
-    whole : IsPlainTable (plain_table (live s.floor (merged t.held s.entries t.entries)))
+    whole : IsPlainTable (plain_table (live_entries s.floor (merged_entries t.held s.entries t.entries)))
     whole = plain-run (swapped_run kept.is.run staged.run s.floor beyond) (omega (arith, staged.limit, length-swapped kept.is.run staged.run s.floor))
 
-    pub front-plain : IsPlainTable (plain_table (live s.floor (under_keys_of (up_to t.held s.entries) t.entries)))
-    front-plain = plain-run (run_kept (lives s.floor) (run_kept (λ entry. has_key entry.key (up_to t.held s.entries)) kept.is.run))
-        (omega (arith, kept.limit, length-filter_le (lives s.floor) (under_keys_of (up_to t.held s.entries) t.entries), length-filter_le (λ entry. has_key entry.key (up_to t.held s.entries)) t.entries))
+    pub front-plain : IsPlainTable (plain_table (live_entries s.floor (entries_with_keys (entries_up_to t.held s.entries) t.entries)))
+    front-plain = plain-run (run_kept (lives s.floor) (run_kept (λ entry. has_key entry.key (entries_up_to t.held s.entries)) kept.is.run))
+        (omega (arith, kept.limit, length-filter_le (lives s.floor) (entries_with_keys (entries_up_to t.held s.entries) t.entries), length-filter_le (λ entry. has_key entry.key (entries_up_to t.held s.entries)) t.entries))
 
-    pub both-plain : IsPlainTable (plain_table (live s.floor (under_keys_of (up_to t.held s.entries) t.entries) ++ live s.floor (above t.held s.entries)))
+    pub both-plain : IsPlainTable (plain_table (live_entries s.floor (entries_with_keys (entries_up_to t.held s.entries) t.entries) ++ live_entries s.floor (newer_entries t.held s.entries)))
     both-plain = subst (λ (es : List Entry). IsPlainTable (plain_table es)) (live-merged s.floor t.held s.entries t.entries) whole
 
-  pub joined-is : (new into : Table) → new ≡ plain_table [] → into ≡ plain_table (new.entries ++ live s.floor (under_keys_of (up_to t.held s.entries) t.entries))
-      → into.entries ≡ live s.floor (under_keys_of (up_to t.held s.entries) t.entries)
+  pub joined-is : (new into : Table) → new ≡ plain_table [] → into ≡ plain_table (new.entries ++ live_entries s.floor (entries_with_keys (entries_up_to t.held s.entries) t.entries))
+      → into.entries ≡ live_entries s.floor (entries_with_keys (entries_up_to t.held s.entries) t.entries)
   joined-is new into empty is =
-      ap (λ (u : Table). u.entries) is ∙ ap (λ (u : Table). u.entries ++ live s.floor (under_keys_of (up_to t.held s.entries) t.entries)) empty
+      ap (λ (u : Table). u.entries) is ∙ ap (λ (u : Table). u.entries ++ live_entries s.floor (entries_with_keys (entries_up_to t.held s.entries) t.entries)) empty
 
-  pub swapped-is : (into : Table) → into ≡ plain_table (live s.floor (under_keys_of (up_to t.held s.entries) t.entries) ++ live s.floor (above t.held s.entries))
-      → ◌≡◌ {A = Table} (swapped t s) (record { held = s.progress; floor = s.floor; entries = into.entries })
+  pub swapped-is : (into : Table) → into ≡ plain_table (live_entries s.floor (entries_with_keys (entries_up_to t.held s.entries) t.entries) ++ live_entries s.floor (newer_entries t.held s.entries))
+      → ◌≡◌ {A = Table} (table_after_swap t s) (record { held = s.progress; floor = s.floor; entries = into.entries })
   swapped-is into is =
       ap (λ (es : List Entry). let u : Table = record { held = s.progress; floor = s.floor; entries = es } in u)
       (live-merged s.floor t.held s.entries t.entries ∙ sym (ap (λ (u : Table). u.entries) is))
@@ -96,7 +96,7 @@ had_room (Err fault) full gives = tt
 
 -- what `push` leaves, whichever way it ends
 pub kept-pushed : (r : Result (Unit {0}) Fault) (old : Table) (new : Table) (e : Entry) (upto floor : ℕ) (n : ℕ)
-    → OnOk r ((new.entries ≡ entered old.entries (e ∷ [])) × (n ≡ e.version)) → OnErr r ((new ≡ old) × (n ≡ upto))
+    → OnOk r ((new.entries ≡ entries_after old.entries (e ∷ [])) × (n ≡ e.version)) → OnErr r ((new ≡ old) × (n ≡ upto))
     → IsKeptTable (record { held = upto; floor = floor; entries = old.entries }) → upto < e.version → OnOk r (is_full_for e.key old.entries ≡ false)
     → IsKeptTable (record { held = n; floor = floor; entries = new.entries })
 kept-pushed (Ok u) old new e upto floor n ok err kept later room =
@@ -105,7 +105,7 @@ kept-pushed (Err fault) old new e upto floor n ok err kept later room = rw (ap (
 
 -- a table that has no floor has none then
 pub plain-pushed : (r : Result (Unit {0}) Fault) (old : Table) (new : Table) (e : Entry) (upto floor : ℕ) (n : ℕ)
-    → OnOk r ((new.entries ≡ entered old.entries (e ∷ [])) × (n ≡ e.version)) → OnErr r ((new ≡ old) × (n ≡ upto))
+    → OnOk r ((new.entries ≡ entries_after old.entries (e ∷ [])) × (n ≡ e.version)) → OnErr r ((new ≡ old) × (n ≡ upto))
     → IsPlainTable (record { held = upto; floor = floor; entries = old.entries }) → upto < e.version → OnOk r (is_full_for e.key old.entries ≡ false)
     → IsPlainTable (record { held = n; floor = floor; entries = new.entries })
 plain-pushed (Ok u) old new e upto floor n ok err plain later room =
@@ -113,14 +113,14 @@ plain-pushed (Ok u) old new e upto floor n ok err plain later room =
 plain-pushed (Err fault) old new e upto floor n ok err plain later room = rw (ap (λ (t : Table). t.entries) err.0, err.1) plain
 
 pub kept-stage_pushed : (r : Result (Unit {0}) Fault) (old : Table) (new : Table) (e : Entry) (progress floor : ℕ) (n : ℕ)
-    → OnOk r ((new.entries ≡ entered old.entries (e ∷ [])) × (n ≡ e.version)) → OnErr r ((new ≡ old) × (n ≡ progress))
+    → OnOk r ((new.entries ≡ entries_after old.entries (e ∷ [])) × (n ≡ e.version)) → OnErr r ((new ≡ old) × (n ≡ progress))
     → IsKeptStage (record { floor = floor; progress = progress; entries = old.entries }) → progress < e.version → OnOk r (is_full_for e.key old.entries ≡ false)
     → IsKeptStage (record { floor = floor; progress = n; entries = new.entries })
 kept-stage_pushed (Ok u) old new e progress floor n ok err kept later room =
     rw (ok.0, ok.1) (kept-stage_with_entry (stage_of floor progress old.entries) e kept later room)
 kept-stage_pushed (Err fault) old new e progress floor n ok err kept later room = rw (ap (λ (t : Table). t.entries) err.0, err.1) kept
 
-live-are_live : (floor : ℕ) (es : List Entry) → are_live floor es ≡ true → live floor es ≡ es
+live-are_live : (floor : ℕ) (es : List Entry) → are_live floor es ≡ true → live_entries floor es ≡ es
 live-are_live floor [] each = refl
 live-are_live floor (x ∷ xs) each = grind (arith, live-are_live floor xs)
 

@@ -4,7 +4,7 @@ use Rattle.std.proofs.lemmas.Bool.{or_parts}
 use Rattle.std.proofs.lemmas.Cmp.{nat_list_eq_equiv}
 use Rattle.std.specs.Cmp.Lexicographic.{pointwise, bytes_decides}
 use Rattle.sb_types.specs.Records.{Entry}
-use Rattle.sb_types.specs.Runs.{Stands, are_distinct, entered, entry_at, has_key}
+use Rattle.sb_types.specs.Runs.{Stands, are_distinct, entries_after, entry_at, has_key}
 
 pub Stands-entry_at : (key : List ℕ) (es : List Entry) (e : Entry) → entry_at key es ≡ Some e → Stands es e
 Stands-entry_at key [] e found = absurd (cc)
@@ -31,10 +31,10 @@ pub entry_at-none : (key : List ℕ) (es : List Entry) → has_key key es ≡ fa
 entry_at-none key [] none = refl
 entry_at-none key (x ∷ xs) none = grind (arith, entry_at-none key xs)
 
-pub entry_at-entered_same : (es : List Entry) (e : Entry) → entry_at e.key (entered es (e ∷ [])) ≡ Some e
+pub entry_at-entered_same : (es : List Entry) (e : Entry) → entry_at e.key (entries_after es (e ∷ [])) ≡ Some e
 entry_at-entered_same [] e = grind (arith, nat_list_eq_equiv.refl e.key)
 entry_at-entered_same (x ∷ xs) e = grind (arith, nat_list_eq_equiv.symm x.key e.key, entry_at-entered_same xs e)
 
-pub entry_at-entered_other : (key : List ℕ) (es : List Entry) (e : Entry) → key ≢ e.key → entry_at key (entered es (e ∷ [])) ≡ entry_at key es
+pub entry_at-entered_other : (key : List ℕ) (es : List Entry) (e : Entry) → key ≢ e.key → entry_at key (entries_after es (e ∷ [])) ≡ entry_at key es
 entry_at-entered_other key [] e other = grind (arith, bytes_decides e.key key)
 entry_at-entered_other key (x ∷ xs) e other = grind (arith, bytes_decides e.key x.key, bytes_decides x.key key, entry_at-entered_other key xs e)

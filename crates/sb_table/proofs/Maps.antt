@@ -14,7 +14,7 @@ use Rattle.std.specs.BTreeMap.Range.{entries_between, range_contains}
 use Rattle.std.specs.declared.cmp.Ordering.TheVariants.{Greater}
 use Rattle.std.specs.declared.ops.Bound.TheVariants.{Excluded, Unbounded}
 use Rattle.sb_types.specs.Records.{Entry}
-use Rattle.sb_types.specs.Runs.{Stands, above, are_ascending, are_distinct, entered, entry_at, has_key, last_version}
+use Rattle.sb_types.specs.Runs.{Stands, newer_entries, are_ascending, are_distinct, entries_after, entry_at, has_key, last_version}
 use Rattle.sb_table.specs.Plain.{IsPlainTable, plain_table, version_and_slot}
 use Rattle.sb_table.specs.Maps.{with_versions, version_at, Agree}
 use Rattle.sb_table.proofs.Enter.{without-none}
@@ -109,7 +109,7 @@ values-filter p (x ∷ xs) = values-cond (p x.version) x (filter (λ at. p at.0)
 less_number : (m n : ℕ) → (is_lt (nat_cmp m n) && true) ≡ nat_lt m n
 less_number m n = grind (arith, nat_tests)
 
-pub values-above : (v : ℕ) (es : List Entry) → values_of (entries_between nat_cmp (Excluded v) Unbounded (with_versions es)) ≡ above v es
+pub values-above : (v : ℕ) (es : List Entry) → values_of (entries_between nat_cmp (Excluded v) Unbounded (with_versions es)) ≡ newer_entries v es
 values-above v es =
     values-filter (λ n. range_contains nat_cmp (Excluded v) Unbounded n) es
     ∙ filter_agree (λ e. range_contains nat_cmp (Excluded v) Unbounded e.version) (λ e. nat_lt v e.version) (λ e. less_number v e.version) es
@@ -152,20 +152,20 @@ remove-last low (x ∷ xs) e up later =
     rw behind (in_front-of x (remove-last x.version xs e parts.1 later))
 
 remove-here : (x : Entry) (xs : List Entry) (e : Entry) → pointwise nat_eq x.key e.key ≡ true → has_key x.key xs ≡ false
-    → remove_entry (is_at (nat_cmp x.version)) (with_versions (x ∷ xs ++ e ∷ [])) ≡ with_versions (entered (x ∷ xs) (e ∷ []))
+    → remove_entry (is_at (nat_cmp x.version)) (with_versions (x ∷ xs ++ e ∷ [])) ≡ with_versions (entries_after (x ∷ xs) (e ∷ []))
 remove-here x xs e here alone =
     let none : has_key e.key xs ≡ false = ap (λ (key : List ℕ). has_key key xs) (sym ((bytes_decides x.key e.key).0 here)) ∙ alone in
     let others = without-none e xs none in
     grind (arith, nat_tests, at_number x.version x.version, nat_list_eq_equiv.symm x.key e.key)
 
 remove-behind : (x : Entry) (xs : List Entry) (e : Entry) (v : ℕ) → pointwise nat_eq x.key e.key ≡ false → x.version < v
-    → remove_entry (is_at (nat_cmp v)) (with_versions (xs ++ e ∷ [])) ≡ with_versions (entered xs (e ∷ []))
-    → remove_entry (is_at (nat_cmp v)) (with_versions (x ∷ xs ++ e ∷ [])) ≡ with_versions (entered (x ∷ xs) (e ∷ []))
+    → remove_entry (is_at (nat_cmp v)) (with_versions (xs ++ e ∷ [])) ≡ with_versions (entries_after xs (e ∷ []))
+    → remove_entry (is_at (nat_cmp v)) (with_versions (x ∷ xs ++ e ∷ [])) ≡ with_versions (entries_after (x ∷ xs) (e ∷ []))
 remove-behind x xs e v other later rest = grind (arith, greater v x.version, nat_list_eq_equiv.symm x.key e.key)
 
 -- what stood under the key goes
 remove-old : (low : ℕ) (es : List Entry) (e : Entry) (v : ℕ) → are_ascending low es ≡ true → are_distinct es ≡ true → version_at e.key es ≡ Some v
-    → remove_entry (is_at (nat_cmp v)) (with_versions (es ++ e ∷ [])) ≡ with_versions (entered es (e ∷ []))
+    → remove_entry (is_at (nat_cmp v)) (with_versions (es ++ e ∷ [])) ≡ with_versions (entries_after es (e ∷ []))
 remove-old low [] e v up apart is = absurd (cc)
 remove-old low (x ∷ xs) e v up apart is =
     let rises = and_parts (nat_lt low x.version) (are_ascending x.version xs) up in
@@ -173,7 +173,7 @@ remove-old low (x ∷ xs) e v up apart is =
     ⊎_elim
     (λ here.
     let first : x.version ≡ v = grind arith in
-    subst (λ (n : ℕ). remove_entry (is_at (nat_cmp n)) (with_versions (x ∷ xs ++ e ∷ [])) ≡ with_versions (entered (x ∷ xs) (e ∷ []))) first
+    subst (λ (n : ℕ). remove_entry (is_at (nat_cmp n)) (with_versions (x ∷ xs ++ e ∷ [])) ≡ with_versions (entries_after (x ∷ xs) (e ∷ []))) first
     (remove-here x xs e here (not-true (has_key x.key xs) parts.0)))
     (λ other.
     let behind : version_at e.key xs ≡ Some v = grind arith in
@@ -182,7 +182,7 @@ remove-old low (x ∷ xs) e v up apart is =
     remove-behind x xs e v other later (remove-old x.version xs e v rises.1 parts.1 behind))
     (cases_Bool (pointwise nat_eq x.key e.key))
 
-entered-new : (es : List Entry) (e : Entry) → version_at e.key es ≡ None → es ++ e ∷ [] ≡ entered es (e ∷ [])
+entered-new : (es : List Entry) (e : Entry) → version_at e.key es ≡ None → es ++ e ∷ [] ≡ entries_after es (e ∷ [])
 entered-new es e none = ap (λ (xs : List Entry). xs ++ e ∷ []) (sym (without-none e es (sym (has_key-version e.key es) ∙ ap is_some none)))
 
 abbrev pub Keyed : List (List ℕ × ℕ) → List Entry → Type 0
@@ -190,10 +190,10 @@ Keyed versions es = (key : List ℕ) → lookup (is_at (slice_cmp nat_cmp key)) 
 
 pub Keyed-entered : (es : List Entry) (e : Entry) (old new : List (List ℕ × ℕ)) → Keyed old es
     → ((key : List ℕ) → lookup (is_at (slice_cmp nat_cmp key)) new ≡ cond (is_at (slice_cmp nat_cmp e.key) key) (Some e.version) (lookup (is_at (slice_cmp nat_cmp key)) old))
-    → Keyed new (entered es (e ∷ []))
+    → Keyed new (entries_after es (e ∷ []))
 Keyed-entered es e old new keyed updated key =
-    updated key ∙ cond_both (is_at (slice_cmp nat_cmp e.key) key) (Some e.version) (lookup (is_at (slice_cmp nat_cmp key)) old) (λ (o : Option ℕ). o ≡ version_at key (entered es (e ∷ [])))
-    (λ same. subst (λ (q : List ℕ). Some e.version ≡ version_at q (entered es (e ∷ []))) ((bytes_decides e.key key).0 (texts_ties e.key key ∙ same))
+    updated key ∙ cond_both (is_at (slice_cmp nat_cmp e.key) key) (Some e.version) (lookup (is_at (slice_cmp nat_cmp key)) old) (λ (o : Option ℕ). o ≡ version_at key (entries_after es (e ∷ [])))
+    (λ same. subst (λ (q : List ℕ). Some e.version ≡ version_at q (entries_after es (e ∷ []))) ((bytes_decides e.key key).0 (texts_ties e.key key ∙ same))
     (ap (option_map (λ x. x.version)) (sym (entry_at-entered_same es e))))
     (λ apart. keyed key ∙ ap (option_map (λ x. x.version)) (sym (entry_at-entered_other key es e (λ is.
     let both : true ≡ false = sym ((bytes_decides e.key key).1 (sym is)) ∙ texts_ties e.key key ∙ apart in
@@ -221,16 +221,16 @@ module _ (m0 m1 : List (ℕ × Entry)) (old new : List (List ℕ × ℕ)) (e : E
       inserted ∙ ap (λ (m : List (ℕ × Entry)). insert_entry nat_cmp m e.version e) agree.with_versions ∙ insert-last 0 (values_of m0) e plain.run.ascending later
 
   -- the key is new
-  pub AreOf-added : Takes e old new → lookup (is_at (slice_cmp nat_cmp e.key)) old ≡ None → AreOf m1 new (entered (values_of m0) (e ∷ []))
+  pub AreOf-added : Takes e old new → lookup (is_at (slice_cmp nat_cmp e.key)) old ≡ None → AreOf m1 new (entries_after (values_of m0) (e ∷ []))
   AreOf-added takes none =
-      AreOf-with_versions m1 new (entered (values_of m0) (e ∷ [])) (inserted-last ∙ ap with_versions (entered-new (values_of m0) e (sym (agree.keyed e.key) ∙ none)))
+      AreOf-with_versions m1 new (entries_after (values_of m0) (e ∷ [])) (inserted-last ∙ ap with_versions (entered-new (values_of m0) e (sym (agree.keyed e.key) ∙ none)))
       (Keyed-entered (values_of m0) e old new agree.keyed takes)
 
   -- the key had an entry, which goes
   pub AreOf-replaced : (v : ℕ) (m2 : List (ℕ × Entry)) → Takes e old new → lookup (is_at (slice_cmp nat_cmp e.key)) old ≡ Some v → m2 ≡ remove_entry (is_at (nat_cmp v)) m1
-      → AreOf m2 new (entered (values_of m0) (e ∷ []))
+      → AreOf m2 new (entries_after (values_of m0) (e ∷ []))
   AreOf-replaced v m2 takes some removed =
-      AreOf-with_versions m2 new (entered (values_of m0) (e ∷ []))
+      AreOf-with_versions m2 new (entries_after (values_of m0) (e ∷ []))
       (removed ∙ ap (remove_entry (is_at (nat_cmp v))) inserted-last
       ∙ remove-old 0 (values_of m0) e v plain.run.ascending plain.run.distinct (sym (agree.keyed e.key) ∙ some))
       (Keyed-entered (values_of m0) e old new agree.keyed takes)

@@ -7,10 +7,10 @@ use Rattle.std.proofs.lemmas.List.Elements.{filter-append}
 use Rattle.std.specs.Cmp.Lexicographic.{pointwise, bytes_decides}
 use Rattle.sb_types.specs.declared.limits.TheConstants.{KEYS_MOST}
 use Rattle.sb_types.specs.Records.{Entry, Table}
-use Rattle.sb_types.specs.Runs.{Stands, IsRun, above, up_to, under_keys_of, are_distinct, has_key, is_set, live}
+use Rattle.sb_types.specs.Runs.{Stands, IsRun, newer_entries, entries_up_to, entries_with_keys, are_distinct, has_key, is_set, live_entries}
 use Rattle.sb_types.proofs.Standing.{of_only, of_within, of_above}
 use Rattle.sb_table.specs.Plain.{IsPlainTable, plain_table}
-use Rattle.sb_table.specs.Floors.{is_dead, merged}
+use Rattle.sb_table.specs.Floors.{is_dead, merged_entries}
 use Rattle.sb_table.proofs.Copying.{IsCopying}
 use Rattle.sb_table.proofs.Order.{run_one, run_kept, run_above, run_joined}
 
@@ -38,45 +38,45 @@ either_under : (p q : Entry → Bool) (es : List Entry) → length (filter (λ e
 either_under p q [] = omega arith
 either_under p q (x ∷ xs) = grind (arith, either_under p q xs)
 
-none_kept : (es : List Entry) → length (under_keys_of [] es) ≤ 0
+none_kept : (es : List Entry) → length (entries_with_keys [] es) ≤ 0
 none_kept [] = omega arith
 none_kept (x ∷ xs) = none_kept xs
 
-pub length-under : (others es : List Entry) → are_distinct es ≡ true → length (under_keys_of others es) ≤ length others
+pub length-under : (others es : List Entry) → are_distinct es ≡ true → length (entries_with_keys others es) ≤ length others
 length-under [] es apart = none_kept es
 length-under (o ∷ os) es apart =
     omega (arith, either_under (λ e. pointwise nat_eq o.key e.key) (λ e. has_key e.key os) es, one_under o.key es apart, length-under os es apart)
 
-parted : (v : ℕ) (es : List Entry) → length (up_to v es) + length (above v es) ≡ length es
+parted : (v : ℕ) (es : List Entry) → length (entries_up_to v es) + length (newer_entries v es) ≡ length es
 parted v [] = refl
 parted v (x ∷ xs) = grind (arith, nat_tests, parted v xs)
 
 -- ---- both together
 
 module _ {held progress : ℕ} {shown staged : List Entry} (r : IsRun 0 held shown) (q : IsRun 0 progress staged) where
-  merged_run : held ≤ progress → IsRun 0 progress (merged held staged shown)
-  merged_run l = run_joined (run_kept (λ entry. has_key entry.key (up_to held staged)) r) (run_above held l q) apart
+  merged_run : held ≤ progress → IsRun 0 progress (merged_entries held staged shown)
+  merged_run l = run_joined (run_kept (λ entry. has_key entry.key (entries_up_to held staged)) r) (run_above held l q) apart
     where
-      apart : (x y : Entry) → Stands (under_keys_of (up_to held staged) shown) x → Stands (above held staged) y → x.key ≡ y.key → ⊥
+      apart : (x y : Entry) → Stands (entries_with_keys (entries_up_to held staged) shown) x → Stands (newer_entries held staged) y → x.key ≡ y.key → ⊥
       apart x y s t k =
-          let o = (of_only (up_to held staged) shown x s).1 in
+          let o = (of_only (entries_up_to held staged) shown x s).1 in
           let low = of_within held staged o.0 o.1 in
           let high = of_above held staged y t in
           omega (arith, low.1, high.1, ap (λ (e : Entry). e.version) (run_one o.0 y q low.0 high.0 (o.2 ∙ k)))
 
-  pub length-merged : length (merged held staged shown) ≤ length staged
+  pub length-merged : length (merged_entries held staged shown) ≤ length staged
   length-merged =
-      omega (arith, length-append (under_keys_of (up_to held staged) shown) (above held staged), length-under (up_to held staged) shown r.distinct, parted held staged)
+      omega (arith, length-append (entries_with_keys (entries_up_to held staged) shown) (newer_entries held staged), length-under (entries_up_to held staged) shown r.distinct, parted held staged)
 
-  pub swapped_run : (floor : ℕ) → held ≤ progress → IsRun 0 progress (live floor (merged held staged shown))
+  pub swapped_run : (floor : ℕ) → held ≤ progress → IsRun 0 progress (live_entries floor (merged_entries held staged shown))
   swapped_run floor l = run_kept _ (merged_run l)
 
-  pub length-swapped : (floor : ℕ) → length (live floor (merged held staged shown)) ≤ length staged
-  length-swapped floor = omega (arith, length-filter_le (λ entry. is_set entry.slot || nat_lt floor entry.version) (merged held staged shown), length-merged)
+  pub length-swapped : (floor : ℕ) → length (live_entries floor (merged_entries held staged shown)) ≤ length staged
+  length-swapped floor = omega (arith, length-filter_le (λ entry. is_set entry.slot || nat_lt floor entry.version) (merged_entries held staged shown), length-merged)
 
 pub live-merged : (floor held : ℕ) (staged shown : List Entry)
-    → live floor (merged held staged shown) ≡ live floor (under_keys_of (up_to held staged) shown) ++ live floor (above held staged)
-live-merged floor held staged shown = filter-append _ (under_keys_of (up_to held staged) shown) (above held staged)
+    → live_entries floor (merged_entries held staged shown) ≡ live_entries floor (entries_with_keys (entries_up_to held staged) shown) ++ live_entries floor (newer_entries held staged)
+live-merged floor held staged shown = filter-append _ (entries_with_keys (entries_up_to held staged) shown) (newer_entries held staged)
 
 pub plain-run : {u : ℕ} {es : List Entry} → IsRun 0 u es → length es ≤ KEYS_MOST → IsPlainTable (plain_table es)
 plain-run {u} {es} r l = record {
@@ -89,21 +89,21 @@ plain-run {u} {es} r l = record {
 -- ---- what is kept of the next entry
 
 pub kept_shown : (floor : ℕ) (others : List Entry) (e : Entry) (rest : List Entry) → has_key e.key others ≡ true → is_dead floor e ≡ false
-    → live floor (under_keys_of others (e ∷ rest)) ≡ e ∷ live floor (under_keys_of others rest)
+    → live_entries floor (entries_with_keys others (e ∷ rest)) ≡ e ∷ live_entries floor (entries_with_keys others rest)
 kept_shown floor others e rest has lives = grind arith
 
 pub left_shown : (floor : ℕ) (others : List Entry) (e : Entry) (rest : List Entry) → has_key e.key others ≡ false
-    → live floor (under_keys_of others (e ∷ rest)) ≡ live floor (under_keys_of others rest)
+    → live_entries floor (entries_with_keys others (e ∷ rest)) ≡ live_entries floor (entries_with_keys others rest)
 left_shown floor others e rest lacks = grind arith
 
 pub dead_shown : (floor : ℕ) (others : List Entry) (e : Entry) (rest : List Entry) → is_dead floor e ≡ true
-    → live floor (under_keys_of others (e ∷ rest)) ≡ live floor (under_keys_of others rest)
+    → live_entries floor (entries_with_keys others (e ∷ rest)) ≡ live_entries floor (entries_with_keys others rest)
 dead_shown floor others e rest dead = grind arith
 
-pub kept_staged : (floor : ℕ) (e : Entry) (rest : List Entry) → is_dead floor e ≡ false → live floor (e ∷ rest) ≡ e ∷ live floor rest
+pub kept_staged : (floor : ℕ) (e : Entry) (rest : List Entry) → is_dead floor e ≡ false → live_entries floor (e ∷ rest) ≡ e ∷ live_entries floor rest
 kept_staged floor e rest lives = grind arith
 
-pub dead_staged : (floor : ℕ) (e : Entry) (rest : List Entry) → is_dead floor e ≡ true → live floor (e ∷ rest) ≡ live floor rest
+pub dead_staged : (floor : ℕ) (e : Entry) (rest : List Entry) → is_dead floor e ≡ true → live_entries floor (e ∷ rest) ≡ live_entries floor rest
 dead_staged floor e rest dead = grind arith
 
 pub same_ok : {X E : Type 0} {a b : X} → ◌≡◌ {A = Result X E} (Ok a) (Ok b) → a ≡ b

@@ -2,7 +2,7 @@
 use Rattle.std.proofs.Common.{◌≡◌, ℕ, suc, zero, ◌<◌, ◌≤◌, Bool, true, false, cond, not, List, [], ◌∷◌, ◌++◌, take, filter, inl, inr, ⊎_elim, refl, sym, ap, ◌∙◌, nat_lt, arith, lt-ltb, ltb-true}
 use Rattle.std.proofs.lemmas.Bool.{and_parts, and_from, not_from_false}
 use Rattle.sb_types.specs.Records.{Entry}
-use Rattle.sb_types.specs.Runs.{Stands, are_ascending, has_key, are_distinct, last_version, above, entered, IsRun}
+use Rattle.sb_types.specs.Runs.{Stands, are_ascending, has_key, are_distinct, last_version, newer_entries, entries_after, IsRun}
 use Rattle.sb_types.proofs.Standing.{either, taken, of_kept, lacks, not_there, of_above}
 
 -- ---- ascending
@@ -119,12 +119,12 @@ run_kept {a} {u} {es} p r = record {
   distinct = distinct_kept p es r.distinct;
 }
 
-pub run_above : {a u : ℕ} {es : List Entry} (v : ℕ) → v ≤ u → IsRun a u es → IsRun v u (above v es)
+pub run_above : {a u : ℕ} {es : List Entry} (v : ℕ) → v ≤ u → IsRun a u es → IsRun v u (newer_entries v es)
 run_above {a} {u} {es} v l r =
     let k = run_kept (λ entry. nat_lt v entry.version) r in
     record {
-      ascending = ascending_above a v (above v es) k.ascending (λ e s. (of_above v es e s).1);
-      most = at_most v u (above v es) l (λ e s. run_upto e k s);
+      ascending = ascending_above a v (newer_entries v es) k.ascending (λ e s. (of_above v es e s).1);
+      most = at_most v u (newer_entries v es) l (λ e s. run_upto e k s);
       distinct = k.distinct;
     }
 
@@ -147,7 +147,7 @@ run_joined {a} {m} {u} {xs} {ys} r t apart = record {
   distinct = distinct_joined xs ys r.distinct t.distinct apart;
 }
 
-pub run_entered : {a m u : ℕ} {es bs : List Entry} → IsRun a m es → IsRun m u bs → IsRun a u (entered es bs)
+pub run_entered : {a m u : ℕ} {es bs : List Entry} → IsRun a m es → IsRun m u bs → IsRun a u (entries_after es bs)
 run_entered {a} {m} {u} {es} {bs} r t =
     run_joined (run_kept (λ entry. not (has_key entry.key bs)) r) t
     (λ x y s b k. not_there x.key bs y (of_kept _ es x s).1 b (sym k))

@@ -21,8 +21,8 @@ use Rattle.sb_types.specs.Text.{is_between, is_key, is_key_byte, is_prefix}
 use Rattle.sb_types.specs.Limits.{text_lt}
 use Rattle.sb_types.specs.Records.{Entry}
 use Rattle.sb_types.specs.Runs.{Stands, are_ascending, are_distinct}
-use Rattle.sb_table.specs.Order.{by_key, under}
-use Rattle.sb_table.specs.Maps.{with_versions, version_at, in_front, reached, Ends}
+use Rattle.sb_table.specs.Order.{by_key, entries_with_prefix}
+use Rattle.sb_table.specs.Maps.{with_versions, version_at, in_front, entries_under, Ends}
 use Rattle.sb_table.proofs.ByKey.{is_left, entries_left, entries_left-first, none_left}
 use Rattle.sb_table.proofs.Lookup.{Stands-entry_at, key-entry_at, entry_at-stands}
 use Rattle.sb_table.proofs.Maps.{Keyed, Found, entry-version, lookup-version}
@@ -105,10 +105,10 @@ module _ (prefix : List ℕ) (es : List Entry) (up : are_ascending 0 es ≡ true
       (cases_Bool (is_left prefix last x.key))))
 
   reached-more : (at : List ℕ × ℕ) (others : List (List ℕ × ℕ)) (last : Option (List ℕ)) → IsRest last (at ∷ others)
-      → (IsRest (Some at.0) others → reached prefix (with_versions es) others ≡ entries_left prefix (Some at.0) es)
-      → reached prefix (with_versions es) (at ∷ others) ≡ entries_left prefix last es
+      → (IsRest (Some at.0) others → entries_under prefix (with_versions es) others ≡ entries_left prefix (Some at.0) es)
+      → entries_under prefix (with_versions es) (at ∷ others) ≡ entries_left prefix last es
   reached-more at others last rest after =
-      cond_both (starts_with nat_eq at.0 prefix) (in_front (lookup (is_at (nat_cmp at.1)) (with_versions es)) (reached prefix (with_versions es) others)) []
+      cond_both (starts_with nat_eq at.0 prefix) (in_front (lookup (is_at (nat_cmp at.1)) (with_versions es)) (entries_under prefix (with_versions es) others)) []
       (λ (got : List Entry). got ≡ entries_left prefix last es) more (λ unlike. sym (nothing last (done unlike)))
     where
       found : Found at.0 at.1 es
@@ -128,7 +128,7 @@ module _ (prefix : List ℕ) (es : List Entry) (up : are_ascending 0 es ≡ true
           (λ none. none)
           (cases_Bool (is_left prefix last x.key))
 
-      more : starts_with nat_eq at.0 prefix ≡ true → in_front (lookup (is_at (nat_cmp at.1)) (with_versions es)) (reached prefix (with_versions es) others) ≡ entries_left prefix last es
+      more : starts_with nat_eq at.0 prefix ≡ true → in_front (lookup (is_at (nat_cmp at.1)) (with_versions es)) (entries_under prefix (with_versions es) others) ≡ entries_left prefix last es
       more starts =
           let left = rest.behind.0 starts in
           let next : IsRest (Some at.0) others = record {
@@ -142,11 +142,11 @@ module _ (prefix : List ℕ) (es : List Entry) (up : are_ascending 0 es ≡ true
           λ x stands there. subst (λ (q : List ℕ). text_lt x.key q ≡ false) (sym key) (from x stands there) in
           let first = entries_left-first prefix last found.entry es apart (Stands-entry_at at.0 es found.entry found.at)
           (subst (λ (q : List ℕ). is_left prefix last q ≡ true) (sym key) left) least in
-          ap (λ (o : Option Entry). in_front o (reached prefix (with_versions es) others)) (lookup-version at.0 at.1 es up rest.part.2 ∙ found.at)
+          ap (λ (o : Option Entry). in_front o (entries_under prefix (with_versions es) others)) (lookup-version at.0 at.1 es up rest.part.2 ∙ found.at)
           ∙ ap (λ (xs : List Entry). found.entry ∷ xs) (after next ∙ ap (λ (q : List ℕ). entries_left prefix (Some q) es) (sym key))
           ∙ sym first
 
-  pub reached-left : (vs : List (List ℕ × ℕ)) (last : Option (List ℕ)) → IsRest last vs → reached prefix (with_versions es) vs ≡ entries_left prefix last es
+  pub reached-left : (vs : List (List ℕ × ℕ)) (last : Option (List ℕ)) → IsRest last vs → entries_under prefix (with_versions es) vs ≡ entries_left prefix last es
   reached-left [] last rest = reached-none last rest
   reached-left (at ∷ others) last rest = reached-more at others last rest (λ next. reached-left others (Some at.0) next)
 
@@ -156,8 +156,8 @@ module _ (prefix : List ℕ) (es : List Entry) (up : are_ascending 0 es ≡ true
   part-of [] sorted from each = tt
   part-of (at ∷ others) sorted from each = (sorted.0, from.0, each.0, part-of others sorted.1 from.1 each.1)
 
-  once : (at next : List ℕ × ℕ) (others : List (List ℕ × ℕ)) → IsPart prefix es (at ∷ next ∷ others) → reached prefix (with_versions es) (at ∷ next ∷ others) ≡ []
-      → reached prefix (with_versions es) (next ∷ others) ≡ []
+  once : (at next : List ℕ × ℕ) (others : List (List ℕ × ℕ)) → IsPart prefix es (at ∷ next ∷ others) → entries_under prefix (with_versions es) (at ∷ next ∷ others) ≡ []
+      → entries_under prefix (with_versions es) (next ∷ others) ≡ []
   once at next others part none =
       let found = entry-version at.0 at.1 es part.2 in
       let there : lookup (is_at (nat_cmp at.1)) (with_versions es) ≡ Some found.entry = lookup-version at.0 at.1 es up part.2 ∙ found.at in
@@ -165,8 +165,8 @@ module _ (prefix : List ℕ) (es : List Entry) (up : are_ascending 0 es ≡ true
       ⊎_elim
       (λ starts.
       let here : starts_with nat_eq at.0 prefix ≡ true = starts-between prefix at.0 next.0 part.1 later starts in
-      let some : reached prefix (with_versions es) (at ∷ next ∷ others) ≡ found.entry ∷ reached prefix (with_versions es) (next ∷ others) = rw (here, there) refl in
-      let both : found.entry ∷ reached prefix (with_versions es) (next ∷ others) ≡ [] = sym some ∙ none in
+      let some : entries_under prefix (with_versions es) (at ∷ next ∷ others) ≡ found.entry ∷ entries_under prefix (with_versions es) (next ∷ others) = rw (here, there) refl in
+      let both : found.entry ∷ entries_under prefix (with_versions es) (next ∷ others) ≡ [] = sym some ∙ none in
       absurd (cc))
       (λ other. rw other refl)
       (cases_Bool (starts_with nat_eq next.0 prefix))
@@ -209,7 +209,7 @@ module _ (prefix : List ℕ) (es : List Entry) (up : are_ascending 0 es ≡ true
       Ends-under = Ends-part vs part-under
 
       -- what is reached is what is under it
-      pub reached-under : reached prefix (with_versions es) vs ≡ by_key (under prefix es)
+      pub reached-under : entries_under prefix (with_versions es) vs ≡ by_key (entries_with_prefix prefix es)
       reached-under = reached-left vs None (record {
         part = part-under;
         keyed = λ q starts.

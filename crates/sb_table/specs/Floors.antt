@@ -6,35 +6,35 @@ use Rattle.sb_types.specs.declared.fault.Fault.{Fault}
 use Rattle.sb_types.specs.declared.fault.Fault.TheVariants.{TableFull, LogDamaged}
 use Rattle.sb_types.specs.declared.limits.TheConstants.{KEYS_MOST}
 use Rattle.sb_types.specs.Records.{Entry, Table, Stage}
-use Rattle.sb_types.specs.Runs.{IsRun, IsTable, above, up_to, under_keys_of, are_ascending, are_distinct, last_version, entered, is_set, live}
+use Rattle.sb_types.specs.Runs.{IsRun, IsTable, newer_entries, entries_up_to, entries_with_keys, are_ascending, are_distinct, last_version, entries_after, is_set, live_entries}
 
 -- a tombstone (the marker of a removed key) at or below the floor
 abbrev pub is_dead : ℕ → Entry → Bool
 is_dead floor e = not (is_set e.slot || nat_lt floor e.version)
 
 -- the entries of other keys
-abbrev pub outside : List ℕ → List Entry → List Entry
-outside key entries = filter (λ entry. not (pointwise nat_eq entry.key key)) entries
+abbrev pub entries_without_key : List ℕ → List Entry → List Entry
+entries_without_key key entries = filter (λ entry. not (pointwise nat_eq entry.key key)) entries
 
 -- the table after its held version and its floor rose: it has no tombstones up to the floor
-abbrev pub raised : ℕ → ℕ → Table → Table
-raised upto floor t = record { held = upto; floor = floor; entries = live floor t.entries }
+abbrev pub table_at_floor : ℕ → ℕ → Table → Table
+table_at_floor upto floor t = record { held = upto; floor = floor; entries = live_entries floor t.entries }
 
 -- the stage after its progress rose
-abbrev pub further : ℕ → Stage → Stage
-further progress s = record { floor = s.floor; progress = progress; entries = s.entries }
+abbrev pub stage_at_progress : ℕ → Stage → Stage
+stage_at_progress progress s = record { floor = s.floor; progress = progress; entries = s.entries }
 
 -- the stage with the entry in place of its key's old one
 abbrev pub stage_with_entry : Stage → Entry → Stage
-stage_with_entry s e = record { floor = s.floor; progress = e.version; entries = entered s.entries (e ∷ []) }
+stage_with_entry s e = record { floor = s.floor; progress = e.version; entries = entries_after s.entries (e ∷ []) }
 
 -- the stage's entries above held, and for its other keys what was shown of them
-abbrev pub merged : ℕ → List Entry → List Entry → List Entry
-merged held staged shown = under_keys_of (up_to held staged) shown ++ above held staged
+abbrev pub merged_entries : ℕ → List Entry → List Entry → List Entry
+merged_entries held staged shown = entries_with_keys (entries_up_to held staged) shown ++ newer_entries held staged
 
 -- the table of the stage, as it is shown: without tombstones up to its floor
-abbrev pub swapped : Table → Stage → Table
-swapped t s = record { held = s.progress; floor = s.floor; entries = live s.floor (merged t.held s.entries t.entries) }
+abbrev pub table_after_swap : Table → Stage → Table
+table_after_swap t s = record { held = s.progress; floor = s.floor; entries = live_entries s.floor (merged_entries t.held s.entries t.entries) }
 
 -- no entry is a tombstone at or below the floor
 abbrev pub are_live : ℕ → List Entry → Bool
@@ -46,8 +46,8 @@ are_table_entries upto floor entries =
     nat_le floor upto && ((are_ascending 0 entries && (nat_le (last_version 0 entries) upto && are_live floor entries)) && are_distinct entries)
 
 -- the table of these entries, or why they cannot be a table
-abbrev pub restored : ℕ → ℕ → List Entry → Result Table Fault
-restored upto floor entries =
+abbrev pub restored_table : ℕ → ℕ → List Entry → Result Table Fault
+restored_table upto floor entries =
     if not (are_table_entries upto floor entries) then Err LogDamaged else (if nat_lt KEYS_MOST (length entries) then Err TableFull else Ok (record { held = upto; floor = floor; entries = entries }))
 
 -- a table of at most 4,096 entries

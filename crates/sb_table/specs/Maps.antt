@@ -28,12 +28,12 @@ in_front None others = []
 in_front (Some entry) others = entry ∷ others
 
 -- the entries of these versions, as long as the keys begin with the prefix
-abbrev pub reached : List ℕ → List (ℕ × Entry) → List (List ℕ × ℕ) → List Entry
-reached prefix entries [] = []
-reached prefix entries (at ∷ others) =
-    if starts_with nat_eq at.0 prefix then in_front (lookup (is_at (nat_cmp at.1)) entries) (reached prefix entries others) else []
+abbrev pub entries_under : List ℕ → List (ℕ × Entry) → List (List ℕ × ℕ) → List Entry
+entries_under prefix entries [] = []
+entries_under prefix entries (at ∷ others) =
+    if starts_with nat_eq at.0 prefix then in_front (lookup (is_at (nat_cmp at.1)) entries) (entries_under prefix entries others) else []
 
 -- if nothing is reached from a place, nothing is reached from any later place either
 abbrev pub Ends : List ℕ → List (ℕ × Entry) → List (List ℕ × ℕ) → Type 0
 Ends prefix entries [] = Unit {0}
-Ends prefix entries (at ∷ others) = (reached prefix entries (at ∷ others) ≡ [] → reached prefix entries others ≡ []) × Ends prefix entries others
+Ends prefix entries (at ∷ others) = (entries_under prefix entries (at ∷ others) ≡ [] → entries_under prefix entries others ≡ []) × Ends prefix entries others

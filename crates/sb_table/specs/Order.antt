@@ -15,5 +15,5 @@ by_key [] = []
 by_key (e ∷ es) = put_by_key e (by_key es)
 
 -- the entries whose keys begin with the prefix
-abbrev pub under : List ℕ → List Entry → List Entry
-under prefix entries = filter (λ entry. starts_with nat_eq entry.key prefix) entries
+abbrev pub entries_with_prefix : List ℕ → List Entry → List Entry
+entries_with_prefix prefix entries = filter (λ entry. starts_with nat_eq entry.key prefix) entries

@@ -3,7 +3,7 @@ use Rattle.std.specs.Prelude.{◌≡◌, ℕ, ◌≤◌, Bool, ◌&&◌, not, na
 use Rattle.sb_types.specs.declared.entry.Slot.{Slot}
 use Rattle.sb_types.specs.declared.limits.TheConstants.{KEYS_MOST}
 use Rattle.sb_types.specs.Records.{Entry, Table}
-use Rattle.sb_types.specs.Runs.{IsRun, entered, has_key, last_version}
+use Rattle.sb_types.specs.Runs.{IsRun, entries_after, has_key, last_version}
 
 -- the table of these entries
 abbrev pub plain_table : List Entry → Table
@@ -18,7 +18,7 @@ pub record IsPlainTable (t : Table) : Type 0 where
 
 -- the table with the entry in place of its key's old one
 abbrev pub with_entry : Table → Entry → Table
-with_entry t e = record { held = e.version; floor = t.floor; entries = entered t.entries (e ∷ []) }
+with_entry t e = record { held = e.version; floor = t.floor; entries = entries_after t.entries (e ∷ []) }
 
 -- there is no room for this key: it is new, and there are 4,096 others
 abbrev pub is_full_for : List ℕ → List Entry → Bool

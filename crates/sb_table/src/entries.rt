@@ -4,11 +4,11 @@ ghost use Rattle.std.specs.Prelude.{◌≡◌, ◌<◌, ◌≤◌, ◌==◌, ℕ
 ghost use Rattle.std.specs.Option.{option_map};
 ghost use Rattle.std.specs.Map.{values_of};
 ghost use Rattle.sb_types.specs.Faults.{Gives};
-ghost use Rattle.sb_types.specs.Runs.{above, up_to, live, has_key, are_ascending, entered, entry_at, last_version};
+ghost use Rattle.sb_types.specs.Runs.{newer_entries, entries_up_to, live_entries, has_key, are_ascending, entries_after, entry_at, last_version};
 ghost use Rattle.sb_table.specs.Plain.{IsPlainTable, plain_table, with_entry, is_full_for, version_and_slot};
-ghost use Rattle.sb_table.specs.Order.{by_key, under};
+ghost use Rattle.sb_table.specs.Order.{by_key, entries_with_prefix};
 ghost use Rattle.sb_table.specs.Maps.{Agree, version_at};
-ghost use Rattle.sb_table.specs.Floors.{is_dead, outside};
+ghost use Rattle.sb_table.specs.Floors.{is_dead, entries_without_key};
 
 use crate::after::After;
 use crate::prefixed::Prefixed;
@@ -130,7 +130,7 @@ impl Entries {
 
     /// Returns the entries above a version, in ascending version.
     pub(crate) fn after(&self, version: u64) -> After<'_>
-        ensures entries { result ≡ above version self.now.entries }
+        ensures entries { result ≡ newer_entries version self.now.entries }
         ensures table { IsPlainTable self.now }
     {
         let above = (Bound::Excluded(version), Bound::Unbounded);
@@ -139,7 +139,7 @@ impl Entries {
 
     /// Returns whether a key has an entry at or below a version.
     pub(crate) fn has_up_to(&self, key: &Key, version: u64) -> bool
-        ensures has { result ≡ has_key key.now (up_to version self.now.entries) }
+        ensures has { result ≡ has_key key.now (entries_up_to version self.now.entries) }
         ensures table { IsPlainTable self.now }
     {
         match self.get(key) {
@@ -150,7 +150,7 @@ impl Entries {
 
     /// Removes the tombstones at or below a version. It takes no memory.
     pub(crate) fn drop_markers(&mut self, floor: u64)
-        ensures dropped { self.new ≡ plain_table (live floor self.old.entries) }
+        ensures dropped { self.new ≡ plain_table (live_entries floor self.old.entries) }
         ensures table { IsPlainTable self.new }
     {
         let _ = &self.entries;
@@ -163,7 +163,7 @@ impl Entries {
 
     /// Returns the key and the version of the first tombstone that is above `from`, and at or below `floor`.
     fn first_marker(&self, from: u64, floor: u64) -> Option<(Key, u64)>
-        ensures first { result ≡ option_map (λ e. (e.key, e.version)) (find (λ e. is_dead floor e) (above from self.now.entries)) }
+        ensures first { result ≡ option_map (λ e. (e.key, e.version)) (find (λ e. is_dead floor e) (newer_entries from self.now.entries)) }
         ensures table { IsPlainTable self.now }
     {
         for entry in self.after(from) {
@@ -177,7 +177,7 @@ impl Entries {
     /// Removes the entry of a key, which has this version.
     fn remove(&mut self, key: &Key, version: u64)
         requires { version_at key.now self.old.entries ≡ Some version }
-        ensures gone { self.new ≡ plain_table (outside key.now self.old.entries) }
+        ensures gone { self.new ≡ plain_table (entries_without_key key.now self.old.entries) }
         ensures table { IsPlainTable self.new }
     {
         take_out(&mut self.entries, &mut self.versions, key, version);
@@ -185,7 +185,7 @@ impl Entries {
 
     /// Returns the entries whose keys begin with the prefix, in ascending order of their keys.
     pub(crate) fn prefix(&self, prefix: &Prefix) -> Prefixed<'_>
-        ensures entries { result ≡ by_key (under prefix.now self.now.entries) }
+        ensures entries { result ≡ by_key (entries_with_prefix prefix.now self.now.entries) }
         ensures table { IsPlainTable self.now }
     {
         let from_start = (prefix.start(), Bound::Unbounded);
@@ -205,7 +205,7 @@ pub(crate) fn push_later(
     requires version { version ≡ entry.version }
     ensures answer { Gives result (if is_full_for entry.key entries.old.entries then Err Fault.TableFull else Ok tt) }
     ensures full { is_full_for entry.key entries.old.entries ≡ true → result ≡ Err Fault.TableFull }
-    ensures ok { OnOk result ((entries.new.entries ≡ entered entries.old.entries (entry ∷ [])) × (upto.new ≡ entry.version)) }
+    ensures ok { OnOk result ((entries.new.entries ≡ entries_after entries.old.entries (entry ∷ [])) × (upto.new ≡ entry.version)) }
     ensures err { OnErr result ((entries.new ≡ entries.old) × (upto.new ≡ upto.old)) }
 {
     entries.push(entry)?;
@@ -216,8 +216,8 @@ pub(crate) fn push_later(
 /// Removes the tombstones above one floor, and at or below another.
 pub(crate) fn drop_between(entries: &mut Entries, before: u64, floor: u64)
     requires order { before ≤ floor }
-    requires whole { live before entries.old.entries ≡ entries.old.entries }
-    ensures dropped { entries.new.entries ≡ live floor entries.old.entries }
+    requires whole { live_entries before entries.old.entries ≡ entries.old.entries }
+    ensures dropped { entries.new.entries ≡ live_entries floor entries.old.entries }
 {
     if floor > before {
         entries.drop_markers(floor);
@@ -234,7 +234,7 @@ fn enter(
     requires table { IsPlainTable (plain_table (values_of entries.old.entries)) }
     requires agree { Agree entries.old.entries versions.old.entries }
     requires later { last_version 0 (values_of entries.old.entries) < entry.version }
-    ensures ok { OnOk result (values_of entries.new.entries ≡ entered (values_of entries.old.entries) (entry ∷ [])) }
+    ensures ok { OnOk result (values_of entries.new.entries ≡ entries_after (values_of entries.old.entries) (entry ∷ [])) }
     ensures err { OnErr result (values_of entries.new.entries ≡ values_of entries.old.entries) }
     ensures agree { Agree entries.new.entries versions.new.entries }
     ensures fault { IfErr result (λ fault. fault ≡ Fault.NoMemory) }
@@ -265,7 +265,7 @@ fn take_out(
     requires table { IsPlainTable (plain_table (values_of entries.old.entries)) }
     requires agree { Agree entries.old.entries versions.old.entries }
     requires stands { version_at key.now (values_of entries.old.entries) ≡ Some version }
-    ensures values { values_of entries.new.entries ≡ outside key.now (values_of entries.old.entries) }
+    ensures values { values_of entries.new.entries ≡ entries_without_key key.now (values_of entries.old.entries) }
     ensures agree { Agree entries.new.entries versions.new.entries }
 {
     versions.remove(key);
@@ -285,7 +285,7 @@ pub(crate) fn is_dead(entry: &Entry, floor: u64) -> bool
 /// Returns the entries above a version. The entries have to be in ascending version.
 pub fn entries_above(entries: &[Entry], version: u64) -> &[Entry]
     requires { are_ascending 0 entries.now ≡ true }
-    ensures { result.now ≡ above version entries.now }
+    ensures { result.now ≡ newer_entries version entries.now }
 {
     &entries[first_above(entries, version)..]
 }
@@ -294,7 +294,7 @@ pub fn entries_above(entries: &[Entry], version: u64) -> &[Entry]
 fn first_above(entries: &[Entry], version: u64) -> usize
     requires { are_ascending 0 entries.now ≡ true }
     ensures place { result ≤ length entries.now }
-    ensures entries { drop result entries.now ≡ above version entries.now }
+    ensures entries { drop result entries.now ≡ newer_entries version entries.now }
 {
     entries.partition_point(|entry| entry.version() <= version)
 }

@@ -4,10 +4,10 @@ ghost use Rattle.std.specs.Cmp.Lexicographic.{slice_cmp};
 ghost use Rattle.std.specs.Ordering.{nat_cmp};
 ghost use Rattle.std.specs.List.Sorted.{IsSortedByKey};
 ghost use Rattle.sb_types.specs.Records as records;
-ghost use Rattle.sb_types.specs.Runs.{IsTable, Stands, are_distinct, entered, entry_at, has_key};
+ghost use Rattle.sb_types.specs.Runs.{IsTable, Stands, are_distinct, entries_after, entry_at, has_key};
 ghost use Rattle.sb_table.specs.Plain.{IsPlainTable, is_full_for, with_entry};
 ghost use Rattle.sb_table.specs.Order.{by_key};
-ghost use Rattle.sb_table.specs.Floors.{IsKeptTable, IsKeptStage, raised, swapped};
+ghost use Rattle.sb_table.specs.Floors.{IsKeptTable, IsKeptStage, table_at_floor, table_after_swap};
 
 /// A table of floor 0, after a later entry was entered, is still such a table. Each such table has what crates above
 /// ask of tables with a floor.
@@ -21,8 +21,8 @@ pub fn entering_keeps_tables()
 pub fn floors_keep_tables()
     ensures plain { (t : records.Table) → IsPlainTable t → IsKeptTable t }
     ensures entered { (t : records.Table) (e : records.Entry) → IsKeptTable t → t.held < e.version → is_full_for e.key t.entries ≡ false → IsKeptTable (with_entry t e) }
-    ensures raised { (upto floor : ℕ) (t : records.Table) → IsKeptTable t → t.held ≤ upto → floor ≤ upto → IsKeptTable (raised upto floor t) }
-    ensures swapped { (t : records.Table) (s : records.Stage) → IsKeptTable t → IsKeptStage s → t.held ≤ s.progress → s.floor ≤ s.progress → IsKeptTable (swapped t s) }
+    ensures raised { (upto floor : ℕ) (t : records.Table) → IsKeptTable t → t.held ≤ upto → floor ≤ upto → IsKeptTable (table_at_floor upto floor t) }
+    ensures swapped { (t : records.Table) (s : records.Stage) → IsKeptTable t → IsKeptStage s → t.held ≤ s.progress → s.floor ≤ s.progress → IsKeptTable (table_after_swap t s) }
 {}
 
 /// The entry found under a key is in the list, and has this key. Each entry of a list without equal keys is found under
@@ -36,8 +36,8 @@ pub fn what_stands_is_found()
 
 /// An entry that was entered is found under its key. Under every other key is found what was found before.
 pub fn what_is_entered_is_found()
-    ensures entered { (entries : List records.Entry) (e : records.Entry) → entry_at e.key (entered entries (e ∷ [])) ≡ Some e }
-    ensures others { (key : List ℕ) (entries : List records.Entry) (e : records.Entry) → key ≢ e.key → entry_at key (entered entries (e ∷ [])) ≡ entry_at key entries }
+    ensures entered { (entries : List records.Entry) (e : records.Entry) → entry_at e.key (entries_after entries (e ∷ [])) ≡ Some e }
+    ensures others { (key : List ℕ) (entries : List records.Entry) (e : records.Entry) → key ≢ e.key → entry_at key (entries_after entries (e ∷ [])) ≡ entry_at key entries }
 {}
 
 /// `by_key` returns the same entries, sorted by key.

@@ -1,7 +1,7 @@
 //! The entries of a table whose keys begin with a prefix.
 ghost use Rattle.std.specs.Prelude.{◌≡◌};
 ghost use Rattle.std.specs.Iterator.{YieldsFirstRef, item_count};
-ghost use Rattle.sb_table.specs.Maps.{reached, Ends};
+ghost use Rattle.sb_table.specs.Maps.{entries_under, Ends};
 
 use sb_types::{Entry, Key, Prefix};
 use std::collections::BTreeMap;
@@ -20,11 +20,11 @@ pub struct Prefixed<'a> {
 impl<'a> Model for Prefixed<'a> {
     ghost use Rattle.std.specs.Prelude.{List};
     ghost use Rattle.sb_types.specs.Records as records;
-    ghost use Rattle.sb_table.specs.Maps.{reached, Ends};
+    ghost use Rattle.sb_table.specs.Maps.{entries_under, Ends};
 
     ghost Value = { List records.Entry };
 
-    ghost view = { λ it. reached it.prefix it.entries.now.entries it.versions };
+    ghost view = { λ it. entries_under it.prefix it.entries.now.entries it.versions };
 
     ghost invariant = { λ it. Ends it.prefix it.entries.now.entries it.versions };
 }
@@ -36,7 +36,7 @@ impl<'a> Prefixed<'a> {
         prefix: Prefix,
     ) -> Prefixed<'a>
         requires { Ends prefix entries.now.entries versions }
-        ensures { result ≡ reached prefix entries.now.entries versions.entry }
+        ensures { result ≡ entries_under prefix entries.now.entries versions.entry }
     {
         Prefixed {
             entries,

@@ -3,7 +3,7 @@
 ghost use Rattle.std.specs.Prelude.{◌≡◌, ◌≤◌, ◌<◌, true, [], if◌then◌else◌, Ok, Err, OnOk, OnErr};
 ghost use Rattle.sb_types.specs.Faults.{Gives};
 ghost use Rattle.sb_table.specs.Plain.{is_full_for};
-ghost use Rattle.sb_table.specs.Floors.{IsKeptStage, further, stage_with_entry};
+ghost use Rattle.sb_table.specs.Floors.{IsKeptStage, stage_at_progress, stage_with_entry};
 
 use crate::entries::{Entries, push_later};
 use sb_types::{Entry, Fault, Key};
@@ -90,7 +90,7 @@ impl Stage {
     /// Raises the progress to a version without an entry. The progress must not fall. It takes no memory.
     pub fn raise(&mut self, progress: u64)
         requires further { self.old.progress ≤ progress }
-        ensures raised { self.new ≡ further progress self.old }
+        ensures raised { self.new ≡ stage_at_progress progress self.old }
         ensures stage { IsKeptStage self.new }
     {
         self.progress = progress;

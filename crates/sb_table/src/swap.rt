@@ -1,7 +1,7 @@
 //! What a swap copies from the shown table and from the stage.
 
 ghost use Rattle.std.specs.Prelude.{◌≡◌, ◌<◌, false, ◌++◌, OnOk, IfErr};
-ghost use Rattle.sb_types.specs.Runs.{above, up_to, under_keys_of, live};
+ghost use Rattle.sb_types.specs.Runs.{newer_entries, entries_up_to, entries_with_keys, live_entries};
 ghost use Rattle.sb_table.specs.Plain.{IsPlainTable, plain_table, with_entry, is_full_for};
 
 use crate::entries::{Entries, is_dead};
@@ -28,9 +28,9 @@ pub(crate) fn keep_shown(
     upto: u64,
     floor: u64,
 ) -> Result<(), Fault>
-    requires whole { IsPlainTable (plain_table (into.old.entries ++ live floor (under_keys_of (up_to upto staged.now.entries) shown.now.entries))) }
+    requires whole { IsPlainTable (plain_table (into.old.entries ++ live_entries floor (entries_with_keys (entries_up_to upto staged.now.entries) shown.now.entries))) }
     requires into { IsPlainTable into.old }
-    ensures ok { OnOk result (into.new ≡ plain_table (into.old.entries ++ live floor (under_keys_of (up_to upto staged.now.entries) shown.now.entries))) }
+    ensures ok { OnOk result (into.new ≡ plain_table (into.old.entries ++ live_entries floor (entries_with_keys (entries_up_to upto staged.now.entries) shown.now.entries))) }
     ensures fault { IfErr result (λ fault. fault ≡ Fault.NoMemory) }
 {
     for entry in shown.after(0) {
@@ -50,9 +50,9 @@ pub(crate) fn add_staged(
     upto: u64,
     floor: u64,
 ) -> Result<(), Fault>
-    requires whole { IsPlainTable (plain_table (into.old.entries ++ live floor (above upto staged.now.entries))) }
+    requires whole { IsPlainTable (plain_table (into.old.entries ++ live_entries floor (newer_entries upto staged.now.entries))) }
     requires into { IsPlainTable into.old }
-    ensures ok { OnOk result (into.new ≡ plain_table (into.old.entries ++ live floor (above upto staged.now.entries))) }
+    ensures ok { OnOk result (into.new ≡ plain_table (into.old.entries ++ live_entries floor (newer_entries upto staged.now.entries))) }
     ensures fault { IfErr result (λ fault. fault ≡ Fault.NoMemory) }
 {
     for entry in staged.after(upto) {

@@ -3,10 +3,10 @@
 ghost use Rattle.std.specs.Prelude.{◌≡◌, ◌==◌, ◌≤◌, ◌<◌, true, [], if◌then◌else◌, Ok, Err, OnOk, OnErr, IfOk, length};
 ghost use Rattle.std.specs.Option.{option_map};
 ghost use Rattle.sb_types.specs.Faults.{Gives};
-ghost use Rattle.sb_types.specs.Runs.{above, entry_at};
+ghost use Rattle.sb_types.specs.Runs.{newer_entries, entry_at};
 ghost use Rattle.sb_table.specs.Plain.{IsPlainTable, plain_table, with_entry, is_full_for, version_and_slot};
-ghost use Rattle.sb_table.specs.Order.{by_key, under};
-ghost use Rattle.sb_table.specs.Floors.{IsKeptTable, are_table_entries, raised, restored, swapped};
+ghost use Rattle.sb_table.specs.Order.{by_key, entries_with_prefix};
+ghost use Rattle.sb_table.specs.Floors.{IsKeptTable, are_table_entries, table_at_floor, restored_table, table_after_swap};
 
 use crate::after::After;
 use crate::entries::{Entries, drop_between, push_later};
@@ -79,7 +79,7 @@ impl Table {
         floor: u64,
         mut entries: Vec<Entry>,
     ) -> Result<Table, Fault>
-        ensures restored { Gives result (restored upto floor entries.items) }
+        ensures restored { Gives result (restored_table upto floor entries.items) }
         ensures table { IfOk result IsKeptTable }
     {
         if !are_table_entries(upto, floor, &mut entries) {
@@ -166,7 +166,7 @@ impl Table {
 
     /// Returns the entries above a version, in ascending version. It takes no memory.
     pub fn after(&self, version: u64) -> After<'_>
-        ensures entries { result ≡ above version self.now.entries }
+        ensures entries { result ≡ newer_entries version self.now.entries }
         ensures table { IsKeptTable self.now }
     {
         self.entries.after(version)
@@ -174,7 +174,7 @@ impl Table {
 
     /// Returns the entries whose keys begin with the prefix, in ascending order of their keys. It takes no memory.
     pub fn prefix(&self, prefix: &Prefix) -> Prefixed<'_>
-        ensures entries { result ≡ by_key (under prefix.now self.now.entries) }
+        ensures entries { result ≡ by_key (entries_with_prefix prefix.now self.now.entries) }
         ensures table { IsKeptTable self.now }
     {
         self.entries.prefix(prefix)
@@ -215,7 +215,7 @@ impl Table {
         requires held { self.old.held ≤ upto }
         requires floor { self.old.floor ≤ floor }
         requires order { floor ≤ upto }
-        ensures raised { self.new ≡ raised upto floor self.old }
+        ensures raised { self.new ≡ table_at_floor upto floor self.old }
         ensures table { IsKeptTable self.new }
     {
         drop_between(&mut self.entries, self.floor, floor);
@@ -234,7 +234,7 @@ impl Table {
     pub fn swapped(&self, alloc: Global, stage: &Stage) -> Result<Table, Fault>
         requires reach { stage.now.floor ≤ stage.now.progress }
         requires beyond { self.now.held ≤ stage.now.progress }
-        ensures shown { Gives result (Ok (swapped self.now stage.now)) }
+        ensures shown { Gives result (Ok (table_after_swap self.now stage.now)) }
         ensures table { IfOk result IsKeptTable }
     {
         let mut entries = Entries::new(alloc);

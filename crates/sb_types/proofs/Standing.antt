@@ -5,7 +5,7 @@ use Rattle.std.specs.Cmp.Lexicographic.{pointwise}
 use Rattle.sb_types.specs.declared.entry.Slot.{Slot}
 use Rattle.sb_types.specs.declared.entry.Slot.TheVariants.{Set, Removed}
 use Rattle.sb_types.specs.Records.{Entry}
-use Rattle.sb_types.specs.Runs.{Stands, has_key, above, up_to, without, under_keys_of, is_set, live, entered}
+use Rattle.sb_types.specs.Runs.{Stands, has_key, newer_entries, entries_up_to, entries_without_keys, entries_with_keys, is_set, live_entries, entries_after}
 use Rattle.sb_types.specs.Writes.{Gone}
 use Rattle.sb_types.proofs.Texts.{same_text, text_same}
 
@@ -73,22 +73,22 @@ not_there key es e h s k = false≢true (sym (not-true _ h) ∙ has key es e s k
 
 -- ---- parts
 
-pub in_above : (v : ℕ) (es : List Entry) (e : Entry) → Stands es e → v < e.version → Stands (above v es) e
+pub in_above : (v : ℕ) (es : List Entry) (e : Entry) → Stands es e → v < e.version → Stands (newer_entries v es) e
 in_above v es e s l = kept _ es e s (lt-ltb v e.version l)
 
-pub of_above : (v : ℕ) (es : List Entry) (e : Entry) → Stands (above v es) e → Stands es e × (v < e.version)
+pub of_above : (v : ℕ) (es : List Entry) (e : Entry) → Stands (newer_entries v es) e → Stands es e × (v < e.version)
 of_above v es e s = let k = of_kept _ es e s in (k.0, ltb-true v e.version k.1)
 
-pub in_within : (v : ℕ) (es : List Entry) (e : Entry) → Stands es e → e.version ≤ v → Stands (up_to v es) e
+pub in_within : (v : ℕ) (es : List Entry) (e : Entry) → Stands es e → e.version ≤ v → Stands (entries_up_to v es) e
 in_within v es e s l = kept _ es e s (le-leb e.version v l)
 
-pub of_within : (v : ℕ) (es : List Entry) (e : Entry) → Stands (up_to v es) e → Stands es e × (e.version ≤ v)
+pub of_within : (v : ℕ) (es : List Entry) (e : Entry) → Stands (entries_up_to v es) e → Stands es e × (e.version ≤ v)
 of_within v es e s = let k = of_kept _ es e s in (k.0, leb-true e.version v k.1)
 
-pub in_only : (os es : List Entry) (e o : Entry) → Stands es e → Stands os o → o.key ≡ e.key → Stands (under_keys_of os es) e
+pub in_only : (os es : List Entry) (e o : Entry) → Stands es e → Stands os o → o.key ≡ e.key → Stands (entries_with_keys os es) e
 in_only os es e o s t k = kept _ es e s (has e.key os o t k)
 
-pub of_only : (os es : List Entry) (e : Entry) → Stands (under_keys_of os es) e → Stands es e × ((o : Entry) × Stands os o × (o.key ≡ e.key))
+pub of_only : (os es : List Entry) (e : Entry) → Stands (entries_with_keys os es) e → Stands es e × ((o : Entry) × Stands os o × (o.key ≡ e.key))
 of_only os es e s = let k = of_kept _ es e s in (k.0, keyed e.key os k.1)
 
 -- an entry is a marker up to the floor, or it lives
@@ -96,17 +96,17 @@ lives : (slot : Slot) (floor version : ℕ) → ((is_set slot || nat_lt floor ve
 lives (Set value) floor version = inl refl
 lives Removed floor version = ⊎_elim inl (λ h. inr (refl, ltb-false floor version h)) (cases_Bool (nat_lt floor version))
 
-pub in_live : (floor : ℕ) (es : List Entry) (e : Entry) → Stands es e → Stands (live floor es) e ⊎ Gone floor e
+pub in_live : (floor : ℕ) (es : List Entry) (e : Entry) → Stands es e → Stands (live_entries floor es) e ⊎ Gone floor e
 in_live floor es e s = ⊎_elim (λ h. inl (kept _ es e s h)) inr (lives e.slot floor e.version)
 
-pub of_live : (floor : ℕ) (es : List Entry) (e : Entry) → Stands (live floor es) e → Stands es e
+pub of_live : (floor : ℕ) (es : List Entry) (e : Entry) → Stands (live_entries floor es) e → Stands es e
 of_live floor es e s = (of_kept _ es e s).0
 
-pub in_entered : (es bs : List Entry) (e : Entry) → Stands es e → Stands (entered es bs) e ⊎ ((b : Entry) × Stands bs b × (b.key ≡ e.key))
+pub in_entered : (es bs : List Entry) (e : Entry) → Stands es e → Stands (entries_after es bs) e ⊎ ((b : Entry) × Stands bs b × (b.key ≡ e.key))
 in_entered es bs e s =
     ⊎_elim (λ h. inr (keyed e.key bs h))
-    (λ h. inl (left (without bs es) bs e (kept _ es e s (ap not h))))
+    (λ h. inl (left (entries_without_keys bs es) bs e (kept _ es e s (ap not h))))
     (cases_Bool (has_key e.key bs))
 
-pub of_entered : (es bs : List Entry) (e : Entry) → Stands (entered es bs) e → Stands es e ⊎ Stands bs e
-of_entered es bs e s = ⊎_elim (λ l. inl (of_kept _ es e l).0) inr (either (without bs es) bs e s)
+pub of_entered : (es bs : List Entry) (e : Entry) → Stands (entries_after es bs) e → Stands es e ⊎ Stands bs e
+of_entered es bs e s = ⊎_elim (λ l. inl (of_kept _ es e l).0) inr (either (entries_without_keys bs es) bs e s)

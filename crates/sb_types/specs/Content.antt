@@ -5,15 +5,15 @@ use Rattle.sb_types.specs.declared.value.ValueRef.{ValueRef}
 use Rattle.sb_types.specs.declared.value.ValueRef.TheVariants as views
 use Rattle.sb_types.specs.Value.{Value, Addr, Weight, Flag, Text}
 
-abbrev pub seen : Content → Value
-seen (contents.Addr text) = Addr text.items
-seen (contents.Weight weight) = Weight weight
-seen (contents.Flag flag) = Flag flag
-seen (contents.Text text) = Text text.items
+abbrev pub value_of_content : Content → Value
+value_of_content (contents.Addr text) = Addr text.items
+value_of_content (contents.Weight weight) = Weight weight
+value_of_content (contents.Flag flag) = Flag flag
+value_of_content (contents.Text text) = Text text.items
 
 -- the value whose content is borrowed
-abbrev pub lent : ValueRef → Value
-lent (views.Addr text) = Addr text.now
-lent (views.Weight weight) = Weight weight
-lent (views.Flag flag) = Flag flag
-lent (views.Text text) = Text text.now
+abbrev pub value_of_ref : ValueRef → Value
+value_of_ref (views.Addr text) = Addr text.now
+value_of_ref (views.Weight weight) = Weight weight
+value_of_ref (views.Flag flag) = Flag flag
+value_of_ref (views.Text text) = Text text.now

@@ -2,5 +2,5 @@
 use Rattle.sb_types.specs.declared.settings.RawSettings.{RawSettings}
 use Rattle.sb_types.specs.Records.{Settings}
 
-abbrev pub given : RawSettings → Settings
-given raw = record { cluster = raw.cluster.now; budget = raw.budget; order = raw.order; max_version = raw.max_version; seats = raw.seats; workers = raw.workers }
+abbrev pub settings_from : RawSettings → Settings
+settings_from raw = record { cluster = raw.cluster.now; budget = raw.budget; order = raw.order; max_version = raw.max_version; seats = raw.seats; workers = raw.workers }

@@ -32,32 +32,32 @@ last_version before [] = before
 last_version before (entry ∷ entries) = last_version entry.version entries
 
 -- the entries above a version
-abbrev pub above : ℕ → List Entry → List Entry
-above version entries = filter (λ entry. nat_lt version entry.version) entries
+abbrev pub newer_entries : ℕ → List Entry → List Entry
+newer_entries version entries = filter (λ entry. nat_lt version entry.version) entries
 
 -- the entries up to a version
-abbrev pub up_to : ℕ → List Entry → List Entry
-up_to version entries = filter (λ entry. nat_le entry.version version) entries
+abbrev pub entries_up_to : ℕ → List Entry → List Entry
+entries_up_to version entries = filter (λ entry. nat_le entry.version version) entries
 
 -- the entries whose key none of the others has
-abbrev pub without : List Entry → List Entry → List Entry
-without others entries = filter (λ entry. not (has_key entry.key others)) entries
+abbrev pub entries_without_keys : List Entry → List Entry → List Entry
+entries_without_keys others entries = filter (λ entry. not (has_key entry.key others)) entries
 
 -- the entries whose key one of the others has
-abbrev pub under_keys_of : List Entry → List Entry → List Entry
-under_keys_of others entries = filter (λ entry. has_key entry.key others) entries
+abbrev pub entries_with_keys : List Entry → List Entry → List Entry
+entries_with_keys others entries = filter (λ entry. has_key entry.key others) entries
 
 abbrev pub is_set : Slot → Bool
 is_set (Set value) = true
 is_set Removed = false
 
 -- the entries without the tombstones (markers of removed keys) at or below the floor
-abbrev pub live : ℕ → List Entry → List Entry
-live floor entries = filter (λ entry. is_set entry.slot || nat_lt floor entry.version) entries
+abbrev pub live_entries : ℕ → List Entry → List Entry
+live_entries floor entries = filter (λ entry. is_set entry.slot || nat_lt floor entry.version) entries
 
 -- the entries after the others were entered, each in place of the old entry of its key
-abbrev pub entered : List Entry → List Entry → List Entry
-entered entries others = without others entries ++ others
+abbrev pub entries_after : List Entry → List Entry → List Entry
+entries_after entries others = entries_without_keys others entries ++ others
 
 -- entries of versions above after and at most upto, in ascending version, each key once
 pub record IsRun (after upto : ℕ) (entries : List Entry) : Type 0 where
@@ -69,7 +69,7 @@ pub record IsTable (t : Table) : Type 0 where
   pub run : IsRun 0 t.held t.entries
   pub floor : t.floor ≤ t.held
   -- it has no tombstone at or below the floor
-  pub live : live t.floor t.entries ≡ t.entries
+  pub live : live_entries t.floor t.entries ≡ t.entries
 
 pub record IsBlock (b : Block) : Type 0 where
   pub run : IsRun b.after b.upto b.entries

@@ -2,7 +2,7 @@
 use Rattle.std.specs.Prelude.{ℕ, Bool, ◌&&◌, ◌||◌, ◌==◌, nat_le, List, length}
 use Rattle.std.specs.List.{list_all}
 use Rattle.std.specs.Str.{is_utf8}
-use Rattle.sb_types.specs.declared.limits.TheConstants.{NAME_MOST, KEY_MOST, ADDR_MOST, TEXT_MOST}
+use Rattle.sb_types.specs.declared.limits.TheConstants.{NAME_MOST, KEY_MOST, ADDR_MOST, TEXT_MOST, SHORT_TEXT_MOST}
 
 abbrev pub is_between : ℕ → ℕ → ℕ → Bool
 is_between least most n = nat_le least n && nat_le n most
@@ -38,3 +38,7 @@ is_addr text = is_between 1 ADDR_MOST (length text) && list_all is_addr_byte tex
 -- UTF-8 of 1 to 512 bytes
 abbrev pub is_text : List ℕ → Bool
 is_text text = is_between 1 TEXT_MOST (length text) && is_utf8 text
+
+-- UTF-8 of 1 to 128 bytes
+abbrev pub is_short_text : List ℕ → Bool
+is_short_text text = is_between 1 SHORT_TEXT_MOST (length text) && is_utf8 text

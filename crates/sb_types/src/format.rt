@@ -1,7 +1,7 @@
 //! The numbers of the format, each in this file alone. They are the first bytes of a frame, the kinds of messages, the
 //! tags of slots and the reasons of a Bye. The lengths of the parts of a message are here too.
 
-use crate::limits::{KEY_MOST, NAME_MOST, TEXT_MOST};
+use crate::limits::{KEY_MOST, NAME_MOST, SHORT_TEXT_MOST, TEXT_MOST};
 
 /// The first byte of a frame.
 pub const FRAME_MARK: u8 = 0xa7;
@@ -39,6 +39,12 @@ pub const KIND_DONE: u8 = 0x13;
 /// The kind of a Refused.
 pub const KIND_REFUSED: u8 = 0x14;
 
+/// The kind of an AskStatus.
+pub const KIND_ASK_STATUS: u8 = 0x15;
+
+/// The kind of a NodeStatus.
+pub const KIND_NODE_STATUS: u8 = 0x16;
+
 /// The tag of a tombstone, the marker of a removed key. It has no value.
 pub const TAG_REMOVED: u8 = 0;
 
@@ -60,14 +66,14 @@ pub const REASON_ROUNDS_DONE: u8 = 1;
 /// The greatest reason of a Bye.
 pub const REASON_MOST: u8 = 5;
 
-/// How many bytes a kind, a tag, a flag, a reason and the number of a fault take. The length of a name, of a key or of
-/// an address takes as many.
+/// How many bytes each of these takes: a kind, a tag, a flag and a reason. The number of a fault or of a figure takes as
+/// many, and so does the state of a peer. The length of a name, of a key, of an address or of a short text does too.
 pub const BYTE_LENGTH: u64 = 1;
 
-/// How many bytes each of these takes: a count of blocks, entries, pairs or rows, and the length of a text.
+/// How many bytes each of these takes: a count of a list, and the length of a text.
 pub const COUNT_LENGTH: u64 = 2;
 
-/// How many bytes each of these takes: a version and a weight.
+/// How many bytes each of these takes: a version, a weight, the value of a figure, and the number of a round.
 pub const NUMBER_LENGTH: u64 = 8;
 
 /// The most bytes that a name takes, its length included.
@@ -75,6 +81,9 @@ pub const NAME_LENGTH_MOST: u64 = BYTE_LENGTH + NAME_MOST as u64;
 
 /// The most bytes that a key takes, its length included.
 pub const KEY_LENGTH_MOST: u64 = BYTE_LENGTH + KEY_MOST as u64;
+
+/// The most bytes that a short text takes, its length included.
+pub const SHORT_TEXT_LENGTH_MOST: u64 = BYTE_LENGTH + SHORT_TEXT_MOST as u64;
 
 /// The most bytes that a value takes: those of a text, its length included.
 pub const VALUE_LENGTH_MOST: u64 = COUNT_LENGTH + TEXT_MOST as u64;

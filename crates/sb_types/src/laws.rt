@@ -9,14 +9,15 @@ ghost use Rattle.sb_types.specs.Value as values;
 
 use crate::format::{
     BLOCK_HEAD_MOST, BYTE_LENGTH, COUNT_LENGTH, ENTRY_LENGTH_MOST, FRAME_MARK, FRAME_VERSION,
-    HEADER_LENGTH, KEY_LENGTH_MOST, KIND_ASK, KIND_BYE, KIND_DELTA, KIND_DIGEST, KIND_DONE,
-    KIND_HELLO, KIND_PUT, KIND_REFUSED, KIND_ROWS, NAME_LENGTH_MOST, NUMBER_LENGTH, REASON_MOST,
-    REASON_ROUNDS_DONE, TAG_ADDR, TAG_FLAG, TAG_REMOVED, TAG_TEXT, TAG_WEIGHT, VALUE_LENGTH_MOST,
+    HEADER_LENGTH, KEY_LENGTH_MOST, KIND_ASK, KIND_ASK_STATUS, KIND_BYE, KIND_DELTA, KIND_DIGEST,
+    KIND_DONE, KIND_HELLO, KIND_NODE_STATUS, KIND_PUT, KIND_REFUSED, KIND_ROWS, NAME_LENGTH_MOST,
+    NUMBER_LENGTH, REASON_MOST, REASON_ROUNDS_DONE, SHORT_TEXT_LENGTH_MOST, TAG_ADDR, TAG_FLAG,
+    TAG_REMOVED, TAG_TEXT, TAG_WEIGHT, VALUE_LENGTH_MOST,
 };
 use crate::limits::{
     ADDR_MOST, BUDGET_LEAST, BUDGET_MOST, ENTRIES_MOST, FAULT_NUMBER_MOST, KEY_MOST, KEYS_MOST,
-    NAME_MOST, OWNERS_MOST, PAYLOAD_MOST, SEATS_MOST, TEXT_MOST, VERSION_MOST, WEIGHT_MOST,
-    WORKERS_MOST,
+    NAME_MOST, OWNERS_MOST, PAYLOAD_MOST, SEATS_MOST, SHORT_TEXT_MOST, TEXT_MOST, VERSION_MOST,
+    WEIGHT_MOST, WORKERS_MOST,
 };
 
 /// Each limit of the directory is this number.
@@ -25,6 +26,7 @@ pub fn limits_are_these_numbers()
     ensures key_most { KEY_MOST ≡ 64 }
     ensures addr_most { ADDR_MOST ≡ 128 }
     ensures text_most { TEXT_MOST ≡ 512 }
+    ensures short_text_most { SHORT_TEXT_MOST ≡ 128 }
     ensures weight_most { WEIGHT_MOST ≡ 9223372036854775807 }
     ensures owners_most { OWNERS_MOST ≡ 1024 }
     ensures keys_most { KEYS_MOST ≡ 4096 }
@@ -51,6 +53,8 @@ pub fn marks_are_these_numbers()
     ensures kind_put { KIND_PUT ≡ 18 }
     ensures kind_done { KIND_DONE ≡ 19 }
     ensures kind_refused { KIND_REFUSED ≡ 20 }
+    ensures kind_ask_status { KIND_ASK_STATUS ≡ 21 }
+    ensures kind_node_status { KIND_NODE_STATUS ≡ 22 }
     ensures tag_removed { TAG_REMOVED ≡ 0 }
     ensures tag_addr { TAG_ADDR ≡ 1 }
     ensures tag_weight { TAG_WEIGHT ≡ 2 }
@@ -68,6 +72,7 @@ pub fn lengths_are_these_numbers()
     ensures number_length { NUMBER_LENGTH ≡ 8 }
     ensures name_length_most { NAME_LENGTH_MOST ≡ 33 }
     ensures key_length_most { KEY_LENGTH_MOST ≡ 65 }
+    ensures short_text_length_most { SHORT_TEXT_LENGTH_MOST ≡ 129 }
     ensures value_length_most { VALUE_LENGTH_MOST ≡ 514 }
     ensures entry_length_most { ENTRY_LENGTH_MOST ≡ 588 }
     ensures block_head_most { BLOCK_HEAD_MOST ≡ 59 }

@@ -14,6 +14,9 @@ pub const ADDR_MOST: usize = 128;
 /// The most bytes of a text.
 pub const TEXT_MOST: usize = 512;
 
+/// The most bytes of a short text: the release of a node, or the path of a socket.
+pub const SHORT_TEXT_MOST: usize = 128;
+
 /// The greatest weight, 2^63 - 1.
 pub const WEIGHT_MOST: u64 = 9_223_372_036_854_775_807;
 

@@ -3,7 +3,7 @@
 ghost use Rattle.std.specs.Prelude.{◌≡◌, true, if◌then◌else◌, Ok, Err};
 ghost use Rattle.sb_types.specs.Text as numbers;
 ghost use Rattle.sb_types.specs.Limits.{are_settings};
-ghost use Rattle.sb_types.specs.Given.{given};
+ghost use Rattle.sb_types.specs.Given.{settings_from};
 
 use crate::fault::Fault;
 use crate::limits::{BUDGET_LEAST, BUDGET_MOST, SEATS_MOST, VERSION_MOST, WORKERS_MOST};
@@ -71,7 +71,7 @@ fn is_between(least: u64, most: u64, number: u64) -> bool
 impl Settings {
     /// Makes settings. Returns `BadSetting` if one of them is outside its limits, the cluster's name included.
     pub fn check(raw: RawSettings) -> Result<Settings, Fault>
-        ensures { result ≡ (if are_settings (given raw.entry) then Ok (given raw.entry) else Err Fault.BadSetting) }
+        ensures { result ≡ (if are_settings (settings_from raw.entry) then Ok (settings_from raw.entry) else Err Fault.BadSetting) }
     {
         let Ok(cluster) = Name::read(raw.cluster) else {
             return Err(Fault::BadSetting);

@@ -1,15 +1,16 @@
-//! Names, keys and prefixes.
+//! Names, keys, prefixes and short texts.
 
 ghost use Rattle.std.specs.Prelude.{◌≡◌, ℕ, List, true, if◌then◌else◌, Ok, Err};
 ghost use Rattle.std.specs.List.{list_all};
 ghost use Rattle.std.specs.Ordering.{nat_cmp, is_le};
 ghost use Rattle.std.specs.Cmp.Lexicographic.{slice_cmp};
 ghost use Rattle.std.specs.BTreeMap.Range.{is_from_start};
-ghost use Rattle.sb_types.specs.Text.{is_name_byte, is_key_byte, is_name, is_key, is_prefix};
+ghost use Rattle.sb_types.specs.Text.{is_name_byte, is_key_byte, is_name, is_key, is_prefix, is_short_text};
 
 use crate::fault::Fault;
 use crate::inline::InlineText;
-use crate::limits::{KEY_MOST, NAME_MOST};
+use crate::limits::{KEY_MOST, NAME_MOST, SHORT_TEXT_MOST};
+use crate::value::test_utf8;
 use std::marker::Model;
 use std::ops::Bound;
 
@@ -177,5 +178,46 @@ impl Prefix {
             Ok(key) => Bound::Included(key),
             Err(_) => Bound::Unbounded,
         }
+    }
+}
+
+/// A short text: 1 to 128 bytes of UTF-8. A node tells its release in one, and the paths of sockets.
+#[derive(Clone, Copy, Debug, PartialEq, Eq)]
+pub struct ShortText {
+    text: InlineText<SHORT_TEXT_MOST>,
+}
+
+impl Model for ShortText {
+    ghost use Rattle.std.specs.Prelude.{◌≡◌, ℕ, List, true};
+    ghost use Rattle.sb_types.specs.Text.{is_short_text};
+
+    ghost Value = { List ℕ };
+
+    ghost view = { λ short. short.text };
+
+    ghost invariant = { λ short. is_short_text short.text ≡ true };
+
+    ghost inverse = { λ text. record { text = text } };
+}
+
+impl ShortText {
+    /// Reads a short text. Returns `BadValue` if it is not UTF-8 of 1 to 128 bytes.
+    pub fn read(text: &[u8]) -> Result<ShortText, Fault>
+        ensures { result ≡ (if is_short_text text.now then Ok text.now else Err Fault.BadValue) }
+    {
+        if text.is_empty() || text.len() > SHORT_TEXT_MOST || !test_utf8(text) {
+            return Err(Fault::BadValue);
+        }
+        Ok(ShortText {
+            text: InlineText::new(text),
+        })
+    }
+
+    /// Returns the bytes of the text.
+    pub fn bytes(&self) -> &[u8]
+        ensures text { result.now ≡ self.now }
+        ensures short { is_short_text self.now ≡ true }
+    {
+        self.text.bytes()
     }
 }

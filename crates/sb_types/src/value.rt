@@ -65,11 +65,11 @@ impl Model for Value {
 
     ghost Value = { values.Value };
 
-    ghost use Rattle.sb_types.specs.Content.{seen};
+    ghost use Rattle.sb_types.specs.Content.{value_of_content};
 
-    ghost view = { λ value. seen value.content };
+    ghost view = { λ value. value_of_content value.content };
 
-    ghost invariant = { λ value. values.is_value (seen value.content) ≡ true };
+    ghost invariant = { λ value. values.is_value (value_of_content value.content) ≡ true };
 }
 
 fn test_addr_byte(byte: u8) -> bool
@@ -84,14 +84,14 @@ fn has_addr_bytes(text: &[u8]) -> bool
     text.iter().all(|byte| test_addr_byte(*byte))
 }
 
-fn test_utf8(text: &[u8]) -> bool
+pub(crate) fn test_utf8(text: &[u8]) -> bool
     ensures { result ≡ is_utf8 text.now }
 {
     str::from_utf8(text).is_ok()
 }
 
 impl Value {
-    ghost use Rattle.sb_types.specs.Content.{lent};
+    ghost use Rattle.sb_types.specs.Content.{value_of_ref};
 
     /// Makes an address. Returns `BadValue` if the text is not an address, without asking for memory. Otherwise it may
     /// return `NoMemory`.
@@ -240,7 +240,7 @@ impl Value {
 
     /// Returns the kind of the value, and its content.
     pub fn view(&self) -> ValueRef<'_>
-        ensures content { lent result ≡ self.now }
+        ensures content { value_of_ref result ≡ self.now }
         ensures value { values.is_value self.now ≡ true }
     {
         match &self.content {

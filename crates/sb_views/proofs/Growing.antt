@@ -4,20 +4,20 @@ use Rattle.std.proofs.lemmas.Bool.{and_parts, cond_both}
 use Rattle.std.specs.Cmp.Lexicographic.{pointwise}
 use Rattle.sb_types.specs.Records.{Entry, Stage, Block, Holder}
 use Rattle.sb_types.specs.Limits.{is_delta}
-use Rattle.sb_types.specs.Runs.{Stands, IsBlock, above, entered, live}
+use Rattle.sb_types.specs.Runs.{Stands, IsBlock, newer_entries, entries_after, live_entries}
 use Rattle.sb_types.specs.Writes.{IsHolder}
 use Rattle.sb_types.proofs.Texts.{same_text}
-use Rattle.sb_table.specs.Floors.{swapped}
+use Rattle.sb_table.specs.Floors.{table_after_swap}
 use Rattle.sb_table.specs.Plain.{with_entry}
 use Rattle.sb_holdings.specs.declared.ends.BlockEnd.{BlockEnd}
 use Rattle.sb_holdings.specs.declared.ends.BlockEnd.TheVariants.{Own, OwnAhead, Gap, Stale, OwnersFull, Taken, TooManyKeys, NoMemory}
-use Rattle.sb_holdings.specs.Blocks.{part_above, front}
-use Rattle.sb_holdings.specs.Held.{Held, holder_of, shown_of, with_owner, written, held_after_block, held_after_taking}
+use Rattle.sb_holdings.specs.Blocks.{part_above, leading_part}
+use Rattle.sb_holdings.specs.Held.{Held, holder_of, shown_of, with_owner, held_after_write, held_after_block, held_after_taking}
 use Rattle.sb_holdings.specs.Nodes.{Node, Took, IsNode, IsNodeEvent, held_by, replay_node, node_after_block}
 use Rattle.sb_holdings.specs.Plain.{IsHoldings}
-use Rattle.sb_holdings.specs.Shown.{joins_shown, joined, shown_with, stage_beyond, own}
-use Rattle.sb_holdings.specs.Stages.{stage_for, stage_with, settled, staged_all, staged_front, staged_refused}
-use Rattle.sb_holdings.specs.Taken.{routed, holder_after_block}
+use Rattle.sb_holdings.specs.Shown.{joins_shown, table_after_block, shown_with, stage_beyond, holder_after_write}
+use Rattle.sb_holdings.specs.Stages.{stage_for, stage_with, holder_after_stage, staged_all, staged_front, staged_refused}
+use Rattle.sb_holdings.specs.Taken.{holder_by_route, holder_after_block}
 use Rattle.sb_holdings.specs.Treats.{Treats, took_each}
 use Rattle.sb_holdings.proofs.Changed.{IsHolder-held}
 use Rattle.sb_holdings.proofs.Ended.{block-of_delta, IsBlock-delta}
@@ -37,7 +37,7 @@ grown-on first second third one two = λ o. grown-further (shown_of first o) (sh
 
 -- ---- an own write
 
-own-shown : (h : Holder) (e : Entry) → IsHolder h → IsGrown h.shown (own h e).shown
+own-shown : (h : Holder) (e : Entry) → IsHolder h → IsGrown h.shown (holder_after_write h e).shown
 own-shown h e i =
     cond_both (nat_eq e.version (h.shown.held + 1)) (record { shown = with_entry h.shown e; stage = stage_beyond e.version h.stage }) h (λ (k : Holder). IsGrown h.shown k.shown)
     (λ is.
@@ -46,12 +46,12 @@ own-shown h e i =
     (λ x s. ⊎_elim (λ same. omega (arith, next, ap (λ (y : Entry). y.version) same)) (λ none. absurd none) s))
     (λ _. grown-self h.shown i.shown)
 
-pub own-grown : (held : Held) (e : Entry) → IsHoldings held → AreGrown held (written held e)
+pub own-grown : (held : Held) (e : Entry) → IsHoldings held → AreGrown held (held_after_write held e)
 own-grown held e is o =
     let mine = holder_of held.owners held.me in
     subst (λ (t : _). IsGrown (shown_of held o) t) (sym (shown-written held e o))
-    (cond_both (pointwise nat_eq held.me o) (own mine e).shown (shown_of held o) (IsGrown (shown_of held o))
-    (λ same. subst (λ (n : List ℕ). IsGrown (shown_of held n) (own mine e).shown) (same_text held.me o same) (own-shown mine e (IsHolder-held held is held.me)))
+    (cond_both (pointwise nat_eq held.me o) (holder_after_write mine e).shown (shown_of held o) (IsGrown (shown_of held o))
+    (λ same. subst (λ (n : List ℕ). IsGrown (shown_of held n) (holder_after_write mine e).shown) (same_text held.me o same) (own-shown mine e (IsHolder-held held is held.me)))
     (λ _. grown-self (shown_of held o) (IsHolder-held held is o).shown))
 
 -- ---- a block of one owner, to the shown table or to a stage
@@ -66,21 +66,21 @@ module _ (h : Holder) (b : Block) (i : IsHolder h) (is : IsBlock b) where
   -- where the floor stays no marker goes
   shown-grows : (p : Block) → IsPart b h.shown.held p → Grows (shown_with h p)
   shown-grows p part =
-      grown-entered h.shown (joined h.shown p) p.entries i.shown (run_order part.run) (omega arith)
-      (λ same. ap (λ (es : List Entry). entered es p.entries) (ap (λ (floor : ℕ). live floor h.shown.entries) same ∙ i.shown.live))
+      grown-entered h.shown (table_after_block h.shown p) p.entries i.shown (run_order part.run) (omega arith)
+      (λ same. ap (λ (es : List Entry). entries_after es p.entries) (ap (λ (floor : ℕ). live_entries floor h.shown.entries) same ∙ i.shown.live))
       (λ e s. run_after e part.run s)
 
   -- the floor of a stage is above all that was held
-  swap-grows : (s : Stage) → h.shown.held < s.floor → s.floor ≤ s.progress → IsGrown h.shown (swapped h.shown s)
+  swap-grows : (s : Stage) → h.shown.held < s.floor → s.floor ≤ s.progress → IsGrown h.shown (table_after_swap h.shown s)
   swap-grows s beyond reached = record {
     held = omega (arith, beyond, reached);
     floor = omega (arith, i.shown.floor, beyond);
     grown = λ same. absurd (omega (arith, i.shown.floor, beyond, same));
   }
 
-  settled-grows : (s : Stage) → h.shown.held < s.floor → Grows (settled h s)
+  settled-grows : (s : Stage) → h.shown.held < s.floor → Grows (holder_after_stage h s)
   settled-grows s beyond =
-      cond_both (nat_le s.floor s.progress) (record { shown = swapped h.shown s; stage = None }) (record { shown = h.shown; stage = Some s }) Grows
+      cond_both (nat_le s.floor s.progress) (record { shown = table_after_swap h.shown s; stage = None }) (record { shown = h.shown; stage = Some s }) Grows
       (λ le. swap-grows s beyond (leb-true s.floor s.progress le)) (λ _. stays)
 
   all-grows : (o : Option Stage) → IfSome o (Joins h b) → Grows (staged_all h b o)
@@ -95,11 +95,11 @@ module _ (h : Holder) (b : Block) (i : IsHolder h) (is : IsBlock b) where
   refused-grows : (n : ℕ) (o : Option Stage) → Grows (staged_refused n h b o)
   refused-grows n None = stays
   refused-grows n (Some s) =
-      cond_both (nat_lt n (length (above s.progress b.entries))) (staged_front n h b (Some s)) (record { shown = h.shown; stage = None }) Grows
+      cond_both (nat_lt n (length (newer_entries s.progress b.entries))) (staged_front n h b (Some s)) (record { shown = h.shown; stage = None }) Grows
       (λ _. front-grows n (Some s)) (λ _. stays)
 
   routed-grows : (p : Block) (staged : Option Stage → Holder) → (b.after ≤ h.shown.held → h.shown.held ≤ b.upto → IsPart b h.shown.held p)
-      → ((o : Option Stage) → IfSome o (Joins h b) → Grows (staged o)) → Grows (routed h b (shown_with h p) staged)
+      → ((o : Option Stage) → IfSome o (Joins h b) → Grows (staged o)) → Grows (holder_by_route h b (shown_with h p) staged)
   routed-grows p staged to_shown to_stage =
       cond_both (joins_shown h.shown b) (shown_with h p) (cond (nat_lt h.shown.held b.floor) (staged (stage_for h.stage b)) h) Grows
       (λ joins.
@@ -117,8 +117,8 @@ module _ (h : Holder) (b : Block) (i : IsHolder h) (is : IsBlock b) where
   holder-grows Stale = stays
   holder-grows OwnersFull = stays
   holder-grows (Taken n) = routed-grows (part_above h.shown.held b) (staged_all h b) (part_is b h.shown.held is) all-grows
-  holder-grows (TooManyKeys n) = routed-grows (front n (part_above h.shown.held b)) (staged_front n h b) (front_is n b h.shown.held is) (λ o _. front-grows n o)
-  holder-grows (NoMemory n) = routed-grows (front n (part_above h.shown.held b)) (staged_refused n h b) (front_is n b h.shown.held is) (λ o _. refused-grows n o)
+  holder-grows (TooManyKeys n) = routed-grows (leading_part n (part_above h.shown.held b)) (staged_front n h b) (front_is n b h.shown.held is) (λ o _. front-grows n o)
+  holder-grows (NoMemory n) = routed-grows (leading_part n (part_above h.shown.held b)) (staged_refused n h b) (front_is n b h.shown.held is) (λ o _. refused-grows n o)
 
 -- ---- a block of a node
 

@@ -17,3 +17,4 @@ pub mod Wanted
 pub mod Behind
 pub mod Rising
 pub mod Starts
+pub mod Purged

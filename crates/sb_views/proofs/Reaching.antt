@@ -9,7 +9,7 @@ use Rattle.std.specs.Ordering.{is_lt, is_le}
 use Rattle.std.specs.declared.cmp.Ordering.TheVariants.{Less}
 use Rattle.sb_types.specs.Value.{Value}
 use Rattle.sb_types.proofs.Texts.{text_lt-back, starts-behind, starts-between}
-use Rattle.sb_views.specs.LiveRows.{LiveRow, row_at, reached, is_behind}
+use Rattle.sb_views.specs.LiveRows.{LiveRow, row_at, live_rows_under, is_behind}
 use Rattle.sb_views.proofs.ByText.{by_text, Ascend}
 
 module _ (owner prefix : List ℕ) where
@@ -31,9 +31,9 @@ module _ (owner prefix : List ℕ) where
 
   module _ (test : List ℕ → Bool) (from : (key : List ℕ) → test key ≡ is_le (by_text prefix key)) where
     reached-case : (p : List ℕ × (Value × ℕ)) (ps : List (List ℕ × (Value × ℕ))) → AllByRecursion (λ k. by_text p.0 k ≡ Less) (keys_of ps)
-        → reached owner prefix (filter (λ q. test q.0) ps) ≡ map (row_at owner) (filter begins ps)
+        → live_rows_under owner prefix (filter (λ q. test q.0) ps) ≡ map (row_at owner) (filter begins ps)
         → (t b : Bool) → test p.0 ≡ t → begins p ≡ b
-        → reached owner prefix (filter (λ q. test q.0) (p ∷ ps)) ≡ map (row_at owner) (filter begins (p ∷ ps))
+        → live_rows_under owner prefix (filter (λ q. test q.0) (p ∷ ps)) ≡ map (row_at owner) (filter begins (p ∷ ps))
     reached-case p ps behind rest true true is starts = rw (is, starts) (ap (λ (rows : List LiveRow). row_at owner p ∷ rows) rest)
     reached-case p ps behind rest true false is starts =
         rw (is, starts) (ap (map (row_at owner)) (sym (none-later p.0 (sym (from p.0) ∙ is) starts ps behind)))
@@ -42,7 +42,7 @@ module _ (owner prefix : List ℕ) where
         absurd (false≢true (sym is ∙ from p.0 ∙ least))
     reached-case p ps behind rest false false is starts = rw (is, starts) rest
 
-    pub reached-filter : (es : List (List ℕ × (Value × ℕ))) → Ascend es → reached owner prefix (filter (λ q. test q.0) es) ≡ map (row_at owner) (filter begins es)
+    pub reached-filter : (es : List (List ℕ × (Value × ℕ))) → Ascend es → live_rows_under owner prefix (filter (λ q. test q.0) es) ≡ map (row_at owner) (filter begins es)
     unfolding IsStrictlySortedBy
     reached-filter [] up = refl
     reached-filter (p ∷ ps) up = reached-case p ps up.0 (reached-filter ps up.1) (test p.0) (begins p) refl refl
@@ -57,9 +57,9 @@ module _ (owner prefix : List ℕ) where
     own-behind p = rw (tied_itself nat_list_cmp_total owner) refl
 
     behind-case : (p : List ℕ × (Value × ℕ)) (ps : List (List ℕ × (Value × ℕ))) → AllByRecursion (λ k. by_text p.0 k ≡ Less) (keys_of ps)
-        → reached owner prefix (filter (λ q. test q.0) ps) ≡ left ps
+        → live_rows_under owner prefix (filter (λ q. test q.0) ps) ≡ left ps
         → (t b : Bool) → test p.0 ≡ t → begins p ≡ b
-        → reached owner prefix (filter (λ q. test q.0) (p ∷ ps)) ≡ left (p ∷ ps)
+        → live_rows_under owner prefix (filter (λ q. test q.0) (p ∷ ps)) ≡ left (p ∷ ps)
     behind-case p ps later rest true true is starts =
         let stands : is_behind (Some (owner, key)) (row_at owner p) ≡ true = own-behind p ∙ sym (behind p.0 starts) ∙ is in
         rw (is, starts, stands) (ap (λ (rows : List LiveRow). row_at owner p ∷ rows) rest)
@@ -71,7 +71,7 @@ module _ (owner prefix : List ℕ) where
     behind-case p ps later rest false false is starts = rw (is, starts) rest
 
     -- what is reached from a start behind the key is all that begins so and stands behind it
-    pub reached-behind : (es : List (List ℕ × (Value × ℕ))) → Ascend es → reached owner prefix (filter (λ q. test q.0) es) ≡ left es
+    pub reached-behind : (es : List (List ℕ × (Value × ℕ))) → Ascend es → live_rows_under owner prefix (filter (λ q. test q.0) es) ≡ left es
     unfolding IsStrictlySortedBy
     reached-behind [] up = refl
     reached-behind (p ∷ ps) up = behind-case p ps up.0 (reached-behind ps up.1) (test p.0) (begins p) refl refl

@@ -9,7 +9,7 @@ use Rattle.sb_types.specs.declared.entry.Slot.{Slot}
 use Rattle.sb_types.specs.declared.entry.Slot.TheVariants.{Set, Removed}
 use Rattle.sb_types.specs.Value.{Value}
 use Rattle.sb_types.specs.Records.{Entry, Table}
-use Rattle.sb_types.specs.Runs.{entered, entry_at, shown_slot, shown_by_entry, shown_at}
+use Rattle.sb_types.specs.Runs.{entries_after, entry_at, shown_slot, shown_by_entry, shown_at}
 use Rattle.sb_types.proofs.Texts.{same_text, text_same}
 use Rattle.sb_table.proofs.Lookup.{entry_at-entered_same, entry_at-entered_other}
 use Rattle.sb_views.specs.declared.change.Change.{Change}
@@ -25,15 +25,15 @@ row-got rows e (Set value) key = get-insert nat_list_cmp_total rows e.key (value
 row-got rows e Removed key = get-remove nat_list_cmp_total rows e.key key
 
 module _ (rows : FinMap by_text (Value × ℕ)) (es : List Entry) (e : Entry) (shown : (key : List ℕ) → get rows key ≡ shown_at key es) where
-  row-case : (key : List ℕ) (b : Bool) → eq_by_cmp by_text key e.key ≡ b → cond b (shown_slot e.version e.slot) (get rows key) ≡ shown_at key (entered es (e ∷ []))
+  row-case : (key : List ℕ) (b : Bool) → eq_by_cmp by_text key e.key ≡ b → cond b (shown_slot e.version e.slot) (get rows key) ≡ shown_at key (entries_after es (e ∷ []))
   row-case key true is =
       let same : key ≡ e.key = same_text key e.key (texts_ties key e.key ∙ is) in
-      sym (ap shown_by_entry (ap (λ (k : List ℕ). entry_at k (entered es (e ∷ []))) same ∙ entry_at-entered_same es e))
+      sym (ap shown_by_entry (ap (λ (k : List ℕ). entry_at k (entries_after es (e ∷ []))) same ∙ entry_at-entered_same es e))
   row-case key false is =
       let apart : key ≢ e.key = λ same. (let tied = text_same key e.key same in let not = texts_ties key e.key ∙ is in absurd (cc)) in
       shown key ∙ sym (ap shown_by_entry (entry_at-entered_other key es e apart))
 
-  pub row-with : (key : List ℕ) → get (rows_with rows e e.slot) key ≡ shown_at key (entered es (e ∷ []))
+  pub row-with : (key : List ℕ) → get (rows_with rows e e.slot) key ≡ shown_at key (entries_after es (e ∷ []))
   row-with key = row-got rows e e.slot key ∙ row-case key (eq_by_cmp by_text key e.key) refl
 
 -- ---- one owner that changes

@@ -2,7 +2,7 @@
 use Rattle.std.specs.Prelude.{◌≡◌, ◌++◌, ℕ, nat_eq, nat_lt, if◌then◌else◌, List, [], ◌∷◌, map, filter, flat_map, None}
 use Rattle.std.specs.Cmp.Lexicographic.{pointwise}
 use Rattle.sb_types.specs.Records.{Table}
-use Rattle.sb_types.specs.Runs.{above, last_version}
+use Rattle.sb_types.specs.Runs.{newer_entries, last_version}
 use Rattle.sb_table.specs.Plain.{with_entry}
 use Rattle.sb_holdings.specs.Held.{Held, shown_of}
 use Rattle.sb_holdings.specs.Plain.{tables_from}
@@ -42,8 +42,8 @@ abbrev pub Leads : Held → Held → List (List ℕ × Change) → Type 0
 Leads old new batch = (owner : List ℕ) → IsAlike (table_with_all (shown_of old owner) (of_owner owner batch)) (shown_of new owner)
 
 -- changes, each with the owner
-abbrev pub owned : List ℕ → List Change → List (List ℕ × Change)
-owned owner changes = map (λ c. (owner, c)) changes
+abbrev pub changes_of_owner : List ℕ → List Change → List (List ℕ × Change)
+changes_of_owner owner changes = map (λ c. (owner, c)) changes
 
 -- where the owner is held beyond the last version that was entered, this is said
 abbrev pub held_beyond : ℕ → ℕ → List Change
@@ -51,12 +51,12 @@ held_beyond last upto = if nat_lt last upto then Hold upto ∷ [] else []
 
 -- the table's entries above a version, and then how far it is held
 abbrev pub changes_above : ℕ → Table → List Change
-changes_above version t = map Enter (above version t.entries) ++ held_beyond (last_version version (above version t.entries)) t.held
+changes_above version t = map Enter (newer_entries version t.entries) ++ held_beyond (last_version version (newer_entries version t.entries)) t.held
 
 -- what a view lacks of the table that has it up to a version and with a floor: all entries anew, where the floor rose
 abbrev pub lacked_of : ℕ → ℕ → Table → List Change
 lacked_of version floor t = if nat_lt floor t.floor then Clear ∷ changes_above 0 t else changes_above version t
 
 -- what a view without owners lacks, owner by owner
-abbrev pub all_owned : Held → List (List ℕ × Change)
-all_owned held = flat_map (λ p. owned p.0 (changes_above 0 p.1)) (tables_from None held)
+abbrev pub all_changes : Held → List (List ℕ × Change)
+all_changes held = flat_map (λ p. changes_of_owner p.0 (changes_above 0 p.1)) (tables_from None held)

@@ -60,14 +60,14 @@ rest_of wanted prefix owner key view =
     if is_wanted wanted owner then option_map (λ owner_view. filter (is_behind (Some (owner, key))) (rows_under prefix owner owner_view)) (get view owner) else None
 
 -- the first rows, as long as their keys begin so
-abbrev pub reached : List ℕ → List ℕ → List (List ℕ × (Value × ℕ)) → List LiveRow
-reached owner prefix [] = []
-reached owner prefix (p ∷ ps) = if starts_with nat_eq p.0 prefix then row_at owner p ∷ reached owner prefix ps else []
+abbrev pub live_rows_under : List ℕ → List ℕ → List (List ℕ × (Value × ℕ)) → List LiveRow
+live_rows_under owner prefix [] = []
+live_rows_under owner prefix (p ∷ ps) = if starts_with nat_eq p.0 prefix then row_at owner p ∷ live_rows_under owner prefix ps else []
 
 -- none, once there was an end
 abbrev pub rows_left : Bool → List ℕ → List ℕ → List (List ℕ × (Value × ℕ)) → List LiveRow
 rows_left true owner prefix ps = []
-rows_left false owner prefix ps = reached owner prefix ps
+rows_left false owner prefix ps = live_rows_under owner prefix ps
 
 -- those of the owner that is read, and then those of the owners behind
 abbrev pub rows_to_come : List ℕ → Option (List LiveRow) → List (List ℕ × OwnerView) → List LiveRow

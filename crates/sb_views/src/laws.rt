@@ -4,7 +4,7 @@ ghost use Rattle.sb_types.specs.Limits.{is_delta};
 ghost use Rattle.sb_types.specs.Records as records;
 ghost use Rattle.sb_types.specs.Runs.{shown_at};
 ghost use Rattle.sb_holdings.specs.declared.ends.BlockEnd.{BlockEnd};
-ghost use Rattle.sb_holdings.specs.Held.{Held, shown_of, written};
+ghost use Rattle.sb_holdings.specs.Held.{Held, shown_of, held_after_write, purged_own};
 ghost use Rattle.sb_holdings.specs.Nodes.{Node, replay_node};
 ghost use Rattle.sb_holdings.specs.Plain.{IsHoldings};
 ghost use Rattle.sb_holdings.specs.Treats.{Treats, took_each};
@@ -25,7 +25,7 @@ pub fn views_show_what_is_held()
 
 /// A node's own write leads on by itself: with it entered, the tables are those after the write.
 pub fn own_writes_lead()
-    ensures { (held : Held) (e : records.Entry) → e.version ≡ (shown_of held held.me).held + 1 → Leads held (written held e) ((held.me, changes.Enter e) ∷ []) }
+    ensures { (held : Held) (e : records.Entry) → e.version ≡ (shown_of held held.me).held + 1 → Leads held (held_after_write held e) ((held.me, changes.Enter e) ∷ []) }
 {}
 
 /// Rows come in ascending order: each stands behind those before it, by owner and then by key.
@@ -34,12 +34,13 @@ pub fn rows_ascend()
         rows.AreAscending (rows.rows_behind place wanted prefix view) }
 {}
 
-/// Tables grow: after any own writes and deltas, however their blocks end, of each owner neither the version that is held
-/// nor the floor is lower, and where the floor is the same the entries are the earlier ones with those entered that the
+/// Tables grow, after any own writes, purges and deltas, however their blocks end. No owner's held version or floor falls.
+/// If the floor is the same, the entries are the earlier ones with those entered that the
 /// owner now has above the earlier version.
 pub fn tables_grow()
     ensures none { (held : Held) → IsHoldings held → AreGrown held held }
-    ensures own { (held : Held) (e : records.Entry) → IsHoldings held → AreGrown held (written held e) }
+    ensures own { (held : Held) (e : records.Entry) → IsHoldings held → AreGrown held (held_after_write held e) }
+    ensures purged { (held : Held) (floor : ℕ) → IsHoldings held → AreGrown held (purged_own held floor) }
     ensures delta { (node : Node) (blocks : List records.Block) (ends : List BlockEnd) →
         IsHoldings node.held → is_delta blocks ≡ true → Treats node blocks ends → AreGrown node.held (replay_node node (took_each blocks ends)).held }
     ensures further { (first second third : Held) → AreGrown first second → AreGrown second third → AreGrown first third }
@@ -48,4 +49,12 @@ pub fn tables_grow()
 /// What is new of tables that grew leads on: with it made, owner by owner, the earlier tables are alike to the later ones.
 pub fn new_changes_lead()
     ensures { (old new : Held) → IsHoldings new → AreGrown old new → Leads old new (new_changes old new) }
+{}
+
+/// A purge changes nothing that views show. Each owner's held version stays, and so does each key's value, with the
+/// version of its write.
+pub fn purges_show_nothing()
+    ensures upto { (held : Held) (floor : ℕ) (owner : List ℕ) → IsHoldings held → (shown_of (purged_own held floor) owner).held ≡ (shown_of held owner).held }
+    ensures row { (held : Held) (floor : ℕ) (owner key : List ℕ) →
+        IsHoldings held → shown_at key (shown_of (purged_own held floor) owner).entries ≡ shown_at key (shown_of held owner).entries }
 {}

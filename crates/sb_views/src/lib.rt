@@ -44,7 +44,8 @@ pub use change::{Change, ChangeRef};
 pub use event::{Event, EventRef};
 pub use history::{History, HistoryPrefix, NewHistory, NodeTag, Position};
 pub use laws::{
-    new_changes_lead, own_writes_lead, rows_ascend, tables_grow, views_show_what_is_held,
+    new_changes_lead, own_writes_lead, purges_show_nothing, rows_ascend, tables_grow,
+    views_show_what_is_held,
 };
 pub use live::LiveValue;
 pub use opening::views;

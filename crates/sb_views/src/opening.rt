@@ -1,10 +1,10 @@
 //! The view of a node as it is opened, and the making of its writer and its readers.
 ghost use Rattle.std.specs.Prelude.{◌≡◌, ◌<◌, ◌^◌, [], map, replicate, IfOk, IfErr, OnOk};
 ghost use Rattle.std.specs.FinMap.{empty};
-ghost use Rattle.sb_types.specs.Runs.{above, last_version};
+ghost use Rattle.sb_types.specs.Runs.{newer_entries, last_version};
 ghost use Rattle.sb_holdings.specs.Plain.{IsHoldings};
 ghost use Rattle.sb_views.specs.declared.change.Change.TheVariants as changes;
-ghost use Rattle.sb_views.specs.Changes.{owned, changes_above, all_owned};
+ghost use Rattle.sb_views.specs.Changes.{changes_of_owner, changes_above, all_changes};
 ghost use Rattle.sb_views.specs.NodeViews as node_views;
 
 use crate::change::ChangeRef;
@@ -21,8 +21,8 @@ use std::sync::Wait;
 
 /// Shows all entries of an owner, and gives the version of the last one, 0 where there is none.
 fn enter_all(view: &mut NodeView, owner: &Name, table: &Table) -> Result<u64, AllocError>
-    ensures entered { OnOk result (view.new ≡ node_views.view_with_all view.old (owned owner.now (map changes.Enter (above 0 table.now.entries)))) }
-    ensures last { IfOk result (λ last. last ≡ last_version 0 (above 0 table.now.entries)) }
+    ensures entered { OnOk result (view.new ≡ node_views.view_with_all view.old (changes_of_owner owner.now (map changes.Enter (newer_entries 0 table.now.entries)))) }
+    ensures last { IfOk result (λ last. last ≡ last_version 0 (newer_entries 0 table.now.entries)) }
 {
     let mut last = 0;
     for entry in table.after(0) {
@@ -34,7 +34,7 @@ fn enter_all(view: &mut NodeView, owner: &Name, table: &Table) -> Result<u64, Al
 
 /// Shows all entries of an owner, and up to which version it is held.
 fn show_table(view: &mut NodeView, owner: &Name, table: &Table) -> Result<(), AllocError>
-    ensures { OnOk result (view.new ≡ node_views.view_with_all view.old (owned owner.now (changes_above 0 table.now))) }
+    ensures { OnOk result (view.new ≡ node_views.view_with_all view.old (changes_of_owner owner.now (changes_above 0 table.now))) }
 {
     let last = enter_all(view, owner, table)?;
     if last >= table.upto() {
@@ -45,7 +45,7 @@ fn show_table(view: &mut NodeView, owner: &Name, table: &Table) -> Result<(), Al
 
 /// The view of all that is held.
 fn view_of(alloc: Global, holdings: &Holdings) -> Result<NodeView, AllocError>
-    ensures view { IfOk result (λ view. view ≡ node_views.view_with_all empty (all_owned holdings.now)) }
+    ensures view { IfOk result (λ view. view ≡ node_views.view_with_all empty (all_changes holdings.now)) }
     ensures holdings { IsHoldings holdings.now }
 {
     let mut view = NodeView::new(alloc);

@@ -21,6 +21,8 @@ mod printing;
 #[cfg(test)]
 mod reading;
 #[cfg(test)]
+mod statuses;
+#[cfg(test)]
 mod views;
 #[cfg(test)]
 mod watches;

@@ -7,7 +7,7 @@ use Rattle.std.proofs.lemmas.List.Folds.{find-append}
 use Rattle.sb_watch.specs.declared.note.Filter.{Filter}
 use Rattle.sb_watch.specs.declared.note.Note.{Note}
 use Rattle.sb_watch.specs.Records.{Watch, Hub}
-use Rattle.sb_watch.specs.Watches.{matches, new_watch, with_note, told, answered}
+use Rattle.sb_watch.specs.Watches.{matches, new_watch, with_note, watch_after_note, watch_after_answer}
 use Rattle.sb_watch.specs.Hubs.{is_id, IsHub, has_watch, watch_at, with_watch, with_push, with_answer, without_watch}
 use Rattle.sb_watch.specs.Calls.{Call, adds, pushes, takes, drops, hub_after}
 use Rattle.sb_watch.proofs.Places.{change, none_found}
@@ -26,11 +26,11 @@ find_mapped f g id same agree (w ∷ ws) = elim (cases_Bool (is_id id w)) [
       ∙ sym (ap (option_map g) (cond-false (is_id id w) (Some w) (find (is_id id) ws) behind))
 ]
 
-told_id : (note : Note) (w : Watch) → (told note w).id ≡ w.id
+told_id : (note : Note) (w : Watch) → (watch_after_note note w).id ≡ w.id
 told_id note w = cond_id (matches w.filter note) (with_note w note) w refl
 
-changed_id : (id : ℕ) (w : Watch) → (change (is_id id) answered w).id ≡ w.id
-changed_id id w = cond_id (is_id id w) (answered w) w refl
+changed_id : (id : ℕ) (w : Watch) → (change (is_id id) watch_after_answer w).id ≡ w.id
+changed_id id w = cond_id (is_id id w) (watch_after_answer w) w refl
 
 same_option : (o : Option Watch) → option_map (λ (w : Watch). w) o ≡ o
 same_option None = refl
@@ -43,15 +43,15 @@ or_none (Some w) = refl
 other_id : (id other : ℕ) (w : Watch) → other ≢ id → is_id other w ≡ true → is_id id w ≡ false
 other_id id other w apart there = ne_eqb w.id id (λ same. apart (sym (eqb-true w.id other there) ∙ same))
 
-pub pushed_at : (hub : Hub) (note : Note) (id : ℕ) → watch_at (with_push hub note) id ≡ option_map (told note) (watch_at hub id)
-pushed_at hub note id = find_mapped (told note) (told note) id (told_id note) (λ w there. refl) hub.watches
+pub pushed_at : (hub : Hub) (note : Note) (id : ℕ) → watch_at (with_push hub note) id ≡ option_map (watch_after_note note) (watch_at hub id)
+pushed_at hub note id = find_mapped (watch_after_note note) (watch_after_note note) id (told_id note) (λ w there. refl) hub.watches
 
-pub answered_at : (hub : Hub) (id : ℕ) → watch_at (with_answer hub id) id ≡ option_map answered (watch_at hub id)
-answered_at hub id = find_mapped (change (is_id id) answered) answered id (changed_id id) (λ w there. cond-true (is_id id w) (answered w) w there) hub.watches
+pub answered_at : (hub : Hub) (id : ℕ) → watch_at (with_answer hub id) id ≡ option_map watch_after_answer (watch_at hub id)
+answered_at hub id = find_mapped (change (is_id id) watch_after_answer) watch_after_answer id (changed_id id) (λ w there. cond-true (is_id id w) (watch_after_answer w) w there) hub.watches
 
 pub others_unasked : (hub : Hub) (id other : ℕ) → other ≢ id → watch_at (with_answer hub id) other ≡ watch_at hub other
 others_unasked hub id other apart =
-    find_mapped (change (is_id id) answered) (λ w. w) other (changed_id id) (λ w there. cond-false (is_id id w) (answered w) w (other_id id other w apart there)) hub.watches
+    find_mapped (change (is_id id) watch_after_answer) (λ w. w) other (changed_id id) (λ w there. cond-false (is_id id w) (watch_after_answer w) w (other_id id other w apart there)) hub.watches
     ∙ same_option (watch_at hub other)
 
 pub added_at : (hub : Hub) (filter : Filter) (capacity : ℕ) → IsHub hub → watch_at (with_watch hub filter capacity) hub.next ≡ Some (new_watch hub.next filter capacity)
@@ -123,6 +123,6 @@ pub gone_for_good : (calls : List Call) (hub : Hub) (id : ℕ) → id < hub.next
 gone_for_good [] hub id used none = none
 gone_for_good (adds filter capacity ∷ calls) hub id used none =
     gone_for_good calls (with_watch hub filter capacity) id (omega (arith, used)) (none_with id (new_watch hub.next filter capacity) hub.watches (ne_eqb hub.next id (λ same. omega (arith, same, used))) none)
-gone_for_good (pushes note ∷ calls) hub id used none = gone_for_good calls (with_push hub note) id used (none_mapped (told note) (told_id note) id hub.watches none)
-gone_for_good (takes at ∷ calls) hub id used none = gone_for_good calls (with_answer hub at) id used (none_mapped (change (is_id at) answered) (changed_id at) id hub.watches none)
+gone_for_good (pushes note ∷ calls) hub id used none = gone_for_good calls (with_push hub note) id used (none_mapped (watch_after_note note) (told_id note) id hub.watches none)
+gone_for_good (takes at ∷ calls) hub id used none = gone_for_good calls (with_answer hub at) id used (none_mapped (change (is_id at) watch_after_answer) (changed_id at) id hub.watches none)
 gone_for_good (drops at ∷ calls) hub id used none = gone_for_good calls (without_watch hub at) id used (none_filtered (λ w. not (is_id at w)) id hub.watches none)

@@ -8,7 +8,7 @@ use Rattle.sb_types.specs.declared.fault.Fault.TheVariants.{NoWatch}
 use Rattle.sb_watch.specs.declared.limits.TheConstants.{WATCHES_MOST}
 use Rattle.sb_watch.specs.declared.note.Note.{Note}
 use Rattle.sb_watch.specs.Records.{Watch, Hub}
-use Rattle.sb_watch.specs.Watches.{matches, with_note, told, answer_of, answered}
+use Rattle.sb_watch.specs.Watches.{matches, with_note, watch_after_note, answer_of, watch_after_answer}
 use Rattle.sb_watch.specs.Hubs.{is_id, id_of, are_ids, IsHub, with_push, with_answer, answer_if_found, answer_at, without_watch}
 use Rattle.sb_watch.proofs.Places.{change, none_placed, none_found, none_changed, none_dropped, found_at, any_at}
 
@@ -121,10 +121,10 @@ cond_id true v w same = same
 cond_id false v w same = refl
 
 pub hub_pushed : (hub : Hub) (note : Note) → IsHub hub → IsHub (with_push hub note)
-hub_pushed hub note is = hub_mapped (told note) hub (λ w. cond_id (matches w.filter note) (with_note w note) w refl) is
+hub_pushed hub note is = hub_mapped (watch_after_note note) hub (λ w. cond_id (matches w.filter note) (with_note w note) w refl) is
 
 pub hub_answered : (hub : Hub) (id : ℕ) → IsHub hub → IsHub (with_answer hub id)
-hub_answered hub id is = hub_mapped (change (is_id id) answered) hub (λ w. cond_id (is_id id w) (answered w) w refl) is
+hub_answered hub id is = hub_mapped (change (is_id id) watch_after_answer) hub (λ w. cond_id (is_id id w) (watch_after_answer w) w refl) is
 
 pub hub_without : (hub : Hub) (id : ℕ) → IsHub hub → IsHub (without_watch hub id)
 hub_without hub id is = record {
@@ -143,10 +143,10 @@ hub_with hub w next room is = record {
 abbrev pub hub_of : List Watch → ℕ → Hub
 hub_of ws next = record { watches = ws; next = next }
 
-pub taken_at : (hub : Hub) (id i : ℕ) (d new : Watch) → IsHub hub → position (is_id id) hub.watches ≡ Some i → new ≡ answered (get_or hub.watches i d) → hub_of (set hub.watches i new) hub.next ≡ with_answer hub id
+pub taken_at : (hub : Hub) (id i : ℕ) (d new : Watch) → IsHub hub → position (is_id id) hub.watches ≡ Some i → new ≡ watch_after_answer (get_or hub.watches i d) → hub_of (set hub.watches i new) hub.next ≡ with_answer hub id
 taken_at hub id i d new is at same =
     let place = position-Some (is_id id) hub.watches i d at in
-    ap (λ (ws : List Watch). hub_of ws hub.next) (ap (set hub.watches i) same ∙ changed_at answered id 0 hub.next hub.watches i d is.ids place.0 place.1)
+    ap (λ (ws : List Watch). hub_of ws hub.next) (ap (set hub.watches i) same ∙ changed_at watch_after_answer id 0 hub.next hub.watches i d is.ids place.0 place.1)
 
 pub dropped_at : (hub : Hub) (id i : ℕ) (d : Watch) → IsHub hub → position (is_id id) hub.watches ≡ Some i → hub_of (remove hub.watches i) hub.next ≡ without_watch hub id
 dropped_at hub id i d is at =
@@ -154,7 +154,7 @@ dropped_at hub id i d is at =
     ap (λ (ws : List Watch). hub_of ws hub.next) (removed_at id 0 hub.next hub.watches i d is.ids place.0 place.1)
 
 pub none_taken : (hub : Hub) (id : ℕ) → position (is_id id) hub.watches ≡ None → hub ≡ with_answer hub id
-none_taken hub id at = ap (λ (ws : List Watch). hub_of ws hub.next) (sym (none_changed (is_id id) answered hub.watches (none_placed (is_id id) hub.watches at)))
+none_taken hub id at = ap (λ (ws : List Watch). hub_of ws hub.next) (sym (none_changed (is_id id) watch_after_answer hub.watches (none_placed (is_id id) hub.watches at)))
 
 pub none_left_out : (hub : Hub) (id : ℕ) → position (is_id id) hub.watches ≡ None → hub ≡ without_watch hub id
 none_left_out hub id at = ap (λ (ws : List Watch). hub_of ws hub.next) (sym (none_dropped (is_id id) hub.watches (none_placed (is_id id) hub.watches at)))

@@ -6,7 +6,7 @@ use Rattle.sb_watch.specs.declared.note.Filter.{Filter}
 use Rattle.sb_watch.specs.declared.note.Note.{Note}
 use Rattle.sb_watch.specs.declared.note.Polled.TheVariants as answers
 use Rattle.sb_watch.specs.Records.{Watch, Hub}
-use Rattle.sb_watch.specs.Watches.{matches, new_watch, with_note, told, oldest, answered}
+use Rattle.sb_watch.specs.Watches.{matches, new_watch, with_note, watch_after_note, oldest_answer, watch_after_answer}
 use Rattle.sb_watch.specs.Hubs.{is_id, watch_at, answer_if_found, answer_at, with_watch, with_push, with_answer, without_watch}
 
 module _ {X : Type 0} (P : X → Type 0) where
@@ -48,14 +48,14 @@ abbrev pub AllAre : (Note → Type 0) → Hub → Type 0
 AllAre P hub = AllByRecursion (λ (w : Watch). AllByRecursion P w.notes) hub.watches
 
 module _ (P : Note → Type 0) where
-  told_keeps : (note : Note) (w : Watch) → P note → AllByRecursion P w.notes → AllByRecursion P (told note w).notes
+  told_keeps : (note : Note) (w : Watch) → P note → AllByRecursion P w.notes → AllByRecursion P (watch_after_note note w).notes
   told_keeps note w one all = go (matches w.filter note)
     where
       go : (b : Bool) → AllByRecursion P (cond b (with_note w note) w).notes
       go true = all_dropped P (length (w.notes ++ note ∷ []) - w.capacity) (w.notes ++ note ∷ []) (all_with P w.notes note all one)
       go false = all
 
-  answered_keeps : (w : Watch) → AllByRecursion P w.notes → AllByRecursion P (answered w).notes
+  answered_keeps : (w : Watch) → AllByRecursion P w.notes → AllByRecursion P (watch_after_answer w).notes
   answered_keeps w all = go (w.lost == 0)
     where
       go : (b : Bool) → AllByRecursion P (cond b (drop 1 w.notes) w.notes)
@@ -63,12 +63,12 @@ module _ (P : Note → Type 0) where
       go false = all
 
   pub pushed_keeps : (hub : Hub) (note : Note) → AllAre P hub → P note → AllAre P (with_push hub note)
-  pushed_keeps hub note all one = all_mapped (λ (w : Watch). AllByRecursion P w.notes) (told note) (λ w. told_keeps note w one) hub.watches all
+  pushed_keeps hub note all one = all_mapped (λ (w : Watch). AllByRecursion P w.notes) (watch_after_note note) (λ w. told_keeps note w one) hub.watches all
 
   pub taken_keeps : (hub : Hub) (id : ℕ) → AllAre P hub → AllAre P (with_answer hub id)
-  taken_keeps hub id all = all_mapped (λ (w : Watch). AllByRecursion P w.notes) (λ (w : Watch). cond (is_id id w) (answered w) w) (λ w. go w (is_id id w)) hub.watches all
+  taken_keeps hub id all = all_mapped (λ (w : Watch). AllByRecursion P w.notes) (λ (w : Watch). cond (is_id id w) (watch_after_answer w) w) (λ w. go w (is_id id w)) hub.watches all
     where
-      go : (w : Watch) (b : Bool) → AllByRecursion P w.notes → AllByRecursion P (cond b (answered w) w).notes
+      go : (w : Watch) (b : Bool) → AllByRecursion P w.notes → AllByRecursion P (cond b (watch_after_answer w) w).notes
       go w true kept = answered_keeps w kept
       go w false kept = kept
 
@@ -82,11 +82,11 @@ module _ (P : Note → Type 0) where
   pub given_holds : (hub : Hub) (id : ℕ) (note : Note) → AllAre P hub → answer_at hub id ≡ Ok (answers.Note note) → P note
   given_holds hub id note all given = at (watch_at hub id) refl given
     where
-      first : (notes : List Note) → AllByRecursion P notes → oldest notes ≡ answers.Note note → P note
+      first : (notes : List Note) → AllByRecursion P notes → oldest_answer notes ≡ answers.Note note → P note
       first [] kept same = absurd cc
       first (next ∷ notes) kept same = let equal : next ≡ note = cc in subst P equal kept.0
 
-      answer : (w : Watch) (b : Bool) → AllByRecursion P w.notes → cond b (oldest w.notes) (answers.Lagged w.lost) ≡ answers.Note note → P note
+      answer : (w : Watch) (b : Bool) → AllByRecursion P w.notes → cond b (oldest_answer w.notes) (answers.Lagged w.lost) ≡ answers.Note note → P note
       answer w true kept same = first w.notes kept same
       answer w false kept same = absurd cc
 

@@ -7,8 +7,8 @@ use Rattle.sb_watch.specs.declared.note.Note.{Note}
 use Rattle.sb_watch.specs.declared.note.Filter.{Filter}
 use Rattle.sb_watch.specs.declared.note.Polled.TheVariants as answers
 use Rattle.sb_watch.specs.Records.{Watch}
-use Rattle.sb_watch.specs.Watches.{matches, new_watch, with_note, oldest}
-use Rattle.sb_watch.specs.Owed.{Deed, comes, asked, watch_after, answers_after, came, Account, Keeps}
+use Rattle.sb_watch.specs.Watches.{matches, new_watch, with_note, oldest_answer}
+use Rattle.sb_watch.specs.Owed.{Deed, comes, asked, watch_after, answers_after, matching_notes, Account, Keeps}
 
 -- to keep the last of what was kept with one more is to keep the last of all
 keep_last-more : (n : ℕ) (xs : List Note) (x : Note) → keep_last n (keep_last n xs ++ x ∷ []) ≡ keep_last n (xs ++ x ∷ [])
@@ -45,16 +45,16 @@ keeps_one_more w owed note few keeps = record {
     ]
 
 abbrev pub Follows : Watch → List Note → List Deed → Type 0
-Follows w owed deeds = (left : List Note) × Account (answers_after deeds w) (owed ++ came w.filter deeds) left × Keeps (watch_after deeds w) left
+Follows w owed deeds = (left : List Note) × Account (answers_after deeds w) (owed ++ matching_notes w.filter deeds) left × Keeps (watch_after deeds w) left
 
 abbrev FollowsAll : List Deed → Type 0
-FollowsAll deeds = (w : Watch) (owed : List Note) → length (owed ++ came w.filter deeds) < 2 ^ 64 → Keeps w owed → Follows w owed deeds
+FollowsAll deeds = (w : Watch) (owed : List Note) → length (owed ++ matching_notes w.filter deeds) < 2 ^ 64 → Keeps w owed → Follows w owed deeds
 
 -- a note comes, and matches or not
-follows_note : (deeds : List Deed) (w : Watch) (owed : List Note) (note : Note) (b : Bool) → length (owed ++ cond b (note ∷ came w.filter deeds) (came w.filter deeds)) < 2 ^ 64 → Keeps w owed → FollowsAll deeds → (left : List Note) × Account (answers_after deeds (cond b (with_note w note) w)) (owed ++ cond b (note ∷ came w.filter deeds) (came w.filter deeds)) left × Keeps (watch_after deeds (cond b (with_note w note) w)) left
+follows_note : (deeds : List Deed) (w : Watch) (owed : List Note) (note : Note) (b : Bool) → length (owed ++ cond b (note ∷ matching_notes w.filter deeds) (matching_notes w.filter deeds)) < 2 ^ 64 → Keeps w owed → FollowsAll deeds → (left : List Note) × Account (answers_after deeds (cond b (with_note w note) w)) (owed ++ cond b (note ∷ matching_notes w.filter deeds) (matching_notes w.filter deeds)) left × Keeps (watch_after deeds (cond b (with_note w note) w)) left
 follows_note deeds w owed note true few keeps rest =
-    let joined = append_assoc owed (note ∷ []) (came w.filter deeds) in
-    let long = length-append owed (note ∷ came w.filter deeds) in
+    let joined = append_assoc owed (note ∷ []) (matching_notes w.filter deeds) in
+    let long = length-append owed (note ∷ matching_notes w.filter deeds) in
     let on = rest (with_note w note) (owed ++ note ∷ []) (subst (λ (ns : List Note). length ns < 2 ^ 64) (sym joined) few) (keeps_one_more w owed note (omega (arith, long, few)) keeps) in
     (on.0, subst (λ (ns : List Note). Account (answers_after deeds (with_note w note)) ns on.0) joined on.1, on.2)
 follows_note deeds w owed note false few keeps rest = rest w owed few keeps
@@ -64,30 +64,30 @@ abbrev caught_up : Watch → List Note → Watch
 caught_up w notes = record { id = w.id; filter = w.filter; capacity = w.capacity; notes = notes; lost = 0 }
 
 -- it is asked and has lost none: the oldest note that is owed, if any
-follows_oldest : (deeds : List Deed) (w : Watch) (owed : List Note) → length owed ≤ w.capacity → length (owed ++ came w.filter deeds) < 2 ^ 64 → FollowsAll deeds → (left : List Note) × Account (oldest owed ∷ answers_after deeds (caught_up w (drop 1 owed))) (owed ++ came w.filter deeds) left × Keeps (watch_after deeds (caught_up w (drop 1 owed))) left
+follows_oldest : (deeds : List Deed) (w : Watch) (owed : List Note) → length owed ≤ w.capacity → length (owed ++ matching_notes w.filter deeds) < 2 ^ 64 → FollowsAll deeds → (left : List Note) × Account (oldest_answer owed ∷ answers_after deeds (caught_up w (drop 1 owed))) (owed ++ matching_notes w.filter deeds) left × Keeps (watch_after deeds (caught_up w (drop 1 owed))) left
 follows_oldest deeds w [] fits few rest = rest (caught_up w []) [] few (record { notes = sym (keep_last-all w.capacity [] fits); lost = omega arith })
 follows_oldest deeds w (note ∷ owed) fits few rest =
     let on = rest (caught_up w owed) owed (omega (arith, few)) (record { notes = sym (keep_last-all w.capacity owed (omega (arith, fits))); lost = omega (arith, fits) }) in
     (on.0, (refl, on.1), on.2)
 
 -- it is asked and has lost some: how many, and what is owed from then on is what it has
-follows_lost : (deeds : List Deed) (w : Watch) (owed : List Note) → 0 < w.lost → length (owed ++ came w.filter deeds) < 2 ^ 64 → Keeps w owed → FollowsAll deeds → (left : List Note) × Account (answers.Lagged w.lost ∷ answers_after deeds (caught_up w w.notes)) (owed ++ came w.filter deeds) left × Keeps (watch_after deeds (caught_up w w.notes)) left
+follows_lost : (deeds : List Deed) (w : Watch) (owed : List Note) → 0 < w.lost → length (owed ++ matching_notes w.filter deeds) < 2 ^ 64 → Keeps w owed → FollowsAll deeds → (left : List Note) × Account (answers.Lagged w.lost ∷ answers_after deeds (caught_up w w.notes)) (owed ++ matching_notes w.filter deeds) left × Keeps (watch_after deeds (caught_up w w.notes)) left
 follows_lost deeds w owed some few keeps rest =
     let lost = keeps.lost in
     let left = length-drop w.lost owed in
-    let joined = drop-append-le w.lost owed (came w.filter deeds) (omega (arith, lost)) in
-    let long = length-append owed (came w.filter deeds) in
-    let less = length-append (drop w.lost owed) (came w.filter deeds) in
+    let joined = drop-append-le w.lost owed (matching_notes w.filter deeds) (omega (arith, lost)) in
+    let long = length-append owed (matching_notes w.filter deeds) in
+    let less = length-append (drop w.lost owed) (matching_notes w.filter deeds) in
     let same : w.notes ≡ drop w.lost owed = keeps.notes ∙ ap (λ (k : ℕ). drop k owed) (sym lost) in
     let on = rest (caught_up w w.notes) (drop w.lost owed) (omega (arith, few, long, less, left)) (record { notes = same ∙ sym (keep_last-all w.capacity (drop w.lost owed) (omega (arith, left, lost))); lost = omega (arith, left, lost) }) in
     (on.0, (some, omega (arith, lost, long), subst (λ (ns : List Note). Account (answers_after deeds (caught_up w w.notes)) ns on.0) (sym joined) on.1), on.2)
 
-follows_asked : (deeds : List Deed) (w : Watch) (owed : List Note) (b : Bool) → (w.lost == 0) ≡ b → length (owed ++ came w.filter deeds) < 2 ^ 64 → Keeps w owed → FollowsAll deeds → (left : List Note) × Account (cond b (oldest w.notes) (answers.Lagged w.lost) ∷ answers_after deeds (caught_up w (cond b (drop 1 w.notes) w.notes))) (owed ++ came w.filter deeds) left × Keeps (watch_after deeds (caught_up w (cond b (drop 1 w.notes) w.notes))) left
+follows_asked : (deeds : List Deed) (w : Watch) (owed : List Note) (b : Bool) → (w.lost == 0) ≡ b → length (owed ++ matching_notes w.filter deeds) < 2 ^ 64 → Keeps w owed → FollowsAll deeds → (left : List Note) × Account (cond b (oldest_answer w.notes) (answers.Lagged w.lost) ∷ answers_after deeds (caught_up w (cond b (drop 1 w.notes) w.notes))) (owed ++ matching_notes w.filter deeds) left × Keeps (watch_after deeds (caught_up w (cond b (drop 1 w.notes) w.notes))) left
 follows_asked deeds w owed true none few keeps rest =
     let zero = eqb-true w.lost 0 none in
     let lost = keeps.lost in
     let fits : length owed ≤ w.capacity = omega (arith, zero, lost) in
-    subst (λ (ns : List Note). (left : List Note) × Account (oldest ns ∷ answers_after deeds (caught_up w (drop 1 ns))) (owed ++ came w.filter deeds) left × Keeps (watch_after deeds (caught_up w (drop 1 ns))) left)
+    subst (λ (ns : List Note). (left : List Note) × Account (oldest_answer ns ∷ answers_after deeds (caught_up w (drop 1 ns))) (owed ++ matching_notes w.filter deeds) left × Keeps (watch_after deeds (caught_up w (drop 1 ns))) left)
     (sym (keeps.notes ∙ keep_last-all w.capacity owed fits))
     (follows_oldest deeds w owed fits few rest)
 follows_asked deeds w owed false some few keeps rest =
@@ -99,5 +99,5 @@ follows [] w owed few keeps = (owed, append-nil owed, keeps)
 follows (comes note ∷ deeds) w owed few keeps = follows_note deeds w owed note (matches w.filter note) few keeps (λ v more few keeps. follows deeds v more few keeps)
 follows (asked ∷ deeds) w owed few keeps = follows_asked deeds w owed (w.lost == 0) refl few keeps (λ v more few keeps. follows deeds v more few keeps)
 
-pub new_watches_follow : (id capacity : ℕ) (filter : Filter) (deeds : List Deed) → length (came filter deeds) < 2 ^ 64 → Follows (new_watch id filter capacity) [] deeds
+pub new_watches_follow : (id capacity : ℕ) (filter : Filter) (deeds : List Deed) → length (matching_notes filter deeds) < 2 ^ 64 → Follows (new_watch id filter capacity) [] deeds
 new_watches_follow id capacity filter deeds few = follows deeds (new_watch id filter capacity) [] few (record { notes = sym (keep_last-all capacity [] (omega arith)); lost = omega arith })

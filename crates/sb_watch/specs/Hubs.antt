@@ -9,7 +9,7 @@ use Rattle.sb_watch.specs.declared.note.Filter.{Filter}
 use Rattle.sb_watch.specs.declared.note.Note.{Note}
 use Rattle.sb_watch.specs.declared.note.Polled.{Polled}
 use Rattle.sb_watch.specs.Records.{Watch, Hub}
-use Rattle.sb_watch.specs.Watches.{new_watch, told, answer_of, answered}
+use Rattle.sb_watch.specs.Watches.{new_watch, watch_after_note, answer_of, watch_after_answer}
 
 -- a hub that never had a watch
 abbrev pub new_hub : Hub
@@ -37,7 +37,7 @@ with_watch hub filter capacity = record { watches = hub.watches ++ new_watch hub
 
 -- every watch received the note
 abbrev pub with_push : Hub → Note → Hub
-with_push hub note = record { watches = map (told note) hub.watches; next = hub.next }
+with_push hub note = record { watches = map (watch_after_note note) hub.watches; next = hub.next }
 
 -- the watch of this id, if there is one
 abbrev pub watch_at : Hub → ℕ → Option Watch
@@ -53,7 +53,7 @@ answer_at hub id = answer_if_found (watch_at hub id)
 
 -- the watch of this id has answered, and the others are as they were
 abbrev pub with_answer : Hub → ℕ → Hub
-with_answer hub id = record { watches = map (λ w. if is_id id w then answered w else w) hub.watches; next = hub.next }
+with_answer hub id = record { watches = map (λ w. if is_id id w then watch_after_answer w else w) hub.watches; next = hub.next }
 
 -- only the others
 abbrev pub without_watch : Hub → ℕ → Hub

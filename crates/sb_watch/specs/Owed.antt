@@ -6,7 +6,7 @@ use Rattle.sb_watch.specs.declared.note.Note.{Note}
 use Rattle.sb_watch.specs.declared.note.Polled.{Polled}
 use Rattle.sb_watch.specs.declared.note.Polled.TheVariants as answers
 use Rattle.sb_watch.specs.Records.{Watch}
-use Rattle.sb_watch.specs.Watches.{matches, told, answer_of, answered}
+use Rattle.sb_watch.specs.Watches.{matches, watch_after_note, answer_of, watch_after_answer}
 
 -- what happens to a watch: a note comes, or it is asked
 pub data Deed : Type 0 where
@@ -16,20 +16,20 @@ pub data Deed : Type 0 where
 -- the watch after these deeds, one after another
 abbrev pub watch_after : List Deed → Watch → Watch
 watch_after [] w = w
-watch_after (comes note ∷ deeds) w = watch_after deeds (told note w)
-watch_after (asked ∷ deeds) w = watch_after deeds (answered w)
+watch_after (comes note ∷ deeds) w = watch_after deeds (watch_after_note note w)
+watch_after (asked ∷ deeds) w = watch_after deeds (watch_after_answer w)
 
 -- what it answered on the way
 abbrev pub answers_after : List Deed → Watch → List Polled
 answers_after [] w = []
-answers_after (comes note ∷ deeds) w = answers_after deeds (told note w)
-answers_after (asked ∷ deeds) w = answer_of w ∷ answers_after deeds (answered w)
+answers_after (comes note ∷ deeds) w = answers_after deeds (watch_after_note note w)
+answers_after (asked ∷ deeds) w = answer_of w ∷ answers_after deeds (watch_after_answer w)
 
 -- the notes that came and match, in the order in which they came
-abbrev pub came : Filter → List Deed → List Note
-came filter [] = []
-came filter (comes note ∷ deeds) = if matches filter note then note ∷ came filter deeds else came filter deeds
-came filter (asked ∷ deeds) = came filter deeds
+abbrev pub matching_notes : Filter → List Deed → List Note
+matching_notes filter [] = []
+matching_notes filter (comes note ∷ deeds) = if matches filter note then note ∷ matching_notes filter deeds else matching_notes filter deeds
+matching_notes filter (asked ∷ deeds) = matching_notes filter deeds
 
 -- The answers account for the notes, up to those that are still owed. Each note in its turn is handed out, or is among
 -- those reported as lost.

@@ -33,18 +33,18 @@ with_note w note =
     record { id = w.id; filter = w.filter; capacity = w.capacity; notes = notes; lost = lost_with_one_more w }
 
 -- the watch after it received a note
-abbrev pub told : Note → Watch → Watch
-told note w = if matches w.filter note then with_note w note else w
+abbrev pub watch_after_note : Note → Watch → Watch
+watch_after_note note w = if matches w.filter note then with_note w note else w
 
-abbrev pub oldest : List Note → Polled
-oldest [] = answers.Empty
-oldest (note ∷ notes) = answers.Note note
+abbrev pub oldest_answer : List Note → Polled
+oldest_answer [] = answers.Empty
+oldest_answer (note ∷ notes) = answers.Note note
 
 -- what it answers: how many were lost, if it did not report that yet; else the oldest note that is left
 abbrev pub answer_of : Watch → Polled
-answer_of w = if w.lost == 0 then oldest w.notes else answers.Lagged w.lost
+answer_of w = if w.lost == 0 then oldest_answer w.notes else answers.Lagged w.lost
 
 -- the watch after it answered: that number was reported, or that note was handed out
-abbrev pub answered : Watch → Watch
-answered w =
+abbrev pub watch_after_answer : Watch → Watch
+watch_after_answer w =
     record { id = w.id; filter = w.filter; capacity = w.capacity; notes = if w.lost == 0 then drop 1 w.notes else w.notes; lost = 0 }

@@ -2,7 +2,7 @@
 
 ghost use Rattle.std.specs.Prelude.{◌≡◌, false, [], if◌then◌else◌, map, position, Ok, Err, IfOk, OnOk, OnErr};
 ghost use Rattle.sb_types.specs.Faults.{Gives};
-ghost use Rattle.sb_watch.specs.Watches.{told};
+ghost use Rattle.sb_watch.specs.Watches.{watch_after_note};
 ghost use Rattle.sb_watch.specs.Hubs as spec;
 
 use crate::limits::{RING_MOST, WATCHES_MOST};
@@ -132,7 +132,7 @@ impl Hub {
 
 /// Gives a note to each of the watches.
 fn tell_all(watches: &mut [Watch], note: &Note)
-    ensures { watches.new ≡ map (told note.now) watches.old }
+    ensures { watches.new ≡ map (watch_after_note note.now) watches.old }
 {
     for watch in watches.iter_mut() {
         watch.tell(note);

@@ -7,11 +7,11 @@ ghost use Rattle.sb_watch.specs.declared.note.Filter.{Filter};
 ghost use Rattle.sb_watch.specs.declared.note.Note.{Note};
 ghost use Rattle.sb_watch.specs.declared.note.Polled.TheVariants as answers;
 ghost use Rattle.sb_watch.specs.Records.{Hub};
-ghost use Rattle.sb_watch.specs.Watches.{new_watch, told, answered};
+ghost use Rattle.sb_watch.specs.Watches.{new_watch, watch_after_note, watch_after_answer};
 ghost use Rattle.sb_watch.specs.Hubs.{AllNotes, IsHub, new_hub, has_watch, next_id, watch_at, answer_at};
 ghost use Rattle.sb_watch.specs.Hubs.{with_watch, with_push, with_answer, without_watch};
 ghost use Rattle.sb_watch.specs.Calls.{Call, hub_after};
-ghost use Rattle.sb_watch.specs.Owed.{Deed, came, answers_after, watch_after, Account, Keeps};
+ghost use Rattle.sb_watch.specs.Owed.{Deed, matching_notes, answers_after, watch_after, Account, Keeps};
 
 use crate::limits::{RING_MOST, WATCHES_MOST};
 
@@ -27,9 +27,9 @@ pub fn limits_are_these_numbers()
 /// counts the others. So no note is handed out twice, or out of turn, or lost in silence. The law covers fewer than
 /// 2^64 notes.
 pub fn answers_account_for_notes()
-    ensures { (id capacity : ℕ) (filter : Filter) (deeds : List Deed) → length (came filter deeds) < 2 ^ 64 →
+    ensures { (id capacity : ℕ) (filter : Filter) (deeds : List Deed) → length (matching_notes filter deeds) < 2 ^ 64 →
         let watch = new_watch id filter capacity in
-        (owed : List Note) × Account (answers_after deeds watch) (came filter deeds) owed × Keeps (watch_after deeds watch) owed }
+        (owed : List Note) × Account (answers_after deeds watch) (matching_notes filter deeds) owed × Keeps (watch_after deeds watch) owed }
 {}
 
 /// Suppose every note that is pushed passes a test. Then every note that is kept or handed out passes it, whatever
@@ -50,8 +50,8 @@ pub fn notes_keep_what_holds()
 
 /// A call changes the watches that it is about, and leaves the others as they were.
 pub fn watches_stand_alone()
-    ensures pushed { (hub : Hub) (note : Note) (id : ℕ) → watch_at (with_push hub note) id ≡ option_map (told note) (watch_at hub id) }
-    ensures taken { (hub : Hub) (id : ℕ) → watch_at (with_answer hub id) id ≡ option_map answered (watch_at hub id) }
+    ensures pushed { (hub : Hub) (note : Note) (id : ℕ) → watch_at (with_push hub note) id ≡ option_map (watch_after_note note) (watch_at hub id) }
+    ensures taken { (hub : Hub) (id : ℕ) → watch_at (with_answer hub id) id ≡ option_map watch_after_answer (watch_at hub id) }
     ensures unasked { (hub : Hub) (id other : ℕ) → other ≢ id → watch_at (with_answer hub id) other ≡ watch_at hub other }
     ensures added { (hub : Hub) (filter : Filter) (capacity : ℕ) →
         IsHub hub → watch_at (with_watch hub filter capacity) hub.next ≡ Some (new_watch hub.next filter capacity) }

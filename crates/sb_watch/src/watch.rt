@@ -54,7 +54,7 @@ impl Watch {
 
     /// Takes a note if the filter matches it. If the ring is full, the oldest note is lost.
     pub(crate) fn tell(&mut self, note: &Note)
-        ensures { self.new ≡ spec.told note.now self.old }
+        ensures { self.new ≡ spec.watch_after_note note.now self.old }
     {
         if !self.filter.matches(note) {
             return;
@@ -68,7 +68,7 @@ impl Watch {
     /// left.
     pub(crate) fn take(&mut self) -> Polled
         ensures answer { result ≡ spec.answer_of self.old }
-        ensures left { self.new ≡ spec.answered self.old }
+        ensures left { self.new ≡ spec.watch_after_answer self.old }
     {
         if self.lost > 0 {
             let lost = self.lost;

@@ -3,7 +3,7 @@ use Rattle.std.proofs.Common.{◌≡◌, ℕ, zero, suc, ◌+◌, ◌≤◌, ◌
 use Rattle.std.proofs.lemmas.Bool.{cases_Bool, true≢false}
 use Rattle.std.specs.Prelude.{unwrap_or}
 use Rattle.std.specs.Cmp.Lexicographic.{pointwise}
-use Rattle.std.proofs.lemmas.List.{take-append-drop}
+use Rattle.std.proofs.lemmas.List.{append-nil, take-append-drop}
 use Rattle.sb_types.specs.declared.entry.Slot.{Slot}
 use Rattle.sb_types.specs.declared.entry.Write.{Write}
 use Rattle.sb_types.specs.declared.fault.Fault.{Fault}
@@ -15,7 +15,7 @@ use Rattle.sb_types.specs.Writes.{Written}
 use Rattle.sb_table.specs.Plain.{with_entry}
 use Rattle.sb_holdings.specs.Contents.{entry_of_write}
 use Rattle.sb_holdings.specs.Growth.{Grows}
-use Rattle.sb_holdings.specs.Nodes.{Wrote, replay_node, IsNodeEvent, TrueAt, AreNodeEvents, AllTrueAt}
+use Rattle.sb_holdings.specs.Nodes.{Wrote, Purged, replay_node, IsNodeEvent, TrueAt, AreNodeEvents, AllTrueAt}
 use Rattle.sb_types.proofs.Standing.{either, of_kept}
 use Rattle.sb_holdings.proofs.Growing.{written-grown}
 use Rattle.sb_digest.specs.Digests.{Digest}
@@ -30,6 +30,7 @@ use Rattle.sb_log.specs.Records.{Committed, Log}
 use Rattle.sb_log.specs.Puts.{Puts, Purges as LogPurges, Loads, IsSure, next_entry}
 use Rattle.sb_node.specs.Answers.{IsAnswer}
 use Rattle.sb_node.specs.Cores.{Core, with_node}
+use Rattle.sb_node.specs.Purging.{purge_answer}
 use Rattle.sb_node.specs.Steps.{Steps}
 use Rattle.sb_node.specs.Talks.{TrueMessage}
 use Rattle.sb_node.proofs.Sessions.{asked}
@@ -38,13 +39,13 @@ use Rattle.sb_node.proofs.Truth.{calls_are, calls_true}
 use Rattle.sb_session.specs.Sessions.{Session, hello_of}
 use Rattle.sb_session.specs.Taking.{Asks}
 use Rattle.sb_world.specs.declared.event.Event.{Event}
-use Rattle.sb_world.specs.declared.event.Event.TheVariants.{Commit, Take, CrashInCommit, Purge, Restart, Connect, Close, Line, Piece, Ask, Offer, Read, Upto}
+use Rattle.sb_world.specs.declared.event.Event.TheVariants.{Commit, Take, CrashInCommit, Purge, Trim, Restart, Connect, Close, Line, Piece, Ask, Offer, Read, Upto}
 use Rattle.sb_world.specs.declared.event.Answer.{Answer}
 use Rattle.sb_world.specs.Places.{Place, frame_at}
-use Rattle.sb_world.specs.Turns.{Effect, rests, logs, goes, listens, opens, Turn, still, with_core, write_of, IsLogged, commit_turn, crash_turn, purge_turn, waiting_after, Crashes, TakesFirst, take_turn, RestartEnds, reopened_turn, refused_turn, sent_turn}
+use Rattle.sb_world.specs.Turns.{Effect, rests, logs, goes, listens, opens, Turn, idle_turn, with_core, write_of, IsLogged, commit_turn, crash_turn, purge_turn, trim_turn, TrimEnds, waiting_after, Crashes, TakesFirst, take_turn, RestartEnds, reopened_turn, refused_turn, sent_turn}
 use Rattle.sb_world.specs.Connections.{Connection, connection_at, with_connection, without_connection, of_others}
 use Rattle.sb_world.specs.Hearing.{Tells, calls_in, events_in}
-use Rattle.sb_world.specs.Connecting.{Stays, begun, new_connection, Connects, Closes, lined, LinesUp, in_session, Asked, AsksOn, fed, listener, heard_by, connections_after, piece_turn, Delivers, Pieces}
+use Rattle.sb_world.specs.Connecting.{Stays, session_at, new_connection, Connects, Closes, connection_with_bytes, LinesUp, in_session, Asked, AsksOn, stream_with_piece, listener, heard_by, connections_after, piece_turn, Delivers, Pieces}
 use Rattle.sb_world.specs.Events.{Acts, ActsWhere, Does, answers_to}
 use Rattle.sb_world.specs.Lines.{IsLine, IsTrueConnection}
 use Rattle.sb_world.specs.States.{Past, put_at, writes_after, past_after}
@@ -64,7 +65,7 @@ pub record Same (p : Place) (turn : Turn) : Type 0 where
   pub sure : IsSure p.log → IsSure turn.place.log
   pub log : LogStays p.log turn.place.log
 
-still_same : (p : Place) (answer : Result Answer Fault) → Same p (still p answer)
+still_same : (p : Place) (answer : Result Answer Fault) → Same p (idle_turn p answer)
 still_same p answer = record { me = refl; clean = λ e. e; sure = λ s. s; log = same_stays p.log p.log refl }
 
 turned_same : (p : Place) (turn : Turn) (other : Turn) → turn ≡ other → Same p other → Same p turn
@@ -98,6 +99,11 @@ purges_same : (p : Place) (floor : ℕ) (result : Result (Unit {0}) Fault) (log 
 purges_same p floor (Ok done) log purges = record { me = refl; clean = purges.stays.clean; sure = purges.stays.sure; log = purge_stays p.log log floor (Ok done) purges }
 purges_same p floor (Err fault) log purges = record { me = refl; clean = purges.stays.clean; sure = purges.stays.sure; log = purge_stays p.log log floor (Err fault) purges }
 
+trims_same : (p : Place) (floor : ℕ) (allowed : Result (Unit {0}) Fault) (turn : Turn) → TrimEnds allowed p floor turn → Same p turn
+trims_same p floor (Err fault) turn is = turned_same p turn _ is (still_same p _)
+trims_same p floor (Ok done) turn r =
+    turned_same p turn (trim_turn p floor r.0 r.1) r.3 (record { me = refl; clean = r.2.stays.clean; sure = r.2.stays.sure; log = purge_stays p.log r.1 floor r.0 r.2 })
+
 stays_same : (p : Place) (conns : List Connection) (answer : Result Answer Fault) (turn : Turn) (new : List Connection) → Stays p conns answer turn new → Same p turn
 stays_same p conns answer turn new stays = turned_same p turn _ stays.0 (still_same p answer)
 
@@ -107,7 +113,7 @@ core_same p core answer effect frames = record { me = refl; clean = λ e. e; sur
 
 connects_same : (found : Option Connection) (p : Place) (number : ℕ) (conns : List Connection) (sent : List (List ℕ)) (turn : Turn) (new : List Connection) → Connects found p number conns sent turn new → Same p turn
 connects_same (Some c) p number conns sent turn new stays = stays_same p conns _ turn new stays
-connects_same None p number conns sent turn new acts = ⊎_elim (stays_same p conns _ turn new) (λ is. turned_same p turn (sent_turn p sent (hello_of (begun p))) is.2 (record { me = refl; clean = λ e. e; sure = λ s. s; log = same_stays p.log p.log refl })) acts
+connects_same None p number conns sent turn new acts = ⊎_elim (stays_same p conns _ turn new) (λ is. turned_same p turn (sent_turn p sent (hello_of (session_at p))) is.2 (record { me = refl; clean = λ e. e; sure = λ s. s; log = same_stays p.log p.log refl })) acts
 
 closes_same : (found : Option Connection) (p : Place) (number : ℕ) (conns : List Connection) (turn : Turn) (new : List Connection) → Closes found p number conns turn new → Same p turn
 closes_same None p number conns turn new stays = stays_same p conns _ turn new stays
@@ -139,6 +145,7 @@ acts_same (Commit me key slot) p conns sent turn new acts =
 acts_same (Take me) p conns sent turn new acts = takes_same p p.waiting turn acts.0
 acts_same (CrashInCommit me key slot is_kept) p conns sent turn new acts = crashes_same p key slot is_kept turn acts.0
 acts_same (Purge me floor) p conns sent turn new acts = let r = acts.0 in turned_same p turn (purge_turn p floor r.0 r.1) r.3 (purges_same p floor r.0 r.1 r.2)
+acts_same (Trim me floor) p conns sent turn new acts = trims_same p floor (purge_answer p.core.node floor) turn acts.0
 acts_same (Restart me) p conns sent turn new acts = let r = acts.0 in restarts_same p r.0 r.1 turn r.2 r.3
 acts_same (Connect me number) p conns sent turn new acts = connects_same (connection_at conns number) p number conns sent turn new acts
 acts_same (Close number) p conns sent turn new acts = closes_same (connection_at conns number) p number conns turn new acts
@@ -195,7 +202,7 @@ module _ (writes : List ℕ → List Write) (past : Past) (settings : Settings) 
   still_place : IsTruePlace (after rests) past settings p
   still_place = relogged writes (after rests) (grows rests) past settings p t p.log p.waiting p.is_up t.owner (same_content p.log rests refl t.content) (waiting_on writes (after rests) (grows rests) past settings p t)
 
-  still_kept : (answer : Result Answer Fault) → Kept (still p answer)
+  still_kept : (answer : Result Answer Fault) → Kept (idle_turn p answer)
   still_kept answer = record { place = λ clean. still_place; frames = λ bytes stands. absurd stands }
 
   turned_kept : (turn other : Turn) → turn ≡ other → Kept other → Kept turn
@@ -290,6 +297,40 @@ module _ (writes : List ℕ → List Write) (past : Past) (settings : Settings) 
         (same_content log rests refl (λ unshut. unchanged_content log (purges.refused.unchanged (λ failed. true≢false (sym unshut ∙ purges.refused.closes failed))) unshut)) (waiting_on writes (after rests) (grows rests) past settings p t);
     frames = λ bytes stands. absurd stands;
   }
+
+  -- ---- a purge of a node that stays up
+
+  purged_events : (floor : ℕ) → AreNodeEvents (Purged floor ∷ [])
+  purged_events floor event (inl same) = subst IsNodeEvent same tt
+  purged_events floor event (inr s) = absurd s
+
+  purged_true : (ws : List ℕ → List Write) (me : List ℕ) (floor : ℕ) → AllTrueAt ws me (Purged floor ∷ [])
+  purged_true ws me floor event (inl same) = subst (TrueAt ws me) same tt
+  purged_true ws me floor event (inr s) = absurd s
+
+  trim_content : (floor : ℕ) (result : Result (Unit {0}) Fault) (log : Log) → LogPurges p.log floor result log → log.is_clean ≡ true → log.is_open ≡ true → IsContentOf (writes p.me) log.content
+  trim_content floor (Ok done) log purges clean unshut = purged_so floor done log purges clean
+  trim_content floor (Err fault) log purges clean unshut = unchanged_content log (purges.refused.unchanged (λ failed. true≢false (sym unshut ∙ purges.refused.closes failed))) unshut
+
+  module _ (floor : ℕ) (result : Result (Unit {0}) Fault) (log : Log) (purges : LogPurges p.log floor result log) where
+    -- the log went on, and then the node
+    trim_kept : Kept (trim_turn p floor result log)
+    trim_kept = record {
+      place = λ clean.
+          let q : Place = record { me = p.me; log = log; core = p.core; waiting = p.waiting; is_up = p.is_up } in
+          let logged : IsTruePlace writes past settings q =
+          relogged writes writes (λ other. ([], sym (append-nil (writes other)))) past settings p t log p.waiting p.is_up (purges.stays.owner ∙ t.owner)
+          (λ unshut. trim_content floor result log purges clean unshut) t.waiting in
+          went writes (after (goes (Purged floor ∷ []))) (grows (goes (Purged floor ∷ []))) past settings q logged (Purged floor ∷ []) p.waiting (purged_events floor)
+          (purged_true (after (goes (Purged floor ∷ []))) p.me floor)
+          (same_content log (goes (Purged floor ∷ [])) refl (λ unshut. trim_content floor result log purges clean unshut))
+          (waiting_on writes (after (goes (Purged floor ∷ []))) (grows (goes (Purged floor ∷ []))) past settings p t);
+      frames = λ bytes stands. absurd stands;
+    }
+
+  trims_kept : (floor : ℕ) (allowed : Result (Unit {0}) Fault) (turn : Turn) → TrimEnds allowed p floor turn → Kept turn
+  trims_kept floor (Err fault) turn is = turned_kept turn _ is (still_kept _)
+  trims_kept floor (Ok done) turn r = turned_kept turn (trim_turn p floor r.0 r.1) r.3 (trim_kept floor r.0 r.1 r.2)
 
   -- ---- an own write enters
 
@@ -405,7 +446,7 @@ module _ (writes : List ℕ → List Write) (past : Past) (settings : Settings) 
     turned_all turn other new is all = subst (λ (x : Turn). AllKept x new) (sym is) all
 
     stays_kept : (answer : Result Answer Fault) (turn : Turn) (new : List Connection) → Stays p conns answer turn new → AllKept turn new
-    stays_kept answer turn new stays = turned_all turn (still p answer) new stays.0 (record { kept = still_kept answer; each = same_conns (still p answer) new stays.1 })
+    stays_kept answer turn new stays = turned_all turn (idle_turn p answer) new stays.0 (record { kept = still_kept answer; each = same_conns (idle_turn p answer) new stays.1 })
 
     -- what stands where another took a connection's place, or one went
     of_with : (cs : List Connection) (number : ℕ) (d c : Connection) → Stands (with_connection cs number d) c → (d ≡ c) ⊎ Stands cs c
@@ -445,18 +486,18 @@ module _ (writes : List ℕ → List Write) (past : Past) (settings : Settings) 
     connects_kept (Some c) number turn new stays = stays_kept _ turn new stays
     connects_kept None number turn new acts =
         ⊎_elim (stays_kept _ turn new)
-        (λ is. turned_all turn (sent_turn p sent (hello_of (begun p))) new is.2 (record {
-          kept = sent_kept (hello_of (begun p)) is.0 tt (let fits = is.1 in let same = budget in omega (arith, fits, same));
-          each = λ c stands. ⊎_elim (grown_conns (frame (hello_of (begun p)) ∷ []) c) (one c)
+        (λ is. turned_all turn (sent_turn p sent (hello_of (session_at p))) new is.2 (record {
+          kept = sent_kept (hello_of (session_at p)) is.0 tt (let fits = is.1 in let same = budget in omega (arith, fits, same));
+          each = λ c stands. ⊎_elim (grown_conns (frame (hello_of (session_at p)) ∷ []) c) (one c)
               (either conns (new_connection p number ∷ []) c (subst (λ (cs : List Connection). Stands cs c) is.3 stands));
         }))
         acts
       where
-        fresh : IsTrueConnection (sent ++ frame (hello_of (begun p)) ∷ []) (new_connection p number)
-        fresh = record { held = []; stands = refl; line = line_empty (sent ++ frame (hello_of (begun p)) ∷ []) }
+        fresh : IsTrueConnection (sent ++ frame (hello_of (session_at p)) ∷ []) (new_connection p number)
+        fresh = record { held = []; stands = refl; line = line_empty (sent ++ frame (hello_of (session_at p)) ∷ []) }
 
-        one : (c : Connection) → Stands (new_connection p number ∷ []) c → IsTrueConnection (sent ++ frame (hello_of (begun p)) ∷ []) c
-        one c (inl same) = subst (IsTrueConnection (sent ++ frame (hello_of (begun p)) ∷ [])) same fresh
+        one : (c : Connection) → Stands (new_connection p number ∷ []) c → IsTrueConnection (sent ++ frame (hello_of (session_at p)) ∷ []) c
+        one c (inl same) = subst (IsTrueConnection (sent ++ frame (hello_of (session_at p)) ∷ [])) same fresh
         one c (inr stands) = absurd stands
 
     closes_kept : (found : Option Connection) (number : ℕ) (turn : Turn) (new : List Connection) → Closes found p number conns turn new → AllKept turn new
@@ -472,15 +513,15 @@ module _ (writes : List ℕ → List Write) (past : Past) (settings : Settings) 
         ⊎_elim (stays_kept _ turn new)
         (λ is. turned_all turn _ new is.0 (record {
           kept = still_kept _;
-          each = λ d stands. with_one [] number (lined c bytes) longer d (subst (λ (cs : List Connection). Stands cs d) is.1 stands);
+          each = λ d stands. with_one [] number (connection_with_bytes c bytes) longer d (subst (λ (cs : List Connection). Stands cs d) is.1 stands);
         }))
         acts
       where
         old : IsTrueConnection sent c
         old = true_conns c (found_connection conns number c at_number)
 
-        longer : IsTrueConnection (sent ++ []) (lined c bytes)
-        longer = connection_later sent [] (lined c bytes)
+        longer : IsTrueConnection (sent ++ []) (connection_with_bytes c bytes)
+        longer = connection_later sent [] (connection_with_bytes c bytes)
             (record { held = old.held; stands = old.stands; line = line_joined sent old.held c.left bytes old.line (frame_stands sent index bytes at_index) })
 
     asked_kept : (result : Result Message Fault) (c : Connection) (session : Session) (number : ℕ) → connection_at conns number ≡ Some c → Asks Steps c.session p.core result session p.core → (turn : Turn) (new : List Connection) →
@@ -524,7 +565,7 @@ module _ (writes : List ℕ → List Write) (past : Past) (settings : Settings) 
         is = t.is;
         holds = t.holds;
         held = old.held ++ piece;
-        stands = ap (λ (s : Stream). fed s piece) old.stands;
+        stands = ap (λ (s : Stream). stream_with_piece s piece) old.stands;
         line = line_fed sent old.held piece left_over (subst (IsLine sent old.held) (sym (take-append-drop count c.left)) old.line);
       }
 
@@ -587,6 +628,7 @@ module _ (writes : List ℕ → List Write) (past : Past) (settings : Settings) 
     acts_kept (CrashInCommit me key slot is_kept) turn new acts = some_left turn.place.is_up turn new (crashes_kept key slot is_kept turn acts.0) acts.1
     acts_kept (Purge me floor) turn new acts =
         let r = acts.0 in some_left turn.place.is_up turn new (turned_kept turn (purge_turn p floor r.0 r.1) r.3 (purges_kept floor r.0 r.1 r.2)) acts.1
+    acts_kept (Trim me floor) turn new acts = alone turn new (trims_kept floor (purge_answer p.core.node floor) turn acts.0) acts.1
     acts_kept (Restart me) turn new acts = let r = acts.0 in fewer turn new (restarts_kept r.0 r.1 turn r.2 r.3) acts.1
     acts_kept (Connect me number) turn new acts = connects_kept (connection_at conns number) number turn new acts
     acts_kept (Close number) turn new acts = closes_kept (connection_at conns number) number turn new acts

@@ -20,7 +20,7 @@ use Rattle.sb_digest.specs.Lengths.{pair_length, digest_length}
 use Rattle.sb_digest.specs.Limits.{are_pairs_above, are_digest_parts}
 use Rattle.sb_codec.proofs.Parts.{between_parts}
 use Rattle.sb_types.specs.declared.fault.Fault.{Fault}
-use Rattle.sb_world.specs.Turns.{numbered_pair, asked}
+use Rattle.sb_world.specs.Turns.{numbered_pair, offer_digest}
 
 abbrev owner_of : Pair → List ℕ
 owner_of pair = pair.owner
@@ -68,16 +68,16 @@ all_from : (es : List (List ℕ × Holder)) → filter (λ e. is_from None e.0) 
 all_from [] = refl
 all_from (e ∷ es) = ap (λ xs. e ∷ xs) (all_from es)
 
-few_asked : (held : Held) (owner : List ℕ) (after : ℕ) → IsHoldings held → length (asked held owner after).pairs ≤ OWNERS_MOST
+few_asked : (held : Held) (owner : List ℕ) (after : ℕ) → IsHoldings held → length (offer_digest held owner after).pairs ≤ OWNERS_MOST
 few_asked held owner after is =
     let limit = is.limit in
-    let same : length (asked held owner after).pairs ≡ length (entries held.owners) =
+    let same : length (offer_digest held owner after).pairs ≡ length (entries held.owners) =
     length-map (tables_from None held) (numbered_pair owner after) ∙ length-map (filter (λ e. is_from None e.0) (entries held.owners)) (λ e. (e.0, e.1.shown)) ∙ ap length (all_from (entries held.owners)) in
     omega (arith, limit, same, len-entries held.owners)
 
-pub asked_fits : (held : Held) (owner : List ℕ) (after : ℕ) → IsHoldings held → IsStrictlySortedBy (slice_cmp nat_cmp) (keys_of (tables_from None held)) → list_all is_named (asked held owner after).pairs ≡ true → are_digest_parts (asked held owner after) ≡ true
+pub asked_fits : (held : Held) (owner : List ℕ) (after : ℕ) → IsHoldings held → IsStrictlySortedBy (slice_cmp nat_cmp) (keys_of (tables_from None held)) → list_all is_named (offer_digest held owner after).pairs ≡ true → are_digest_parts (offer_digest held owner after) ≡ true
 asked_fits held owner after is rises named =
-    digest_fits (asked held owner after).pairs (subst (IsStrictlySortedBy (slice_cmp nat_cmp)) (sym (owners_asked owner after (tables_from None held))) rises) named (few_asked held owner after is)
+    digest_fits (offer_digest held owner after).pairs (subst (IsStrictlySortedBy (slice_cmp nat_cmp)) (sym (owners_asked owner after (tables_from None held))) rises) named (few_asked held owner after is)
 
 -- a digest of these pairs is made, for it is within its limits
 pub asked_made : (ps : List Pair) (d : Digest) (result : Result Digest Fault) (other : Fault) → result ≡ cond (are_digest_parts (digest_of false None None ps)) (Ok (digest_of false None None ps)) (Err other) →

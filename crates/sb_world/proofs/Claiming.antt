@@ -44,7 +44,7 @@ use Rattle.sb_world.specs.Connecting.{listener, Pieces}
 use Rattle.sb_world.specs.Events.{place_for, ActsWhere}
 use Rattle.sb_world.specs.Turns.{Effect, Turn}
 use Rattle.sb_world.specs.Steps.{StepAt, seen_after}
-use Rattle.sb_world.specs.States.{State, Moves, remembered}
+use Rattle.sb_world.specs.States.{State, Moves, state_after}
 use Rattle.sb_world.specs.Truth.{IsTruePlace, IsTrueState}
 use Rattle.sb_world.specs.Wires.{messages_in}
 use Rattle.sb_world.specs.Claims.{GivenIsWritten, IsExact, IsShown, ReadIsExact, AreTakenUp, AllTakenUp, HaveCome, TakesPiece, JoinedIsTaken, IsWithinBudget}
@@ -67,6 +67,7 @@ given_or other (answers.Committed version) = other
 given_or other (answers.Took version) = other
 given_or other answers.Crashed = other
 given_or other (answers.Purged floor) = other
+given_or other (answers.Trimmed floor) = other
 given_or other (answers.Restarted version) = other
 given_or other (answers.Sent number) = other
 given_or other (answers.Delivered items fault) = other
@@ -115,7 +116,7 @@ module _ (old : State) (me owner key : List ℕ) (value : Value) (version : ℕ)
       (given_is (Some (value, version)) (shown_at key held.entries) p (read_shown old me owner key given effect (Some p) seen step))
 
 -- what was written is written afterwards
-later_written : (old : State) (found : Option Place) (event : Event) (answer : Result Answer Fault) (effect : Effect) (seen : Seen) (owner : List ℕ) (e : Entry) → Written (old.writes owner) e → Written ((remembered old found event answer effect seen).writes owner) e
+later_written : (old : State) (found : Option Place) (event : Event) (answer : Result Answer Fault) (effect : Effect) (seen : Seen) (owner : List ℕ) (e : Entry) → Written (old.writes owner) e → Written ((state_after old found event answer effect seen).writes owner) e
 later_written old None event answer effect seen owner e written = written
 later_written old (Some p) event answer effect seen owner e written = written_on old.writes _ (grown old.writes p.me effect) owner e written
 
@@ -182,6 +183,8 @@ message_taken s core m answer t new limits takes more last rest = go m answer li
     go (messages.Put wanted) r is a node = same [] refl node
     go (messages.Done version) r is a node = same [] refl node
     go (messages.Refused fault) r is a node = same [] refl node
+    go (messages.AskStatus after) r is a node = same [] refl node
+    go (messages.NodeStatus status) r is a node = same [] refl node
 
 abbrev some_next : Message → Result (Option Message) Fault
 some_next m = Ok (Some m)

@@ -8,10 +8,10 @@ use Rattle.sb_types.specs.declared.entry.Slot.TheVariants.{Removed}
 use Rattle.sb_types.specs.declared.entry.Write.{Write}
 use Rattle.sb_types.specs.declared.limits.TheConstants.{KEYS_MOST}
 use Rattle.sb_types.specs.Records.{Entry, Table}
-use Rattle.sb_types.specs.Runs.{are_ascending, entered, has_key, is_set, last_version, live, without}
+use Rattle.sb_types.specs.Runs.{are_ascending, entries_after, has_key, is_set, last_version, live_entries, entries_without_keys}
 use Rattle.sb_types.proofs.Texts.{text_same}
 use Rattle.sb_table.proofs.Merging.{length-filter_le}
-use Rattle.sb_holdings.specs.Contents.{entry_of_write, numbered, last_each, content_table}
+use Rattle.sb_holdings.specs.Contents.{entry_of_write, entries_of_writes, last_each, content_table}
 use Rattle.sb_holdings.proofs.Content.{content_is}
 use Rattle.sb_holdings.proofs.Entering.{filter-filter}
 use Rattle.sb_holdings.proofs.Growing.{content-grown_from, content-purged}
@@ -23,13 +23,13 @@ use Rattle.sb_log.proofs.Beginning.{last_least}
 values : List Entry → List Entry
 values es = filter (λ e. is_set e.slot) es
 
-values-live : (floor : ℕ) (es : List Entry) → values (live floor es) ≡ values es
+values-live : (floor : ℕ) (es : List Entry) → values (live_entries floor es) ≡ values es
 unfolding values
 values-live floor [] = refl
 values-live floor (x ∷ xs) = grind (arith, values-live floor xs)
 
 -- of entries up to a floor only those with a value are live
-live-values : (floor last : ℕ) (es : List Entry) → are_ascending last es ≡ true → last_version last es ≤ floor → live floor es ≡ values es
+live-values : (floor last : ℕ) (es : List Entry) → are_ascending last es ≡ true → last_version last es ≤ floor → live_entries floor es ≡ values es
 unfolding values
 live-values floor last [] up most = refl
 live-values floor last (x ∷ xs) up most =
@@ -49,7 +49,7 @@ and-swapped true false = refl
 and-swapped false true = refl
 and-swapped false false = refl
 
-values-without : (others es : List Entry) → values (without others es) ≡ without others (values es)
+values-without : (others es : List Entry) → values (entries_without_keys others es) ≡ entries_without_keys others (values es)
 unfolding values
 values-without others es =
     filter-filter (λ x. is_set x.slot) (λ x. not (has_key x.key others)) es
@@ -68,21 +68,21 @@ module _ (writes : List Write) where
   abbrev entry : Entry
   entry = entry_of_write (length writes + 1) (removal (left writes))
 
-  left-next : left (writes ++ removal (left writes) ∷ []) ≡ without (entry ∷ []) (left writes)
+  left-next : left (writes ++ removal (left writes) ∷ []) ≡ entries_without_keys (entry ∷ []) (left writes)
   unfolding values removal
   left-next =
       ap (λ (t : Table). values t.entries) (content-grown_from writes (removal (left writes)) 0 (omega arith))
-      ∙ filter-append (λ e. is_set e.slot) (without (entry ∷ []) (content_table 0 writes).entries) (entry ∷ [])
-      ∙ append-nil (values (without (entry ∷ []) (content_table 0 writes).entries))
+      ∙ filter-append (λ e. is_set e.slot) (entries_without_keys (entry ∷ []) (content_table 0 writes).entries) (entry ∷ [])
+      ∙ append-nil (values (entries_without_keys (entry ∷ []) (content_table 0 writes).entries))
       ∙ values-without (entry ∷ []) (content_table 0 writes).entries
 
-shorter : (n v : ℕ) (es : List Entry) → length es ≤ suc n → length (without (entry_of_write v (removal es) ∷ []) es) ≤ n
+shorter : (n v : ℕ) (es : List Entry) → length es ≤ suc n → length (entries_without_keys (entry_of_write v (removal es) ∷ []) es) ≤ n
 unfolding removal key_in
 shorter n v [] most = omega arith
 shorter n v (x ∷ xs) most =
     let w = entry_of_write v (removal (x ∷ xs)) in
     let same : has_key x.key (w ∷ []) ≡ true = ap (λ (b : Bool). b || false) (text_same x.key x.key refl) in
-    let first : without (w ∷ []) (x ∷ xs) ≡ without (w ∷ []) xs = ap (λ (b : Bool). cond (not b) (x ∷ without (w ∷ []) xs) (without (w ∷ []) xs)) same in
+    let first : entries_without_keys (w ∷ []) (x ∷ xs) ≡ entries_without_keys (w ∷ []) xs = ap (λ (b : Bool). cond (not b) (x ∷ entries_without_keys (w ∷ []) xs) (entries_without_keys (w ∷ []) xs)) same in
     omega (arith, ap length first, length-filter_le (λ e. not (has_key e.key (w ∷ []))) xs, most)
 
 -- ---- so often
@@ -112,9 +112,9 @@ cleared : (writes : List Write) (floor after : ℕ) → length (content_table fl
     → (more : List Write) × (content_table after (writes ++ more) ≡ nothing_up_to after)
 unfolding values
 cleared writes floor after limit reach =
-    let es = last_each (numbered 0 writes) in
-    let same : left writes ≡ values (live floor es) = values-live 0 es ∙ sym (values-live floor es) in
-    let few : length (left writes) ≤ after - length writes = omega (arith, ap length same, length-filter_le (λ e. is_set e.slot) (live floor es), limit, reach) in
+    let es = last_each (entries_of_writes 0 writes) in
+    let same : left writes ≡ values (live_entries floor es) = values-live 0 es ∙ sym (values-live floor es) in
+    let few : length (left writes) ≤ after - length writes = omega (arith, ap length same, length-filter_le (λ e. is_set e.slot) (live_entries floor es), limit, reach) in
     let more = clearing (after - length writes) writes few in
     (more.0, content-cleared (writes ++ more.0) after (omega (arith, length-append writes more.0, more.1, reach)) more.2)
 

@@ -22,7 +22,7 @@ use Rattle.sb_node.specs.Steps.{Steps}
 use Rattle.sb_world.specs.declared.event.Answer.{Answer}
 use Rattle.sb_world.specs.declared.event.Answer.TheVariants as answers
 use Rattle.sb_world.specs.Connections.{Connection, connection_at, with_connection}
-use Rattle.sb_world.specs.Connecting.{begun, new_connection, Connects, LinesUp, in_session, AsksOn, listener, heard_by, connections_after, Pieces}
+use Rattle.sb_world.specs.Connecting.{session_at, new_connection, Connects, LinesUp, in_session, AsksOn, listener, heard_by, connections_after, Pieces}
 use Rattle.sb_world.specs.Places.{Place, frame_at}
 use Rattle.sb_world.specs.declared.event.Item.{Item}
 use Rattle.sb_world.specs.Hearing.{Listener, Heard, Hears, Tells}
@@ -60,18 +60,18 @@ module _ (p : Place) (number : ℕ) (conns : List Connection) (sent : List (List
   in_use c found = ([], subst (λ o. Connects o p number conns sent (resting p (Ok answers.Nothing) []) conns) (sym found) (refl, refl), sym (append-nil sent))
 
   -- a Hello is within each budget
-  pub hello_within : is_message (hello_of (begun p)) ≡ true → 1024 ≤ p.core.settings.budget → length (frame (hello_of (begun p))) ≤ p.core.settings.budget
+  pub hello_within : is_message (hello_of (session_at p)) ≡ true → 1024 ≤ p.core.settings.budget → length (frame (hello_of (session_at p))) ≤ p.core.settings.budget
   hello_within is least =
       let parts = and_parts (is_name p.core.settings.cluster) (is_name p.me) is in
-      omega (arith, length-frame (hello_of (begun p)), hello-spelled (record { cluster = p.core.settings.cluster; node = p.me }), name-most p.core.settings.cluster parts.0, name-most p.me parts.1)
+      omega (arith, length-frame (hello_of (session_at p)), hello-spelled (record { cluster = p.core.settings.cluster; node = p.me }), name-most p.core.settings.cluster parts.0, name-most p.me parts.1)
 
-  pub connected : connection_at conns number ≡ None → is_message (hello_of (begun p)) ≡ true → 1024 ≤ p.core.settings.budget → (later : List (List ℕ)) (count : ℕ) (new : List Connection) →
-      later ≡ sent ++ frame (hello_of (begun p)) ∷ [] → count ≡ length sent + 1 → new ≡ conns ++ new_connection p number ∷ [] →
+  pub connected : connection_at conns number ≡ None → is_message (hello_of (session_at p)) ≡ true → 1024 ≤ p.core.settings.budget → (later : List (List ℕ)) (count : ℕ) (new : List Connection) →
+      later ≡ sent ++ frame (hello_of (session_at p)) ∷ [] → count ≡ length sent + 1 → new ≡ conns ++ new_connection p number ∷ [] →
       (frames : List (List ℕ)) × Connects (connection_at conns number) p number conns sent (resting p (Ok (answers.Sent count)) frames) new × (later ≡ sent ++ frames)
   connected none is least later count new is_later counted is_new = (
-    frame (hello_of (begun p)) ∷ [],
-    subst (λ o. Connects o p number conns sent (resting p (Ok (answers.Sent count)) (frame (hello_of (begun p)) ∷ [])) new) (sym none)
-        (inr (is, hello_within is least, (λ k. resting p (Ok (answers.Sent (counted k))) (frame (hello_of (begun p)) ∷ [])), is_new)),
+    frame (hello_of (session_at p)) ∷ [],
+    subst (λ o. Connects o p number conns sent (resting p (Ok (answers.Sent count)) (frame (hello_of (session_at p)) ∷ [])) new) (sym none)
+        (inr (is, hello_within is least, (λ k. resting p (Ok (answers.Sent (counted k))) (frame (hello_of (session_at p)) ∷ [])), is_new)),
     is_later,
   )
 

@@ -7,11 +7,11 @@ use Rattle.sb_types.specs.declared.fault.Fault.{Fault}
 use Rattle.sb_types.specs.declared.fault.Fault.TheVariants.{NoMemory, Closed}
 use Rattle.sb_types.specs.Records.{Table}
 use Rattle.sb_table.specs.Plain.{with_entry}
-use Rattle.sb_table.specs.Floors.{raised}
+use Rattle.sb_table.specs.Floors.{table_at_floor}
 use Rattle.sb_holdings.specs.Contents.{entry_of_write, content_table}
 use Rattle.sb_holdings.proofs.Growing.{content-grown_from, content-purged}
 use Rattle.sb_log.specs.Records.{Committed, Log}
-use Rattle.sb_log.specs.Puts.{Puts, Purges, Loads, purged}
+use Rattle.sb_log.specs.Puts.{Puts, Purges, Loads, content_after_purge}
 use Rattle.sb_world.specs.Truth.{IsContentOf}
 
 -- ---- which writes it is of
@@ -31,20 +31,20 @@ content_more ws w t is =
     (ap (λ (c : Table). with_entry c e) is.content ∙ sym (content-grown_from ws w t.floor low))
 
 -- a higher floor, or one that is not above its own
-pub content_purged : (ws : List Write) (t : Table) (floor : ℕ) → IsContentOf ws t → floor ≤ t.held → IsContentOf ws (purged floor t)
+pub content_purged : (ws : List Write) (t : Table) (floor : ℕ) → IsContentOf ws t → floor ≤ t.held → IsContentOf ws (content_after_purge floor t)
 content_purged ws t floor is fits =
-    cond_both (nat_le floor t.floor) t (raised t.held floor t) (IsContentOf ws)
+    cond_both (nat_le floor t.floor) t (table_at_floor t.held floor t) (IsContentOf ws)
     (λ below. is)
     (λ higher.
     let more = leb-false floor t.floor higher in
     let held = held_by_writes ws t is in
-    content_by ws (raised t.held floor t) floor (omega (arith, fits, held))
-    (ap (λ (c : Table). raised c.held floor c) is.content ∙ sym (content-purged ws t.floor floor (omega (arith, more)))))
+    content_by ws (table_at_floor t.held floor t) floor (omega (arith, fits, held))
+    (ap (λ (c : Table). table_at_floor c.held floor c) is.content ∙ sym (content-purged ws t.floor floor (omega (arith, more)))))
 
 -- the floor is then at least as high as was asked for, and as it was
-pub floor_reached : (t : Table) (floor : ℕ) → (floor ≤ (purged floor t).floor) × (t.floor ≤ (purged floor t).floor)
+pub floor_reached : (t : Table) (floor : ℕ) → (floor ≤ (content_after_purge floor t).floor) × (t.floor ≤ (content_after_purge floor t).floor)
 floor_reached t floor =
-    cond_both (nat_le floor t.floor) t (raised t.held floor t) (λ (c : Table). (floor ≤ c.floor) × (t.floor ≤ c.floor))
+    cond_both (nat_le floor t.floor) t (table_at_floor t.held floor t) (λ (c : Table). (floor ≤ c.floor) × (t.floor ≤ c.floor))
     (λ below. (leb-true floor t.floor below, omega arith))
     (λ higher. let more = leb-false floor t.floor higher in (omega arith, omega (arith, more)))
 
@@ -77,7 +77,7 @@ put_stays old new key slot (Err fault) puts = λ clean unshut.
 
 pub purge_stays : (old new : Log) (floor : ℕ) (result : Result (Unit {0}) Fault) → Purges old floor result new → LogStays old new
 purge_stays old new floor (Ok done) purges = λ clean unshut.
-    let same : new.content.floor ≡ (purged floor old.content).floor = ap (λ (t : Table). t.floor) (purges.done.content clean) in
+    let same : new.content.floor ≡ (content_after_purge floor old.content).floor = ap (λ (t : Table). t.floor) (purges.done.content clean) in
     let reached = (floor_reached old.content floor).1 in
     (⊎_elim (λ e. e) (λ e. absurd (let shut : Ok done ≡ Err Closed = purges.closed.1 e in cc)) (cases_Bool old.is_open), omega (arith, same, reached))
 purge_stays old new floor (Err fault) purges = λ clean unshut.

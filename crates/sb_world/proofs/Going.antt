@@ -6,7 +6,7 @@ use Rattle.sb_types.specs.declared.entry.Write.{Write}
 use Rattle.sb_types.specs.Records.{Entry}
 use Rattle.sb_types.specs.Writes.{Written, Honest, HolderHolds}
 use Rattle.sb_holdings.specs.Growth.{Grows}
-use Rattle.sb_holdings.specs.Nodes.{Node, NodeEvent, Wrote, Took, TrueAt, AllTrueAt, NodeHolds, held_by}
+use Rattle.sb_holdings.specs.Nodes.{Node, NodeEvent, Wrote, Took, Purged, TrueAt, AllTrueAt, NodeHolds, held_by}
 use Rattle.sb_holdings.proofs.Lasting.{written_later, tells_later, holder_later}
 use Rattle.sb_types.proofs.Texts.{same_text}
 use Rattle.sb_codec.specs.declared.message.Message.{Message}
@@ -49,6 +49,7 @@ module _ (old new : List ℕ → List Write) (grows : Grows old new) where
   event_on : (me : List ℕ) (event : NodeEvent) → TrueAt old me event → TrueAt new me event
   event_on me (Wrote e) was = written_on me e was
   event_on me (Took b end) was = subst (λ (writes : List Write). Honest writes b) (sym (grows b.owner).1) (tells_later (old b.owner) (grows b.owner).0 was)
+  event_on me (Purged floor) was = tt
 
   pub events_on : (me : List ℕ) (events : List NodeEvent) → AllTrueAt old me events → AllTrueAt new me events
   events_on me events all event stands = event_on me event (all event stands)
@@ -74,6 +75,8 @@ module _ (old new : List ℕ → List Write) (grows : Grows old new) where
   message_on (messages.Put wanted) t = tt
   message_on (messages.Done version) t = tt
   message_on (messages.Refused fault) t = tt
+  message_on (messages.AskStatus after) t = tt
+  message_on (messages.NodeStatus status) t = tt
 
   pub frame_on : (budget : ℕ) (bytes : List ℕ) → IsTrueFrame old budget bytes → IsTrueFrame new budget bytes
   frame_on budget bytes f = record { message = f.message; limits = f.limits; laid = f.laid; honest = message_on f.message f.honest; fits = f.fits }

@@ -13,7 +13,7 @@ use Rattle.sb_session.specs.Sessions.{Session}
 use Rattle.sb_session.specs.Taking.{messages_of}
 use Rattle.sb_node.specs.Cores.{Core}
 use Rattle.sb_world.specs.declared.event.Item.{Item}
-use Rattle.sb_world.specs.Connecting.{fed}
+use Rattle.sb_world.specs.Connecting.{stream_with_piece}
 use Rattle.sb_world.specs.Hearing.{Listener, listener_of, Heard, HearsNext, Hears, HearsOnce, Tells, IsFront, frames_of, items_for, items_of}
 
 abbrev some_fault : Fault → Option Fault
@@ -136,13 +136,13 @@ fault_or other (Err fault) = fault
 abbrev next_fails : Fault → Result (Option Message) Fault
 next_fails fault = Err fault
 
-pub fed_is : {X : Type 0} (s : Stream) (piece : List ℕ) (x : X) (new : Stream) → Feeds s piece (Ok x) new → new ≡ fed s piece
+pub fed_is : {X : Type 0} (s : Stream) (piece : List ℕ) (x : X) (new : Stream) → Feeds s piece (Ok x) new → new ≡ stream_with_piece s piece
 fed_is (open_with held) piece x new feeds = feeds
 fed_is shut piece x new feeds = absurd cc (feeds.0)
 
 -- where it was not, nothing is heard
 pub not_fed : {X : Type 0} (core : Core) (session : Session) (s : Stream) (piece : List ℕ) (result : Result X Fault) (fault : Fault) (new : Stream) (n : ℕ) → result ≡ Err fault → Feeds s piece result new →
-    Tells n [] (listener_of core session (fed s piece)) (listener_of core session (fed s piece)) (Some fault) [] []
+    Tells n [] (listener_of core session (stream_with_piece s piece)) (listener_of core session (stream_with_piece s piece)) (Some fault) [] []
 not_fed {X} core session (open_with held) piece result fault new n is feeds =
     let short = subst (λ (r : Result X Fault). Feeds (open_with held) piece r new) is feeds in
     inr (ap some_fault short.0, refl, ([], refl), ([], refl))

@@ -17,7 +17,7 @@ use Rattle.sb_world.specs.Places.{Place, place_at}
 use Rattle.sb_world.specs.Turns.{Effect, rests, logs, goes, listens, opens}
 use Rattle.sb_world.specs.Events.{place_for}
 use Rattle.sb_world.specs.Hearing.{events_in}
-use Rattle.sb_world.specs.States.{Past, State, past_after, remembered, Moves, Run}
+use Rattle.sb_world.specs.States.{Past, State, past_after, state_after, Moves, Run}
 use Rattle.sb_world.specs.Truth.{IsTruePlace, IsTrueState}
 use Rattle.sb_world.specs.Claims.{EachState, FallsNowhere, NothingFalls, NothingFallsIn}
 use Rattle.sb_world.proofs.Names.{found_me}
@@ -54,7 +54,7 @@ moved_past old event answer new moves name =
         (by_effect me (old.writes me) (old.past me) moves.0)
     go me false is = stays (old.past name)
 
-    at : (found : Option Place) → Follows (old.past name) ((remembered old found event answer moves.0 new.now).past name)
+    at : (found : Option Place) → Follows (old.past name) ((state_after old found event answer moves.0 new.now).past name)
     at None = stays (old.past name)
     at (Some p) = go p.me (pointwise nat_eq name p.me) refl
 

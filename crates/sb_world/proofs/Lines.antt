@@ -9,13 +9,13 @@ use Rattle.sb_frames.specs.Frames.{Front, short, whole, bad, front_of, Extends}
 use Rattle.sb_frames.proofs.Fronts.{front_frame, front_extends, before_mark}
 use Rattle.sb_node.specs.Talks.{TrueMessage}
 use Rattle.sb_world.specs.Connections.{Connection}
-use Rattle.sb_world.specs.Lines.{laid_out, IsLine, IsTrueConnection}
+use Rattle.sb_world.specs.Lines.{bytes_of_lines, IsLine, IsTrueConnection}
 use Rattle.sb_world.specs.Truth.{IsTrueFrame}
 use Rattle.sb_world.proofs.Keeping.{joined}
 
-pub laid_more : (frames : List (List ℕ)) (f : List ℕ) → laid_out (frames ++ f ∷ []) ≡ laid_out frames ++ f
+pub laid_more : (frames : List (List ℕ)) (f : List ℕ) → bytes_of_lines (frames ++ f ∷ []) ≡ bytes_of_lines frames ++ f
 laid_more [] f = append-nil f
-laid_more (x ∷ xs) f = ap (λ ys. x ++ ys) (laid_more xs f) ∙ sym (append_assoc x (laid_out xs) f)
+laid_more (x ∷ xs) f = ap (λ ys. x ++ ys) (laid_more xs f) ∙ sym (append_assoc x (bytes_of_lines xs) f)
 
 abbrev message_or : Message → Front → Message
 message_or other short = other
@@ -59,11 +59,11 @@ line_taken writes budget sent true_sent held left rest m line front = go line.fr
     all : front_of (held ++ left) ≡ whole m (rest ++ left)
     all = subst (λ (x : Front). Extends x left (front_of (held ++ left))) front (front_extends held left)
 
-    go : (frames : List (List ℕ)) → ((bytes : List ℕ) → Stands frames bytes → Stands sent bytes) → held ++ left ≡ laid_out frames → TrueMessage writes m × IsLine sent rest left
+    go : (frames : List (List ℕ)) → ((bytes : List ℕ) → Stands frames bytes → Stands sent bytes) → held ++ left ≡ bytes_of_lines frames → TrueMessage writes m × IsLine sent rest left
     go [] each laid = let none : whole m (rest ++ left) ≡ short = sym all ∙ ap front_of laid ∙ before_mark [] refl in absurd (cc)
     go (f ∷ fs) each laid =
         let is = true_sent f (each f (inl refl)) in
-        let first : front_of (f ++ laid_out fs) ≡ whole is.message (laid_out fs) = ap (λ xs. front_of (xs ++ laid_out fs)) is.laid ∙ front_frame is.message (laid_out fs) is.limits in
-        let both : whole m (rest ++ left) ≡ whole is.message (laid_out fs) = sym all ∙ ap front_of laid ∙ first in
+        let first : front_of (f ++ bytes_of_lines fs) ≡ whole is.message (bytes_of_lines fs) = ap (λ xs. front_of (xs ++ bytes_of_lines fs)) is.laid ∙ front_frame is.message (bytes_of_lines fs) is.limits in
+        let both : whole m (rest ++ left) ≡ whole is.message (bytes_of_lines fs) = sym all ∙ ap front_of laid ∙ first in
         let same : m ≡ is.message = ap (message_or m) both in
         (subst (TrueMessage writes) (sym same) is.honest, record { frames = fs; each = λ bytes stands. each bytes (inr stands); laid = ap (rest_or rest) both })

@@ -92,6 +92,8 @@ replies_within s core (kinds.Rows rows) answer t new a = absurd (up_unless (refu
 replies_within s core (kinds.Put wanted) answer t new a = absurd (up_unless (refusal_of s (kinds.Put wanted)) s core (kinds.Put wanted) answer t new a)
 replies_within s core (kinds.Done version) answer t new a = absurd (up_unless (refusal_of s (kinds.Done version)) s core (kinds.Done version) answer t new a)
 replies_within s core (kinds.Refused fault) answer t new a = absurd (up_unless (refusal_of s (kinds.Refused fault)) s core (kinds.Refused fault) answer t new a)
+replies_within s core (kinds.AskStatus after) answer t new a = absurd (up_unless (refusal_of s (kinds.AskStatus after)) s core (kinds.AskStatus after) answer t new a)
+replies_within s core (kinds.NodeStatus told) answer t new a = absurd (up_unless (refusal_of s (kinds.NodeStatus told)) s core (kinds.NodeStatus told) answer t new a)
 
 -- ---- what is asked with
 
@@ -107,6 +109,8 @@ asked_with_within s core (kinds.Rows rows) t new a = absurd a
 asked_with_within s core (kinds.Put wanted) t new a = absurd a
 asked_with_within s core (kinds.Done version) t new a = absurd a
 asked_with_within s core (kinds.Refused fault) t new a = absurd a
+asked_with_within s core (kinds.AskStatus after) t new a = absurd a
+asked_with_within s core (kinds.NodeStatus told) t new a = absurd a
 
 asked_in_within : (phase : Phase) (s : Session) (core : Core) (m : Message) (t : Session) (new : Core) → AsksIn phase Steps s core (Ok m) t new → length (frame m) ≤ core.settings.budget
 asked_in_within phases.Waiting s core m t new a = asked_with_within s core m t new a

@@ -1,26 +1,32 @@
 -- What was purged is gone, and a removed key does not come back.
-use Rattle.std.proofs.Common.{◌≡◌, ℕ, ◌≤◌, Bool, true, false, ◌||◌, cond, nat_eq, nat_lt, List, ⊎_elim, Option, Some, None, IfSome, IsSomeAnd, Result, Ok, Err, refl, sym, ap, subst, ◌∙◌, arith, ltb-true}
-use Rattle.std.proofs.lemmas.Bool.{true≢false, or_cases}
-use Rattle.std.specs.Cmp.Lexicographic.{pointwise}
+use Rattle.std.proofs.Common.{◌≡◌, ℕ, ◌≤◌, Bool, true, false, ◌&&◌, ◌||◌, cond, nat_eq, nat_lt, nat_le, unwrap_or, List, ⊎_elim, Option, Some, None, IfSome, IsSomeAnd, Result, Ok, Err, refl, sym, ap, subst, ◌∙◌, arith, ltb-true}
+use Rattle.std.proofs.lemmas.Bool.{true≢false, or_cases, cases_Bool, cond_both, and_from, ltb-false, le-leb}
+use Rattle.std.proofs.lemmas.Cmp.{nat_list_cmp_total, tied_itself}
+use Rattle.std.specs.Ordering.{is_eq, nat_cmp}
+use Rattle.std.specs.FinMap.{FinMap, get, insert, get-insert}
+use Rattle.std.specs.Cmp.Lexicographic.{pointwise, slice_cmp}
 use Rattle.sb_types.specs.declared.entry.Write.{Write}
 use Rattle.sb_types.specs.declared.fault.Fault.{Fault}
-use Rattle.sb_types.specs.declared.fault.Fault.TheVariants.{NoMemory, Closed}
-use Rattle.sb_types.specs.Records.{Entry, Table}
-use Rattle.sb_types.specs.Runs.{Stands, is_set, live}
+use Rattle.sb_types.specs.declared.fault.Fault.TheVariants.{NoMemory, Closed, FloorTooHigh}
+use Rattle.sb_types.specs.Records.{Entry, Table, Holder}
+use Rattle.sb_types.specs.Runs.{Stands, is_set, live_entries}
 use Rattle.sb_types.proofs.Standing.{of_kept}
 use Rattle.sb_types.proofs.Texts.{same_text}
-use Rattle.sb_holdings.specs.Held.{shown_of}
+use Rattle.sb_table.specs.Floors.{table_at_floor}
+use Rattle.sb_holdings.specs.Held.{Held, empty_holder, holder_of, shown_of, purged_own}
+use Rattle.sb_holdings.specs.Shown.{own_purged}
 use Rattle.sb_holdings.specs.Nodes.{opened_node}
 use Rattle.sb_holdings.proofs.Content.{content_is}
 use Rattle.sb_log.specs.Records.{Log}
-use Rattle.sb_log.specs.Puts.{Purges, Loads, purged}
+use Rattle.sb_log.specs.Puts.{Purges, Loads, content_after_purge}
+use Rattle.sb_node.specs.Purging.{purge_answer}
 use Rattle.sb_world.specs.declared.event.Event.{Event}
-use Rattle.sb_world.specs.declared.event.Event.TheVariants.{Purge, Restart}
+use Rattle.sb_world.specs.declared.event.Event.TheVariants.{Purge, Trim, Restart}
 use Rattle.sb_world.specs.declared.event.Answer.{Answer}
 use Rattle.sb_world.specs.declared.event.Answer.TheVariants as answers
 use Rattle.sb_world.specs.Connections.{Connection}
 use Rattle.sb_world.specs.Places.{Place, Seen, place_at, with_place, IsClean}
-use Rattle.sb_world.specs.Turns.{Effect, Turn, purge_turn, RestartEnds}
+use Rattle.sb_world.specs.Turns.{Effect, Turn, purge_turn, TrimEnds, trim_turn, RestartEnds}
 use Rattle.sb_world.specs.Events.{place_for, ActsWhere}
 use Rattle.sb_world.specs.Steps.{StepAt}
 use Rattle.sb_world.specs.States.{State, Moves}
@@ -44,7 +50,7 @@ removed_not_read old event answer new moves t u me owner key version is_event re
 
 -- ---- no removal up to a floor stands
 
-live_purged : (t : Table) → live t.floor t.entries ≡ t.entries → IsPurged t
+live_purged : (t : Table) → live_entries t.floor t.entries ≡ t.entries → IsPurged t
 live_purged t same e stands gone =
     let kept = of_kept (λ (x : Entry). is_set x.slot || nat_lt t.floor x.version) t.entries e (subst (λ (es : List Entry). Stands es e) (sym same) stands) in
     ⊎_elim
@@ -53,7 +59,7 @@ live_purged t same e stands gone =
     (or_cases (is_set e.slot) (nat_lt t.floor e.version) kept.1)
 
 content_live : (ws : List Write) (t : Table) → IsContentOf ws t → IsPurged t
-content_live ws t is = live_purged t (subst (λ (c : Table). live c.floor c.entries ≡ c.entries) (sym is.content) (content_is ws t.floor is.floor).live)
+content_live ws t is = live_purged t (subst (λ (c : Table). live_entries c.floor c.entries ≡ c.entries) (sym is.content) (content_is ws t.floor is.floor).live)
 
 pub state_purged : (s : State) → IsTrueState s → ArePurged s
 state_purged s t name = some_map _ _ (place_at s.now.places name)
@@ -66,6 +72,32 @@ state_purged s t name = some_map _ _ (place_at s.now.places name)
 
 abbrev told_purged : ℕ → Result Answer Fault
 told_purged floor = Ok (answers.Purged floor)
+
+abbrev told_trimmed : ℕ → Result Answer Fault
+told_trimmed floor = Ok (answers.Trimmed floor)
+
+abbrev answer_unless : Bool → Result (Unit {0}) Fault
+answer_unless above = cond above (Err FloorTooHigh) (Ok tt)
+
+-- a purge of the own table reaches the floor, where that is held
+floor_of_holder : (h : Holder) (floor : ℕ) → floor ≤ h.shown.held → floor ≤ (own_purged floor h).shown.floor
+floor_of_holder h floor low =
+    cond_both (nat_lt h.shown.floor floor && nat_le floor h.shown.held) (record { shown = table_at_floor h.shown.held floor h.shown; stage = h.stage }) h (λ (k : Holder). floor ≤ k.shown.floor)
+    (λ _. omega arith)
+    (λ no. ⊎_elim
+    (λ higher. absurd (true≢false (sym (and_from (nat_lt h.shown.floor floor) (nat_le floor h.shown.held) higher (le-leb floor h.shown.held low)) ∙ no)))
+    (λ reached. ltb-false h.shown.floor floor reached)
+    (cases_Bool (nat_lt h.shown.floor floor)))
+
+holder_put : (owners : FinMap (slice_cmp nat_cmp) Holder) (me : List ℕ) (h : Holder) → holder_of (insert owners me h) me ≡ h
+holder_put owners me h =
+    ap (λ (o : Option Holder). unwrap_or o empty_holder)
+    (get-insert nat_list_cmp_total owners me h me ∙ ap (λ (b : Bool). cond b (Some h) (get owners me)) (ap is_eq (tied_itself nat_list_cmp_total me)))
+
+floor_of_held : (held : Held) (floor : ℕ) → floor ≤ (shown_of held held.me).held → floor ≤ (shown_of (purged_own held floor) held.me).floor
+floor_of_held held floor low =
+    subst (λ (h : Holder). floor ≤ h.shown.floor) (sym (holder_put held.owners held.me (own_purged floor (holder_of held.owners held.me))))
+    (floor_of_holder (holder_of held.owners held.me) floor low)
 
 abbrev told_restarted : ℕ → Result Answer Fault
 told_restarted version = Ok (answers.Restarted version)
@@ -91,7 +123,7 @@ module _ (old : Seen) (me : List ℕ) (effect : Effect) where
         let same : told_purged told ≡ told_purged floor = ap (λ (x : Turn). x.answer) is in
         let logs : q.log ≡ log = ap (λ (x : Turn). x.place.log) is in
         let kept : log.is_clean ≡ true = subst (λ (l : Log). l.is_clean ≡ true) logs clean in
-        let content : log.content.floor ≡ (purged floor p.log.content).floor = ap (λ (t : Table). t.floor) (purges.done.content kept) in
+        let content : log.content.floor ≡ (content_after_purge floor p.log.content).floor = ap (λ (t : Table). t.floor) (purges.done.content kept) in
         let reached = (floor_reached p.log.content floor).0 in
         let high : floor ≤ log.content.floor = omega (arith, content, reached) in
         let done : IsDone q = (
@@ -115,6 +147,52 @@ module _ (old : Seen) (me : List ℕ) (effect : Effect) where
         let here : step.0.log.is_clean ≡ true = subst (λ (o : Option Place). IfSome o (λ r. r.log.is_clean ≡ true)) there (clean me) in
         let done = purge_acts p step.0 step.1 step.2 p.is_up step.3 here in
         (done.0, subst (λ (o : Option Place). IsSomeAnd o IsDone) (sym there) done.1)
+
+  module _ (floor told : ℕ) where
+    abbrev IsTrimmed : Place → Type 0
+    IsTrimmed q = (q.is_up ≡ true) × (q.log.is_open ≡ true) × (floor ≤ q.log.content.floor) × (floor ≤ (shown_of q.core.node.held q.core.node.held.me).floor)
+
+    allowed_low : (p : Place) (above : Bool) → nat_lt (shown_of p.core.node.held p.core.node.held.me).held floor ≡ above → answer_unless above ≡ Ok tt → floor ≤ (shown_of p.core.node.held p.core.node.held.me).held
+    allowed_low p true is allowed = absurd (cc)
+    allowed_low p false is allowed = ltb-false (shown_of p.core.node.held p.core.node.held.me).held floor is
+
+    trim_ended : (p q : Place) (frames : List (List ℕ)) (result : Result (Unit {0}) Fault) (log : Log) → purge_answer p.core.node floor ≡ Ok tt → p.is_up ≡ true → Purges p.log floor result log
+        → turn_of (told_trimmed told) effect q frames ≡ trim_turn p floor result log → q.log.is_clean ≡ true → (told ≡ floor) × IsTrimmed q
+    trim_ended p q frames (Ok done) log allowed up purges is clean =
+        let same : told_trimmed told ≡ told_trimmed floor = ap (λ (x : Turn). x.answer) is in
+        let logs : q.log ≡ log = ap (λ (x : Turn). x.place.log) is in
+        let kept : log.is_clean ≡ true = subst (λ (l : Log). l.is_clean ≡ true) logs clean in
+        let content : log.content.floor ≡ (content_after_purge floor p.log.content).floor = ap (λ (t : Table). t.floor) (purges.done.content kept) in
+        let reached = (floor_reached p.log.content floor).0 in
+        let high : floor ≤ log.content.floor = omega (arith, content, reached) in
+        let low = allowed_low p (nat_lt (shown_of p.core.node.held p.core.node.held.me).held floor) refl allowed in
+        let trimmed : IsTrimmed q = (
+          ap (λ (x : Turn). x.place.is_up) is ∙ up,
+          subst (λ (l : Log). l.is_open ≡ true) (sym logs) purges.done.is_open,
+          subst (λ (l : Log). floor ≤ l.content.floor) (sym logs) high,
+          subst (λ (x : Turn). floor ≤ (shown_of x.place.core.node.held x.place.core.node.held.me).floor) (sym is) (floor_of_held p.core.node.held floor low),
+        ) in
+        (cc, trimmed)
+    trim_ended p q frames (Err fault) log allowed up purges is clean =
+        let no : told_trimmed told ≡ Err fault = ap (λ (x : Turn). x.answer) is in absurd (cc)
+
+    trim_turned : (p q : Place) (frames : List (List ℕ)) (allowed : Result (Unit {0}) Fault) → purge_answer p.core.node floor ≡ allowed → p.is_up ≡ true
+        → TrimEnds allowed p floor (turn_of (told_trimmed told) effect q frames) → q.log.is_clean ≡ true → (told ≡ floor) × IsTrimmed q
+    trim_turned p q frames (Err fault) is_allowed up is clean = let no : told_trimmed told ≡ Err fault = ap (λ (x : Turn). x.answer) is in absurd (cc)
+    trim_turned p q frames (Ok done) is_allowed up r clean = trim_ended p q frames r.0 r.1 is_allowed up r.2 r.3 clean
+
+    trim_acts : (p q : Place) (conns : List Connection) (frames : List (List ℕ)) (b : Bool) → p.is_up ≡ b →
+        ActsWhere b (Trim me floor) p old.connections old.sent (turn_of (told_trimmed told) effect q frames) conns → q.log.is_clean ≡ true → (told ≡ floor) × IsTrimmed q
+    trim_acts p q conns frames false up is clean = let no : told_trimmed told ≡ Err Closed = ap (λ (x : Turn). x.answer) is.0 in absurd (cc)
+    trim_acts p q conns frames true up acts clean = trim_turned p q frames (purge_answer p.core.node floor) refl up acts.0 clean
+
+    trim_at : (found : Option Place) → place_at old.places me ≡ found → (seen : Seen) → StepAt found old (Trim me floor) (told_trimmed told) effect seen → IsClean seen.places → (told ≡ floor) × IsSomeAnd (place_at seen.places me) IsTrimmed
+    trim_at None is seen step clean = let no : told_trimmed told ≡ Ok answers.Nothing = step.0 in absurd (cc)
+    trim_at (Some p) is seen step clean =
+        let there = found_after (Trim me floor) (told_trimmed told) p is seen step in
+        let here : step.0.log.is_clean ≡ true = subst (λ (o : Option Place). IfSome o (λ r. r.log.is_clean ≡ true)) there (clean me) in
+        let trimmed = trim_acts p step.0 step.1 step.2 p.is_up refl step.3 here in
+        (trimmed.0, subst (λ (o : Option Place). IsSomeAnd o IsTrimmed) (sym there) trimmed.1)
 
   module _ (version : ℕ) where
     abbrev IsOfLog : Place → Type 0
@@ -180,6 +258,7 @@ module _ (old : Seen) (event : Event) (answer : Result Answer Fault) (effect : E
 pub keeps_purged : (old : State) (event : Event) (answer : Result Answer Fault) (new : State) → Moves old event answer new → IsClean old.now.places → IsClean new.now.places → KeepsPurged old event answer new
 keeps_purged old event answer new moves before clean = record {
   done = λ me floor told is_event is_answer. purge_at old.now me moves.0 floor told (place_at old.now.places me) refl new.now (step_of (Purge me floor) (told_purged told) is_event is_answer) clean;
+  trimmed = λ me floor told is_event is_answer. trim_at old.now me moves.0 floor told (place_at old.now.places me) refl new.now (step_of (Trim me floor) (told_trimmed told) is_event is_answer) clean;
   opened = λ me version is_event is_answer. restart_at old.now me moves.0 version (place_at old.now.places me) refl new.now (step_of (Restart me) (told_restarted version) is_event is_answer) clean;
   stays = λ name. floor_at_step old.now event answer moves.0 name (place_for old.now event) refl new.now moves.1 clean;
 }

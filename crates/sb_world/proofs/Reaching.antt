@@ -7,7 +7,7 @@ use Rattle.sb_world.specs.Places.{Seen}
 use Rattle.sb_world.specs.Turns.{Effect}
 use Rattle.sb_world.specs.Events.{place_for}
 use Rattle.sb_world.specs.Steps.{Step, Passes}
-use Rattle.sb_world.specs.States.{State, remembered, Moves, Run, last_of, IsReached, FitsWorld}
+use Rattle.sb_world.specs.States.{State, state_after, Moves, Run, last_of, IsReached, FitsWorld}
 
 -- one event more
 pub passes_more : (old mid new : Seen) (events : List Event) (answers : List (Result Answer Fault)) (event : Event) (answer : Result Answer Fault) (effect : Effect) →
@@ -45,7 +45,7 @@ reached_more old event answer new r moves = record {
 pub reach_step : (world new : Seen) (event : Event) (answer : Result Answer Fault) (effect : Effect) → Step world event answer effect new → (old : State) → FitsWorld old world →
     (state : State) × Moves old event answer state × FitsWorld state new
 reach_step world new event answer effect step old fits =
-    let state = remembered old (place_for old.now event) event answer effect new in
+    let state = state_after old (place_for old.now event) event answer effect new in
     let moves : Moves old event answer state = (effect, subst (λ (w : Seen). Step w event answer effect new) (sym fits.now) step, refl) in
     (state, moves, record { reached = reached_more old event answer state fits.reached moves; now = refl })
 

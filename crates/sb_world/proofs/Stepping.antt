@@ -12,7 +12,7 @@ use Rattle.sb_world.specs.Connections.{Connection}
 use Rattle.sb_world.specs.Turns.{Effect}
 use Rattle.sb_world.specs.Events.{node_of, place_for, Does}
 use Rattle.sb_world.specs.Steps.{StepAt, seen_after}
-use Rattle.sb_world.specs.States.{Past, State, put_at, writes_after, past_after, remembered, Moves}
+use Rattle.sb_world.specs.States.{Past, State, put_at, writes_after, past_after, state_after, Moves}
 use Rattle.sb_world.specs.Truth.{IsContentOf, IsTrueFrame, IsTruePlace, IsTrueState}
 use Rattle.sb_world.proofs.Names.{found_me, put_same, put_other, each_placed, clean_before, sure_after, clean_there}
 use Rattle.sb_world.proofs.Going.{grown, frame_on}
@@ -74,7 +74,7 @@ module _ (event : Event) (answer : Result Answer Fault) (effect : Effect) (old :
     all : AllKept old.writes (old.past p.me) old.now.settings old.now.sent p true_here t.frames laws old.now.connections t.connections (record { answer = answer; effect = effect; place = q; frames = frames }) conns
     all = does_kept old.writes (old.past p.me) old.now.settings old.now.sent p true_here t.frames laws old.now.connections t.connections event _ conns does
 
-    true_some : IsTrueState (remembered old (Some p) event answer effect (seen_after old.now p.me q conns frames))
+    true_some : IsTrueState (state_after old (Some p) event answer effect (seen_after old.now p.me q conns frames))
     true_some = record {
       places = each_placed p.me p q me_same (λ r. IsTruePlace new (put_at old.past p.me later r.me) old.now.settings r) old.now.places found
           (subst (λ (h : Past). IsTruePlace new h old.now.settings q) (sym (ap (put_at old.past p.me later) me_same ∙ put_same old.past p.me later)) (all.kept.place (clean_there p.me p q me_same old.now.places found clean)))
@@ -86,10 +86,10 @@ module _ (event : Event) (answer : Result Answer Fault) (effect : Effect) (old :
       wires = does_wires old.now.sent old.now.connections old.wires t.wires p event (record { answer = answer; effect = effect; place = q; frames = frames }) conns does;
     }
 
-  true_step : Laws → (found : Option Place) → place_for old.now event ≡ found → (seen : Seen) → StepAt found old.now event answer effect seen → IsClean seen.places → IsTrueState old → IsTrueState (remembered old found event answer effect seen)
-  true_step laws None is seen step clean t = subst (λ (s : Seen). IsTrueState (remembered old None event answer effect s)) (sym step.2) (record { places = t.places; frames = t.frames; connections = t.connections; wires = t.wires })
+  true_step : Laws → (found : Option Place) → place_for old.now event ≡ found → (seen : Seen) → StepAt found old.now event answer effect seen → IsClean seen.places → IsTrueState old → IsTrueState (state_after old found event answer effect seen)
+  true_step laws None is seen step clean t = subst (λ (s : Seen). IsTrueState (state_after old None event answer effect s)) (sym step.2) (record { places = t.places; frames = t.frames; connections = t.connections; wires = t.wires })
   true_step laws (Some p) is seen step clean t =
-      subst (λ (s : Seen). IsTrueState (remembered old (Some p) event answer effect s)) (sym step.4)
+      subst (λ (s : Seen). IsTrueState (state_after old (Some p) event answer effect s)) (sym step.4)
       (true_some laws p step.0 step.1 step.2 (found_for old.now event p is) step.3 (subst (λ (s : Seen). IsClean s.places) step.4 clean) t)
 
 module _ (old : State) (event : Event) (answer : Result Answer Fault) (new : State) (moves : Moves old event answer new) where

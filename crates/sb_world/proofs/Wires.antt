@@ -15,14 +15,14 @@ use Rattle.sb_frames.specs.Frames.{frame}
 use Rattle.sb_frames.specs.Streams.{Stream, open_with, TakesNext, Hands}
 use Rattle.sb_session.specs.Sessions.{Session, hello_of}
 use Rattle.sb_world.specs.declared.event.Event.{Event}
-use Rattle.sb_world.specs.declared.event.Event.TheVariants.{Commit, Take, CrashInCommit, Purge, Restart, Connect, Close, Line, Piece, Ask, Offer, Read, Upto}
+use Rattle.sb_world.specs.declared.event.Event.TheVariants.{Commit, Take, CrashInCommit, Purge, Trim, Restart, Connect, Close, Line, Piece, Ask, Offer, Read, Upto}
 use Rattle.sb_world.specs.Connections.{Connection, connection_at, with_connection, without_connection, of_others}
-use Rattle.sb_world.specs.Connecting.{begun, new_connection, Connects, Closes, lined, LinesUp, in_session, Asked, AsksOn, fed, listener, heard_by, connections_after, Delivers, Pieces}
+use Rattle.sb_world.specs.Connecting.{session_at, new_connection, Connects, Closes, connection_with_bytes, LinesUp, in_session, Asked, AsksOn, stream_with_piece, listener, heard_by, connections_after, Delivers, Pieces}
 use Rattle.sb_world.specs.Events.{answers_to, Acts, ActsWhere, Does}
 use Rattle.sb_world.specs.Hearing.{Listener, Heard, Hears, Tells}
 use Rattle.sb_world.specs.Places.{Place, frame_at}
 use Rattle.sb_world.specs.Turns.{Turn, rests, with_core}
-use Rattle.sb_world.specs.Wires.{Wire, new_wire, messages_in, begun_by, lined_by, heard_on, wired, wires_by, IsHistory, IsTrueWire, IsPastWire, AreDistinct, AreTrueWires}
+use Rattle.sb_world.specs.Wires.{Wire, new_wire, messages_in, wire_after_connect, wire_after_line, wire_after_piece, wires_with, wires_by, IsHistory, IsTrueWire, IsPastWire, AreDistinct, AreTrueWires}
 use Rattle.sb_world.proofs.Acting.{frame_stands}
 use Rattle.sb_world.proofs.Keeping.{joined}
 use Rattle.sb_world.proofs.Lines.{laid_more}
@@ -31,13 +31,13 @@ use Rattle.sb_world.proofs.Listening.{nothing_next, tells_end}
 -- ---- the history of one number
 
 module _ (wires : ℕ → Wire) (number : ℕ) (w : Wire) where
-  wired_here : wired wires number w number ≡ w
+  wired_here : wires_with wires number w number ≡ w
   wired_here = rw (eq-eqb number number refl) refl
 
-  wired_there : (other : ℕ) → other ≢ number → wired wires number w other ≡ wires other
+  wired_there : (other : ℕ) → other ≢ number → wires_with wires number w other ≡ wires other
   wired_there other apart = rw (ne_eqb other number apart) refl
 
-  wired_again : w ≡ wires number → (other : ℕ) → wired wires number w other ≡ wires other
+  wired_again : w ≡ wires number → (other : ℕ) → wires_with wires number w other ≡ wires other
   wired_again same other = go (nat_eq other number) refl
     where
       go : (b : Bool) → nat_eq other number ≡ b → cond b w (wires other) ≡ wires other
@@ -197,7 +197,7 @@ module _ (sent : List (List ℕ)) (conns : List Connection) (wires : ℕ → Wir
   closed more new number is =
       quiet more new wires (λ n. refl) (λ c stands. (of_without conns number c t.distinct (subst (λ (cs : List Connection). Stands cs c) is stands)).0) (subst AreDistinct (sym is) (distinct_without conns number t.distinct))
 
-  each_wired : (more : List (List ℕ)) (number : ℕ) (w : Wire) → IsPastWire (sent ++ more) w → (other : ℕ) → IsPastWire (sent ++ more) (wired wires number w other)
+  each_wired : (more : List (List ℕ)) (number : ℕ) (w : Wire) → IsPastWire (sent ++ more) w → (other : ℕ) → IsPastWire (sent ++ more) (wires_with wires number w other)
   each_wired more number w past other = go (nat_eq other number)
     where
       go : (b : Bool) → IsPastWire (sent ++ more) (cond b w (wires other))
@@ -205,17 +205,17 @@ module _ (sent : List (List ℕ)) (conns : List Connection) (wires : ℕ → Wir
       go false = past_later sent more (wires other) (t.each other)
 
   -- of each other it stays
-  others_wired : (more : List (List ℕ)) (number : ℕ) (w : Wire) (c : Connection) → Stands conns c → c.number ≢ number → IsTrueWire (sent ++ more) (wired wires number w c.number) c
+  others_wired : (more : List (List ℕ)) (number : ℕ) (w : Wire) (c : Connection) → Stands conns c → c.number ≢ number → IsTrueWire (sent ++ more) (wires_with wires number w c.number) c
   others_wired more number w c stands apart =
       subst (λ (x : Wire). IsTrueWire (sent ++ more) x c) (sym (wired_there wires number w c.number apart)) (wire_later sent more (wires c.number) c (t.standing c stands))
 
   -- one changes, and so does its history
-  changed : (more : List (List ℕ)) (number : ℕ) (d : Connection) (w : Wire) → d.number ≡ number → IsTrueWire (sent ++ more) w d → AreTrueWires (sent ++ more) (with_connection conns number d) (wired wires number w)
+  changed : (more : List (List ℕ)) (number : ℕ) (d : Connection) (w : Wire) → d.number ≡ number → IsTrueWire (sent ++ more) w d → AreTrueWires (sent ++ more) (with_connection conns number d) (wires_with wires number w)
   changed more number d w named is = record {
     standing = λ c stands.
         ⊎_elim
-        (λ same. subst (λ (e : Connection). IsTrueWire (sent ++ more) (wired wires number w e.number) e) same
-        (subst (λ (x : Wire). IsTrueWire (sent ++ more) x d) (sym (ap (wired wires number w) named ∙ wired_here wires number w)) is))
+        (λ same. subst (λ (e : Connection). IsTrueWire (sent ++ more) (wires_with wires number w e.number) e) same
+        (subst (λ (x : Wire). IsTrueWire (sent ++ more) x d) (sym (ap (wires_with wires number w) named ∙ wired_here wires number w)) is))
         (λ both. others_wired more number w c both.0 both.1)
         (of_with conns number d c t.distinct stands);
     each = each_wired more number w (past_of (sent ++ more) w d is);
@@ -223,7 +223,7 @@ module _ (sent : List (List ℕ)) (conns : List Connection) (wires : ℕ → Wir
   }
 
   -- one goes, with a history that it has for good
-  gone : (more : List (List ℕ)) (number : ℕ) (w : Wire) → IsPastWire (sent ++ more) w → AreTrueWires (sent ++ more) (without_connection conns number) (wired wires number w)
+  gone : (more : List (List ℕ)) (number : ℕ) (w : Wire) → IsPastWire (sent ++ more) w → AreTrueWires (sent ++ more) (without_connection conns number) (wires_with wires number w)
   gone more number w past = record {
     standing = λ c stands. let both = of_without conns number c t.distinct stands in others_wired more number w c both.0 both.1;
     each = each_wired more number w past;
@@ -231,15 +231,15 @@ module _ (sent : List (List ℕ)) (conns : List Connection) (wires : ℕ → Wir
   }
 
   -- one begins
-  begins : (more : List (List ℕ)) (d : Connection) → connection_at conns d.number ≡ None → IsTrueWire (sent ++ more) new_wire d → AreTrueWires (sent ++ more) (conns ++ d ∷ []) (wired wires d.number new_wire)
+  begins : (more : List (List ℕ)) (d : Connection) → connection_at conns d.number ≡ None → IsTrueWire (sent ++ more) new_wire d → AreTrueWires (sent ++ more) (conns ++ d ∷ []) (wires_with wires d.number new_wire)
   begins more d none is = record {
     standing = λ c stands. ⊎_elim (λ s. others_wired more d.number new_wire c s (absent conns d.number none c s)) (one c) (either conns (d ∷ []) c stands);
     each = each_wired more d.number new_wire (past_of (sent ++ more) new_wire d is);
     distinct = distinct_more conns d t.distinct (absent conns d.number none);
   }
     where
-      one : (c : Connection) → Stands (d ∷ []) c → IsTrueWire (sent ++ more) (wired wires d.number new_wire c.number) c
-      one c (inl same) = subst (λ (e : Connection). IsTrueWire (sent ++ more) (wired wires d.number new_wire e.number) e) same
+      one : (c : Connection) → Stands (d ∷ []) c → IsTrueWire (sent ++ more) (wires_with wires d.number new_wire c.number) c
+      one c (inl same) = subst (λ (e : Connection). IsTrueWire (sent ++ more) (wires_with wires d.number new_wire e.number) e) same
           (subst (λ (x : Wire). IsTrueWire (sent ++ more) x d) (sym (wired_here wires d.number new_wire)) is)
       one c (inr s) = absurd s
 
@@ -250,16 +250,16 @@ module _ (sent : List (List ℕ)) (conns : List Connection) (wires : ℕ → Wir
 
   module _ (p : Place) where
     connects_wires : (found : Option Connection) (number : ℕ) → connection_at conns number ≡ found → (turn : Turn) (new : List Connection) → Connects found p number conns sent turn new →
-        AreTrueWires (sent ++ turn.frames) new (wired wires number (begun_by turn.answer (wires number)))
+        AreTrueWires (sent ++ turn.frames) new (wires_with wires number (wire_after_connect turn.answer (wires number)))
     connects_wires (Some c) number at_number turn new stays =
-        alone turn.frames new _ (wired_again wires number _ (ap (λ (x : Turn). begun_by x.answer (wires number)) stays.0)) stays.1
+        alone turn.frames new _ (wired_again wires number _ (ap (λ (x : Turn). wire_after_connect x.answer (wires number)) stays.0)) stays.1
     connects_wires None number at_number turn new acts =
         ⊎_elim
-        (λ stays. alone turn.frames new _ (wired_again wires number _ (ap (λ (x : Turn). begun_by x.answer (wires number)) stays.0)) stays.1)
-        (λ is. subst (λ (x : Turn). AreTrueWires (sent ++ x.frames) new (wired wires number (begun_by x.answer (wires number)))) (sym is.2)
-        (subst (λ (cs : List Connection). AreTrueWires (sent ++ frame (hello_of (begun p)) ∷ []) cs (wired wires number new_wire)) (sym is.3)
-        (begins (frame (hello_of (begun p)) ∷ []) (new_connection p number) at_number
-        (record { rest = []; stands = refl; history = new_history (sent ++ frame (hello_of (begun p)) ∷ []) }))))
+        (λ stays. alone turn.frames new _ (wired_again wires number _ (ap (λ (x : Turn). wire_after_connect x.answer (wires number)) stays.0)) stays.1)
+        (λ is. subst (λ (x : Turn). AreTrueWires (sent ++ x.frames) new (wires_with wires number (wire_after_connect x.answer (wires number)))) (sym is.2)
+        (subst (λ (cs : List Connection). AreTrueWires (sent ++ frame (hello_of (session_at p)) ∷ []) cs (wires_with wires number new_wire)) (sym is.3)
+        (begins (frame (hello_of (session_at p)) ∷ []) (new_connection p number) at_number
+        (record { rest = []; stands = refl; history = new_history (sent ++ frame (hello_of (session_at p)) ∷ []) }))))
         acts
 
     closes_wires : (found : Option Connection) (number : ℕ) (turn : Turn) (new : List Connection) → Closes found p number conns turn new → AreTrueWires (sent ++ turn.frames) new wires
@@ -267,17 +267,17 @@ module _ (sent : List (List ℕ)) (conns : List Connection) (wires : ℕ → Wir
     closes_wires (Some c) number turn new is = closed turn.frames new number is.1
 
     lines_wires : (found : Option Connection) (bytes : Option (List ℕ)) (number index : ℕ) → connection_at conns number ≡ found → frame_at sent index ≡ bytes → (turn : Turn) (new : List Connection) → LinesUp found bytes p number conns turn new →
-        AreTrueWires (sent ++ turn.frames) new (wired wires number (lined_by turn.answer bytes (wires number)))
+        AreTrueWires (sent ++ turn.frames) new (wires_with wires number (wire_after_line turn.answer bytes (wires number)))
     lines_wires None bytes number index at_number at_index turn new stays =
-        alone turn.frames new _ (wired_again wires number _ (ap (λ (x : Turn). lined_by x.answer bytes (wires number)) stays.0)) stays.1
+        alone turn.frames new _ (wired_again wires number _ (ap (λ (x : Turn). wire_after_line x.answer bytes (wires number)) stays.0)) stays.1
     lines_wires (Some c) None number index at_number at_index turn new stays =
-        alone turn.frames new _ (wired_again wires number _ (ap (λ (x : Turn). lined_by x.answer None (wires number)) stays.0)) stays.1
+        alone turn.frames new _ (wired_again wires number _ (ap (λ (x : Turn). wire_after_line x.answer None (wires number)) stays.0)) stays.1
     lines_wires (Some c) (Some bytes) number index at_number at_index turn new acts =
         ⊎_elim
-        (λ stays. alone turn.frames new _ (wired_again wires number _ (ap (λ (x : Turn). lined_by x.answer (Some bytes) (wires number)) stays.0)) stays.1)
-        (λ is. subst (λ (x : Turn). AreTrueWires (sent ++ x.frames) new (wired wires number (lined_by x.answer (Some bytes) (wires number)))) (sym is.0)
-        (subst (λ (cs : List Connection). AreTrueWires (sent ++ []) cs (wired wires number longer)) (sym is.1)
-        (changed [] number (lined c bytes) longer (found_number conns number c at_number) (wire_later sent [] longer (lined c bytes) (record { rest = old.rest; stands = old.stands; history = history })))))
+        (λ stays. alone turn.frames new _ (wired_again wires number _ (ap (λ (x : Turn). wire_after_line x.answer (Some bytes) (wires number)) stays.0)) stays.1)
+        (λ is. subst (λ (x : Turn). AreTrueWires (sent ++ x.frames) new (wires_with wires number (wire_after_line x.answer (Some bytes) (wires number)))) (sym is.0)
+        (subst (λ (cs : List Connection). AreTrueWires (sent ++ []) cs (wires_with wires number longer)) (sym is.1)
+        (changed [] number (connection_with_bytes c bytes) longer (found_number conns number c at_number) (wire_later sent [] longer (connection_with_bytes c bytes) (record { rest = old.rest; stands = old.stands; history = history })))))
         acts
       where
         w : Wire
@@ -316,9 +316,9 @@ module _ (sent : List (List ℕ)) (conns : List Connection) (wires : ℕ → Wir
         on : IsTrueWire sent (wires number) (in_session c session)
         on = record { rest = old.rest; stands = old.stands; history = old.history }
 
-        unwired : {s : List (List ℕ)} {cs : List Connection} → AreTrueWires s cs (wired wires number (wires number)) → AreTrueWires s cs wires
+        unwired : {s : List (List ℕ)} {cs : List Connection} → AreTrueWires s cs (wires_with wires number (wires number)) → AreTrueWires s cs wires
         unwired {s} {cs} u =
-            let same : (n : ℕ) → wired wires number (wires number) n ≡ wires n = wired_again wires number (wires number) refl in
+            let same : (n : ℕ) → wires_with wires number (wires number) n ≡ wires n = wired_again wires number (wires number) refl in
             record {
               standing = λ d stands. subst (λ (w : Wire). IsTrueWire s w d) (same d.number) (u.standing d stands);
               each = λ n. subst (IsPastWire s) (same n) (u.each n);
@@ -343,7 +343,7 @@ module _ (sent : List (List ℕ)) (conns : List Connection) (wires : ℕ → Wir
       old = there number c at_number
 
       laid : (rest : List ℕ) × (d.mid.stream ≡ open_with rest) × (old.rest ++ piece ≡ flat_map frame (messages_in d.heard) ++ rest)
-      laid = heard_laid (listener p.core c count) d.heard d.mid (old.rest ++ piece) (ap (λ (s : Stream). fed s piece) old.stands) d.hears
+      laid = heard_laid (listener p.core c count) d.heard d.mid (old.rest ++ piece) (ap (λ (s : Stream). stream_with_piece s piece) old.stands) d.hears
 
       history : IsHistory (sent ++ d.frames) longer laid.0 (drop count c.left)
       history = history_later sent d.frames longer laid.0 (drop count c.left) (record {
@@ -362,19 +362,19 @@ module _ (sent : List (List ℕ)) (conns : List Connection) (wires : ℕ → Wir
           let ends = tells_end (length sent) d.heard d.mid d.last d.items d.frames (subst (λ (f : Option Fault). Tells (length sent) d.heard d.mid d.last f d.items d.frames) none d.tells) in
           (subst (λ (s : Stream). TakesNext s nothing_next d.last.stream) laid.1 ends.0).1
 
-      left_wires : (fault : Option Fault) → d.fault ≡ fault → AreTrueWires (sent ++ d.frames) (connections_after fault conns number (heard_by c count d.last)) (wired wires number longer)
+      left_wires : (fault : Option Fault) → d.fault ≡ fault → AreTrueWires (sent ++ d.frames) (connections_after fault conns number (heard_by c count d.last)) (wires_with wires number longer)
       left_wires None is = changed d.frames number (heard_by c count d.last) longer (found_number conns number c at_number) (record { rest = laid.0; stands = stands_on is; history = history })
       left_wires (Some fault) is = gone d.frames number longer (record { rest = laid.0; left = drop count c.left; history = history })
 
-      delivers_wires : AreTrueWires (sent ++ turn.frames) new (wired wires number (heard_on turn.effect w))
+      delivers_wires : AreTrueWires (sent ++ turn.frames) new (wires_with wires number (wire_after_piece turn.effect w))
       delivers_wires =
-          subst (λ (x : Turn). AreTrueWires (sent ++ x.frames) new (wired wires number (heard_on x.effect w))) (sym d.turn_is)
-          (subst (λ (cs : List Connection). AreTrueWires (sent ++ d.frames) cs (wired wires number longer)) (sym d.left) (left_wires d.fault refl))
+          subst (λ (x : Turn). AreTrueWires (sent ++ x.frames) new (wires_with wires number (wire_after_piece x.effect w))) (sym d.turn_is)
+          (subst (λ (cs : List Connection). AreTrueWires (sent ++ d.frames) cs (wires_with wires number longer)) (sym d.left) (left_wires d.fault refl))
 
     pieces_wires : (found : Option Connection) (number count : ℕ) → connection_at conns number ≡ found → (turn : Turn) (new : List Connection) → Pieces found p number count conns sent turn new →
-        AreTrueWires (sent ++ turn.frames) new (wired wires number (heard_on turn.effect (wires number)))
+        AreTrueWires (sent ++ turn.frames) new (wires_with wires number (wire_after_piece turn.effect (wires number)))
     pieces_wires None number count at_number turn new stays =
-        alone turn.frames new _ (wired_again wires number _ (ap (λ (x : Turn). heard_on x.effect (wires number)) stays.0)) stays.1
+        alone turn.frames new _ (wired_again wires number _ (ap (λ (x : Turn). wire_after_piece x.effect (wires number)) stays.0)) stays.1
     pieces_wires (Some c) number count at_number turn new d = delivers_wires c number count at_number turn new d
 
     acts_wires : (event : Event) (turn : Turn) (new : List Connection) → Acts event p conns sent turn new → AreTrueWires (sent ++ turn.frames) new (wires_by event turn.answer turn.effect sent wires)
@@ -382,6 +382,7 @@ module _ (sent : List (List ℕ)) (conns : List Connection) (wires : ℕ → Wir
     acts_wires (Take me) turn new acts = alone turn.frames new wires (λ n. refl) acts.1
     acts_wires (CrashInCommit me key slot is_kept) turn new acts = some_left turn.place.is_up turn.frames new p.me acts.1
     acts_wires (Purge me floor) turn new acts = some_left turn.place.is_up turn.frames new p.me acts.1
+    acts_wires (Trim me floor) turn new acts = alone turn.frames new wires (λ n. refl) acts.1
     acts_wires (Restart me) turn new acts = fewer turn.frames new p.me acts.1
     acts_wires (Connect me number) turn new acts = connects_wires (connection_at conns number) number refl turn new acts
     acts_wires (Close number) turn new acts = closes_wires (connection_at conns number) number turn new acts

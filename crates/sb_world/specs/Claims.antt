@@ -17,14 +17,14 @@ use Rattle.sb_codec.specs.declared.message.Message.{Message}
 use Rattle.sb_frames.specs.Streams.{Stream, open_with, shut, Splits}
 use Rattle.sb_node.specs.Calls.{Call, TookOwn, Applied}
 use Rattle.sb_world.specs.declared.event.Event.{Event}
-use Rattle.sb_world.specs.declared.event.Event.TheVariants.{Purge, Restart, Piece, Read}
+use Rattle.sb_world.specs.declared.event.Event.TheVariants.{Purge, Trim, Restart, Piece, Read}
 use Rattle.sb_world.specs.declared.event.Answer.{Answer}
 use Rattle.sb_world.specs.declared.event.Answer.TheVariants as answers
 use Rattle.sb_world.specs.declared.event.Item.{Item}
 use Rattle.sb_world.specs.Connections.{Connection, connection_at}
 use Rattle.sb_world.specs.Places.{Place, Seen, place_at, IsClean}
 use Rattle.sb_world.specs.Hearing.{Heard, Listener, Hears, Tells, calls_in}
-use Rattle.sb_world.specs.Connecting.{fed, listener, heard_by, connections_after}
+use Rattle.sb_world.specs.Connecting.{stream_with_piece, listener, heard_by, connections_after}
 use Rattle.sb_world.specs.Turns.{with_core}
 use Rattle.sb_world.specs.States.{State, Run, FitsWorld, last_of}
 
@@ -110,7 +110,7 @@ pub record TakesPiece (old : Seen) (number count : ℕ) (c : Connection) (p : Pl
   -- it hears each in its turn
   pub hears : Hears (listener p.core c count) heard mid
   -- if no fault is reported, these are all that have come whole
-  pub whole : fault ≡ None → HaveCome (fed c.stream (take count c.left)) (map (λ (h : Heard). h.message) heard) last.stream
+  pub whole : fault ≡ None → HaveCome (stream_with_piece c.stream (take count c.left)) (map (λ (h : Heard). h.message) heard) last.stream
   -- a fault is that of the next message, or memory was missing
   pub tells : Tells (length old.sent) heard mid last fault items frames
   -- the items and the fault are the answer, and the replies are sent
@@ -200,6 +200,12 @@ PurgeIsDone event answer new =
     (me : List ℕ) (floor told : ℕ) → event ≡ Purge me floor → answer ≡ Ok (answers.Purged told) →
     (told ≡ floor) × IsSomeAnd (place_at new.now.places me) (λ p. (p.is_up ≡ false) × (p.log.is_open ≡ true) × (floor ≤ p.log.content.floor))
 
+-- a trim that is answered leaves the node up and its log open, and both with that floor or a higher one
+abbrev pub TrimIsDone : Event → Result Answer Fault → State → Type 0
+TrimIsDone event answer new =
+    (me : List ℕ) (floor told : ℕ) → event ≡ Trim me floor → answer ≡ Ok (answers.Trimmed told) →
+    (told ≡ floor) × IsSomeAnd (place_at new.now.places me) (λ p. (p.is_up ≡ true) × (p.log.is_open ≡ true) × (floor ≤ p.log.content.floor) × (floor ≤ (shown_of p.core.node.held p.core.node.held.me).floor))
+
 -- a restart that is answered opens the node with the content of its log
 abbrev pub RestartIsOfLog : Event → Result Answer Fault → State → Type 0
 RestartIsOfLog event answer new =
@@ -214,6 +220,7 @@ FloorsStay old new =
 
 pub record KeepsPurged (old : State) (event : Event) (answer : Result Answer Fault) (new : State) : Type 0 where
   pub done : PurgeIsDone event answer new
+  pub trimmed : TrimIsDone event answer new
   pub opened : RestartIsOfLog event answer new
   pub stays : FloorsStay old new
 

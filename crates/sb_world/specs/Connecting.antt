@@ -16,46 +16,46 @@ use Rattle.sb_world.specs.declared.event.Answer.TheVariants as answers
 use Rattle.sb_world.specs.Connections.{Connection, with_connection, without_connection}
 use Rattle.sb_world.specs.Hearing.{Listener, listener_of, Heard, Hears, Tells}
 use Rattle.sb_world.specs.Places.{Place}
-use Rattle.sb_world.specs.Turns.{Turn, listens, still, sent_turn, with_core}
+use Rattle.sb_world.specs.Turns.{Turn, listens, idle_turn, sent_turn, with_core}
 
 -- nothing changes
 abbrev pub Stays : Place → List Connection → Result Answer Fault → Turn → List Connection → Type 0
-Stays p conns answer turn new = (turn ≡ still p answer) × (new ≡ conns)
+Stays p conns answer turn new = (turn ≡ idle_turn p answer) × (new ≡ conns)
 
 -- ---- it begins
 
 -- its session is of the node, in the cluster of its settings, and nothing has come or is in the queue
-abbrev pub begun : Place → Session
-begun p = new_session p.core.settings.cluster p.me
+abbrev pub session_at : Place → Session
+session_at p = new_session p.core.settings.cluster p.me
 
 abbrev pub new_connection : Place → ℕ → Connection
-new_connection p number = record { number = number; me = p.me; session = begun p; stream = open_with []; left = [] }
+new_connection p number = record { number = number; me = p.me; session = session_at p; stream = open_with []; left = [] }
 
 -- its Hello is sent, unless the number is in use
 abbrev pub Connects : Option Connection → Place → ℕ → List Connection → List (List ℕ) → Turn → List Connection → Type 0
 Connects (Some c) p number conns sent turn new = Stays p conns (Ok answers.Nothing) turn new
 Connects None p number conns sent turn new =
     Stays p conns (Err NoMemory) turn new
-    ⊎ ((is_message (hello_of (begun p)) ≡ true) × (length (frame (hello_of (begun p))) ≤ p.core.settings.budget)
-    × (turn ≡ sent_turn p sent (hello_of (begun p))) × (new ≡ conns ++ new_connection p number ∷ []))
+    ⊎ ((is_message (hello_of (session_at p)) ≡ true) × (length (frame (hello_of (session_at p))) ≤ p.core.settings.budget)
+    × (turn ≡ sent_turn p sent (hello_of (session_at p))) × (new ≡ conns ++ new_connection p number ∷ []))
 
 -- ---- it is closed
 
 abbrev pub Closes : Option Connection → Place → ℕ → List Connection → Turn → List Connection → Type 0
 Closes None p number conns turn new = Stays p conns (Ok answers.Nothing) turn new
-Closes (Some c) p number conns turn new = (turn ≡ still p (Ok answers.Shut)) × (new ≡ without_connection conns number)
+Closes (Some c) p number conns turn new = (turn ≡ idle_turn p (Ok answers.Shut)) × (new ≡ without_connection conns number)
 
 -- ---- a frame enters the queue
 
-abbrev pub lined : Connection → List ℕ → Connection
-lined c bytes = record { number = c.number; me = c.me; session = c.session; stream = c.stream; left = c.left ++ bytes }
+abbrev pub connection_with_bytes : Connection → List ℕ → Connection
+connection_with_bytes c bytes = record { number = c.number; me = c.me; session = c.session; stream = c.stream; left = c.left ++ bytes }
 
 abbrev pub LinesUp : Option Connection → Option (List ℕ) → Place → ℕ → List Connection → Turn → List Connection → Type 0
 LinesUp None found p number conns turn new = Stays p conns (Ok answers.Nothing) turn new
 LinesUp (Some c) None p number conns turn new = Stays p conns (Ok answers.Nothing) turn new
 LinesUp (Some c) (Some bytes) p number conns turn new =
     Stays p conns (Err NoMemory) turn new
-    ⊎ ((turn ≡ still p (Ok answers.Lined)) × (new ≡ with_connection conns number (lined c bytes)))
+    ⊎ ((turn ≡ idle_turn p (Ok answers.Lined)) × (new ≡ with_connection conns number (connection_with_bytes c bytes)))
 
 -- ---- its session asks
 
@@ -77,13 +77,13 @@ AsksOn (Some c) p number conns sent turn new =
 
 -- ---- a piece comes
 
-abbrev pub fed : Stream → List ℕ → Stream
-fed (open_with held) piece = open_with (held ++ piece)
-fed shut piece = shut
+abbrev pub stream_with_piece : Stream → List ℕ → Stream
+stream_with_piece (open_with held) piece = open_with (held ++ piece)
+stream_with_piece shut piece = shut
 
 -- the node at the connection, with the next bytes of the queue
 abbrev pub listener : Core → Connection → ℕ → Listener
-listener core c count = listener_of core c.session (fed c.stream (take count c.left))
+listener core c count = listener_of core c.session (stream_with_piece c.stream (take count c.left))
 
 abbrev pub heard_by : Connection → ℕ → Listener → Connection
 heard_by c count last = record { number = c.number; me = c.me; session = last.session; stream = last.stream; left = drop count c.left }

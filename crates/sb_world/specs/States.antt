@@ -60,13 +60,13 @@ abbrev pub wires_then : State → Option Place → Event → Result Answer Fault
 wires_then old None event answer effect = old.wires
 wires_then old (Some p) event answer effect = wires_by event answer effect old.now.sent old.wires
 
-abbrev pub remembered : State → Option Place → Event → Result Answer Fault → Effect → Seen → State
-remembered old found event answer effect now =
+abbrev pub state_after : State → Option Place → Event → Result Answer Fault → Effect → Seen → State
+state_after old found event answer effect now =
     record { now = now; writes = writes_then old found effect; past = past_then old found effect; wires = wires_then old found event answer effect }
 
 -- one step of the machine
 abbrev pub Moves : State → Event → Result Answer Fault → State → Type 0
-Moves old event answer new = (effect : Effect) × Step old.now event answer effect new.now × (new ≡ remembered old (place_for old.now event) event answer effect new.now)
+Moves old event answer new = (effect : Effect) × Step old.now event answer effect new.now × (new ≡ state_after old (place_for old.now event) event answer effect new.now)
 
 -- each event in turn, with its answer and the state after it
 abbrev pub Run : State → List Event → List (Result Answer Fault) → List State → Type 0

@@ -9,7 +9,8 @@ use Rattle.sb_types.specs.Faults.{Gives}
 use Rattle.sb_types.specs.Limits.{is_delta}
 use Rattle.sb_types.specs.Records.{Table, Block}
 use Rattle.sb_holdings.specs.Held.{Held}
-use Rattle.sb_holdings.specs.Nodes.{NodeEvent, Wrote, opened_node, node_after_event}
+use Rattle.sb_holdings.specs.Nodes.{NodeEvent, Wrote, Purged, opened_node, node_after_event}
+use Rattle.sb_node.specs.Purging.{purge_answer}
 use Rattle.sb_holdings.specs.Plain.{tables_from}
 use Rattle.sb_digest.specs.Digests.{Pair, Digest, digest_of, staged_pair}
 use Rattle.sb_codec.specs.declared.message.Message.{Message}
@@ -41,8 +42,8 @@ pub record Turn : Type 0 where
   pub frames : List (List ℕ)
 
 -- nothing changes
-abbrev pub still : Place → Result Answer Fault → Turn
-still p answer = record { answer = answer; effect = rests; place = p; frames = [] }
+abbrev pub idle_turn : Place → Result Answer Fault → Turn
+idle_turn p answer = record { answer = answer; effect = rests; place = p; frames = [] }
 
 -- a message is sent, as one frame
 abbrev pub sent_turn : Place → List (List ℕ) → Message → Turn
@@ -87,7 +88,7 @@ commit_turn p put effect log = record {
 -- the log is asked to take the write, if there is room for it to wait
 abbrev pub Commits : Place → List ℕ → Slot → Turn → Type 0
 Commits p key slot turn =
-    (turn ≡ still p (Err NoMemory))
+    (turn ≡ idle_turn p (Err NoMemory))
     ⊎ ((put : Result Committed Fault) × (effect : Effect) × (log : Log) × Puts p.log key slot put log × IsLogged key slot put effect × (turn ≡ commit_turn p put effect log))
 
 -- the node is down
@@ -104,7 +105,7 @@ crash_turn p effect log = record {
 abbrev pub Crashes : Place → List ℕ → Slot → Bool → Turn → Type 0
 Crashes p key slot false turn = turn ≡ crash_turn p rests p.log
 Crashes p key slot true turn =
-    (turn ≡ still p (Err NoMemory))
+    (turn ≡ idle_turn p (Err NoMemory))
     ⊎ ((put : Result Committed Fault) × (effect : Effect) × (log : Log) × Puts p.log key slot put log × (put ≢ Err NoMemory) × IsLogged key slot put effect × (turn ≡ crash_turn p effect log))
 
 -- ---- a purge
@@ -128,6 +129,29 @@ purge_turn p floor (Err fault) log = record {
 abbrev pub Purges : Place → ℕ → Turn → Type 0
 Purges p floor turn = (result : Result (Unit {0}) Fault) × (log : Log) × LogPurges p.log floor result log × (turn ≡ purge_turn p floor result log)
 
+-- ---- a purge of a node that stays up
+
+abbrev pub trim_answer : ℕ → Result (Unit {0}) Fault → Result Answer Fault
+trim_answer floor (Ok done) = Ok (answers.Trimmed floor)
+trim_answer floor (Err fault) = Err fault
+
+-- the node's own table is purged, and the log gave this answer; the node stays up
+abbrev pub trim_turn : Place → ℕ → Result (Unit {0}) Fault → Log → Turn
+trim_turn p floor result log = record {
+  answer = trim_answer floor result;
+  effect = goes (Purged floor ∷ []);
+  place = record { me = p.me; log = log; core = with_node p.core (node_after_event p.core.node (Purged floor)); waiting = p.waiting; is_up = p.is_up };
+  frames = [];
+}
+
+-- if the node refuses the floor, nothing changes; if not, the log is asked to drop its tombstones up to it as well
+abbrev pub TrimEnds : Result (Unit {0}) Fault → Place → ℕ → Turn → Type 0
+TrimEnds (Err fault) p floor turn = turn ≡ idle_turn p (Err fault)
+TrimEnds (Ok done) p floor turn = (result : Result (Unit {0}) Fault) × (log : Log) × LogPurges p.log floor result log × (turn ≡ trim_turn p floor result log)
+
+abbrev pub Trims : Place → ℕ → Turn → Type 0
+Trims p floor turn = TrimEnds (purge_answer p.core.node floor) p floor turn
+
 -- ---- an own write enters
 
 -- the node enters the oldest write that waited
@@ -141,11 +165,11 @@ entered_turn p c others = record {
 
 abbrev pub take_turn : Place → Committed → List Committed → Result (Unit {0}) Fault → Turn
 take_turn p c others (Ok done) = entered_turn p c others
-take_turn p c others (Err fault) = still p (Err fault)
+take_turn p c others (Err fault) = idle_turn p (Err fault)
 
 -- the node answers for the write as it must, and missing memory hides no other fault
 abbrev pub TakesFirst : Place → List Committed → Turn → Type 0
-TakesFirst p [] turn = turn ≡ still p (Ok answers.Nothing)
+TakesFirst p [] turn = turn ≡ idle_turn p (Ok answers.Nothing)
 TakesFirst p (c ∷ others) turn =
     let want = committed_answer p.core.node c in
     (result : Result (Unit {0}) Fault) × Gives result want × IfErr want (λ fault. result ≡ Err fault) × (turn ≡ take_turn p c others result)
@@ -185,12 +209,12 @@ abbrev pub numbered_pair : List ℕ → ℕ → List ℕ × Table → Pair
 numbered_pair owner after p = staged_pair p.0 (if pointwise nat_eq p.0 owner then after else p.1.held) None
 
 -- a digest of the whole range, with this number for the owner, and for each other owner how far the node itself holds it
-abbrev pub asked : Held → List ℕ → ℕ → Digest
-asked held owner after = digest_of false None None (map (numbered_pair owner after) (tables_from None held))
+abbrev pub offer_digest : Held → List ℕ → ℕ → Digest
+offer_digest held owner after = digest_of false None None (map (numbered_pair owner after) (tables_from None held))
 
 -- the node sends its delta for such a digest, as one frame
 abbrev pub Offers : Place → List (List ℕ) → List ℕ → ℕ → Turn → Type 0
 Offers p sent owner after turn =
-    (turn ≡ still p (Err NoMemory))
-    ⊎ ((blocks : List Block) × (is_delta blocks ≡ true) × IsDelta p.core.settings p.core.node.held (asked p.core.node.held owner after) blocks
-    × IsAnswer p.core.settings.budget p.core.node.held (asked p.core.node.held owner after) blocks × (turn ≡ sent_turn p sent (messages.Delta blocks)))
+    (turn ≡ idle_turn p (Err NoMemory))
+    ⊎ ((blocks : List Block) × (is_delta blocks ≡ true) × IsDelta p.core.settings p.core.node.held (offer_digest p.core.node.held owner after) blocks
+    × IsAnswer p.core.settings.budget p.core.node.held (offer_digest p.core.node.held owner after) blocks × (turn ≡ sent_turn p sent (messages.Delta blocks)))

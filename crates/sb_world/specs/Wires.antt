@@ -12,7 +12,7 @@ use Rattle.sb_world.specs.declared.event.Answer.{Answer}
 use Rattle.sb_world.specs.declared.event.Answer.TheVariants as answers
 use Rattle.sb_world.specs.Connections.{Connection}
 use Rattle.sb_world.specs.Hearing.{Heard}
-use Rattle.sb_world.specs.Lines.{laid_out}
+use Rattle.sb_world.specs.Lines.{bytes_of_lines}
 use Rattle.sb_world.specs.Places.{frame_at}
 use Rattle.sb_world.specs.Turns.{Effect, listens}
 
@@ -31,29 +31,29 @@ messages_in heard = map (λ (h : Heard). h.message) heard
 -- ---- what an event adds
 
 -- a connection that begins has no history
-abbrev pub begun_by : Result Answer Fault → Wire → Wire
-begun_by (Ok (answers.Sent frame)) w = new_wire
-begun_by answer w = w
+abbrev pub wire_after_connect : Result Answer Fault → Wire → Wire
+wire_after_connect (Ok (answers.Sent frame)) w = new_wire
+wire_after_connect answer w = w
 
 -- a frame is lined up
-abbrev pub lined_by : Result Answer Fault → Option (List ℕ) → Wire → Wire
-lined_by (Ok answers.Lined) (Some bytes) w = record { lined = w.lined ++ bytes ∷ []; came = w.came; taken = w.taken }
-lined_by answer found w = w
+abbrev pub wire_after_line : Result Answer Fault → Option (List ℕ) → Wire → Wire
+wire_after_line (Ok answers.Lined) (Some bytes) w = record { lined = w.lined ++ bytes ∷ []; came = w.came; taken = w.taken }
+wire_after_line answer found w = w
 
 -- bytes come, and messages are taken
-abbrev pub heard_on : Effect → Wire → Wire
-heard_on (listens bytes heard) w = record { lined = w.lined; came = w.came ++ bytes; taken = w.taken ++ messages_in heard }
-heard_on effect w = w
+abbrev pub wire_after_piece : Effect → Wire → Wire
+wire_after_piece (listens bytes heard) w = record { lined = w.lined; came = w.came ++ bytes; taken = w.taken ++ messages_in heard }
+wire_after_piece effect w = w
 
 -- with another history for one number
-abbrev pub wired : (ℕ → Wire) → ℕ → Wire → ℕ → Wire
-wired wires number w other = if nat_eq other number then w else wires other
+abbrev pub wires_with : (ℕ → Wire) → ℕ → Wire → ℕ → Wire
+wires_with wires number w other = if nat_eq other number then w else wires other
 
 -- an event adds to the history of the connection that it names
 abbrev pub wires_by : Event → Result Answer Fault → Effect → List (List ℕ) → (ℕ → Wire) → ℕ → Wire
-wires_by (Connect me number) answer effect sent wires = wired wires number (begun_by answer (wires number))
-wires_by (Line number index) answer effect sent wires = wired wires number (lined_by answer (frame_at sent index) (wires number))
-wires_by (Piece number count) answer effect sent wires = wired wires number (heard_on effect (wires number))
+wires_by (Connect me number) answer effect sent wires = wires_with wires number (wire_after_connect answer (wires number))
+wires_by (Line number index) answer effect sent wires = wires_with wires number (wire_after_line answer (frame_at sent index) (wires number))
+wires_by (Piece number count) answer effect sent wires = wires_with wires number (wire_after_piece effect (wires number))
 wires_by event answer effect sent wires = wires
 
 -- ---- what is true of it
@@ -63,7 +63,7 @@ wires_by event answer effect sent wires = wires
 pub record IsHistory (sent : List (List ℕ)) (w : Wire) (rest left : List ℕ) : Type 0 where
   pub sent_all : (bytes : List ℕ) → Stands w.lined bytes → Stands sent bytes
   pub taken : w.came ≡ flat_map frame w.taken ++ rest
-  pub lined : w.came ++ left ≡ laid_out w.lined
+  pub lined : w.came ++ left ≡ bytes_of_lines w.lined
 
 -- the rest is what the stream of the connection holds, and what is left is its queue
 pub record IsTrueWire (sent : List (List ℕ)) (w : Wire) (c : Connection) : Type 0 where

@@ -5,7 +5,7 @@ ghost use Rattle.sb_frames.specs.Streams.{open_with};
 ghost use Rattle.sb_world.specs.declared.event.Item as event;
 ghost use Rattle.sb_world.specs.Connections as spec;
 ghost use Rattle.sb_world.specs.Connections.{connection_at, with_connection, without_connection, of_others};
-ghost use Rattle.sb_world.specs.Connecting.{lined, in_session, listener, heard_by};
+ghost use Rattle.sb_world.specs.Connecting.{connection_with_bytes, in_session, listener, heard_by};
 ghost use Rattle.sb_world.specs.Events.{node_at, node_of};
 ghost use Rattle.sb_world.specs.Hearing.{Listener, Heard, Hears, Tells};
 
@@ -75,6 +75,7 @@ pub(crate) fn node_of(connections: &[Connection], event: &Event) -> Option<Name>
         | Event::Take(me)
         | Event::CrashInCommit(me, _, _, _)
         | Event::Purge(me, _)
+        | Event::Trim(me, _)
         | Event::Restart(me)
         | Event::Connect(me, _)
         | Event::Offer(me, _, _)
@@ -148,7 +149,7 @@ impl Connection {
 
     /// Adds bytes at the end of the queue. `NoMemory`, with nothing changed.
     pub(crate) fn line(&mut self, bytes: &[u8]) -> Result<(), Fault>
-        ensures lined { OnOk result (self.new ≡ lined self.old bytes.now) }
+        ensures lined { OnOk result (self.new ≡ connection_with_bytes self.old bytes.now) }
         ensures unchanged { OnErr result (self.new ≡ self.old) }
         ensures memory { IfErr result (λ fault. fault ≡ Fault.NoMemory) }
     {

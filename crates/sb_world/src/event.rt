@@ -21,6 +21,10 @@ pub enum Event {
     /// The log drops its tombstones up to a floor. Then the node goes down, and its connections are gone. If the log
     /// does not take the floor, the node goes on.
     Purge(Name, u64),
+    /// The node purges its own table up to a floor, and then its log drops its tombstones up to there. The node stays
+    /// up. If the floor is above what the node holds, nothing happens. If the log fails, the node's table is purged all
+    /// the same.
+    Trim(Name, u64),
     /// The writes that wait and the connections are dropped, and the node opens again with the content of its log.
     Restart(Name),
     /// A connection of this number begins, and the node sends its Hello.
@@ -94,6 +98,8 @@ pub enum Answer {
     Crashed,
     /// The floor that was asked for. The node is down.
     Purged(u64),
+    /// The floor that was asked for. The node stays up.
+    Trimmed(u64),
     /// The version up to which the node holds its own writes.
     Restarted(u64),
     /// The number of the frame that the node sent.

@@ -16,7 +16,7 @@ pub(crate) fn asked(
     owner: &Name,
     after: u64,
 ) -> Result<Digest, Fault>
-    ensures digest { IfOk result (λ digest. digest ≡ spec.asked holdings.now owner.now after) }
+    ensures digest { IfOk result (λ digest. digest ≡ spec.offer_digest holdings.now owner.now after) }
     ensures memory { IfErr result (λ fault. fault ≡ Fault.NoMemory) }
 {
     let mut pairs = Vec::new(alloc);

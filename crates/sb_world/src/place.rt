@@ -10,7 +10,7 @@ ghost use Rattle.sb_node.specs.Answers.{IsDelta, IsAnswer};
 ghost use Rattle.sb_types.specs.Faults.{Gives};
 ghost use Rattle.sb_types.specs.Runs.{shown_at};
 ghost use Rattle.sb_holdings.specs.Held.{shown_of};
-ghost use Rattle.sb_world.specs.Turns.{Effect, rests, Commits, Crashes, Purges, TakesFirst, Restarts};
+ghost use Rattle.sb_world.specs.Turns.{Effect, rests, Commits, Crashes, Purges, Trims, TakesFirst, Restarts};
 ghost use Rattle.sb_world.specs.Turns as spec;
 ghost use Rattle.sb_world.specs.declared.event.Answer.TheVariants as answers;
 
@@ -127,6 +127,20 @@ impl<L: WriteLog> Place<L> {
         }
     }
 
+    /// Purges the node's own table up to a floor, and asks the log to drop its tombstones up to there. `FloorTooHigh` if
+    /// the node does not hold so far, with nothing changed; then the faults of `WriteLog::purge`, with the table purged.
+    pub(crate) fn trim(&mut self, floor: u64) -> Result<Answer, Fault>
+        ensures { (effect : Effect) × Trims self.old floor (record { answer = result; effect = effect; place = self.new; frames = [] }) }
+    {
+        if let Err(fault) = self.core.purge(floor) {
+            return Err(fault);
+        }
+        if let Err(fault) = self.log.purge(floor) {
+            return Err(fault);
+        }
+        Ok(Answer::Trimmed(floor))
+    }
+
     /// Enters the oldest write that waits. `Nothing` if no write waits. The faults of `NodeCore::take_own`, and then
     /// the write still waits.
     pub(crate) fn take(&mut self) -> Result<Answer, Fault>
@@ -168,8 +182,8 @@ impl<L: WriteLog> Place<L> {
     /// Makes the frame of what the node holds of an owner above a version, as far as its budget has room. `NoMemory`.
     pub(crate) fn offer(&self, alloc: Global, owner: &Name, after: u64) -> Result<Vec<u8>, Fault>
         ensures delta { IfOk result (λ bytes. (blocks : List records.Block) × (is_delta blocks ≡ true)
-            × IsDelta self.now.core.settings self.now.core.node.held (spec.asked self.now.core.node.held owner.now after) blocks
-            × IsAnswer self.now.core.settings.budget self.now.core.node.held (spec.asked self.now.core.node.held owner.now after) blocks
+            × IsDelta self.now.core.settings self.now.core.node.held (spec.offer_digest self.now.core.node.held owner.now after) blocks
+            × IsAnswer self.now.core.settings.budget self.now.core.node.held (spec.offer_digest self.now.core.node.held owner.now after) blocks
             × (bytes.items ≡ frame (messages.Delta blocks))) }
         ensures memory { IfErr result (λ fault. fault ≡ Fault.NoMemory) }
     {

@@ -112,6 +112,7 @@ fn perform<L: WriteLog>(
             drop_those_of_down(connections, &me, place.is_up());
             answer
         }
+        Event::Trim(_, floor) => place.trim(*floor),
         Event::Restart(_) => {
             drop_those_of(connections, &place.name());
             place.restart(alloc)
@@ -192,6 +193,7 @@ impl<L: WriteLog> World<L> {
     ///
     /// - A commit: `NoMemory`, then those of `WriteLog::put`.
     /// - A purge: those of `WriteLog::purge`.
+    /// - A trim: `FloorTooHigh` if the node does not hold so far, and then those of `WriteLog::purge`.
     /// - A take: those of `NodeCore::take_own`.
     /// - A restart: those of `WriteLog::load`, then `NoMemory`.
     /// - An ask: `Closed` after a Bye, then `NoMemory`.
@@ -203,7 +205,8 @@ impl<L: WriteLog> World<L> {
     ///
     /// - After a restart: the node is down, no write waits, and the node has no connection. `StoreFailed` and
     ///   `LogDamaged` also close its log.
-    /// - After `StoreFailed` from a commit or a purge: the log is closed.
+    /// - After `StoreFailed` from a commit, a purge or a trim: the log is closed. After any fault of a log at a trim, the
+    ///   node's table is purged.
     /// - After every other fault: everything as it was.
     pub fn step(&mut self, event: &Event) -> Result<Answer, Fault>
         ensures step { (effect : Effect) × Step self.old event.now result effect self.new }

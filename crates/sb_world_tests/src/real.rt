@@ -1,6 +1,7 @@
 //! A run of a world over logs in databases.
 use crate::world::{
-    PURGING_ANSWERS, SEVEN_ANSWERS, Told, purging_events, settings, seven_events, told_by_seven,
+    PURGING_ANSWERS, SEVEN_ANSWERS, TRIMMING_ANSWERS, Told, purging_events, settings, seven_events,
+    told_by_seven, trimming_events,
 };
 use crate::{got, name, same};
 use sb_log::SqlLog;
@@ -65,4 +66,13 @@ fn a_run_over_databases_answers_each_purge(rt: HostRuntime) {
     let b = got(&rt, Connection::open_in_memory(alloc));
     let found = told_of_run(&rt, alloc, a, b, &purging_events(&rt));
     same(&rt, &found, &PURGING_ANSWERS);
+}
+
+#[test]
+fn a_run_over_databases_answers_each_trim(rt: HostRuntime) {
+    let alloc = rt.alloc();
+    let a = got(&rt, Connection::open_in_memory(alloc));
+    let b = got(&rt, Connection::open_in_memory(alloc));
+    let found = told_of_run(&rt, alloc, a, b, &trimming_events(&rt));
+    same(&rt, &found, &TRIMMING_ANSWERS);
 }

@@ -252,7 +252,7 @@ fn lines_with_texts(rt: HostRuntime) {
     line_ends_with(&rt, alloc, "crash a t text lost lost", 0, "crashed\n");
 }
 
-/// A purge has a node and a floor, which is a number like others.
+/// A purge and a trim have a node and a floor, which is a number like others.
 #[test]
 fn lines_with_floors(rt: HostRuntime) {
     let alloc = rt.alloc();
@@ -264,6 +264,12 @@ fn lines_with_floors(rt: HostRuntime) {
     line_ends_with(&rt, alloc, "purge A 0", 0, "fault 2\n");
     line_ends_with(&rt, alloc, "purge a 18446744073709551615", 0, "fault 30\n");
     line_ends_with(&rt, alloc, "purge a 18446744073709551616", 2, "line 2\n");
+    line_ends_with(&rt, alloc, "trim a", 2, "line 2\n");
+    line_ends_with(&rt, alloc, "trim a 0 0", 2, "line 2\n");
+    line_ends_with(&rt, alloc, "trim a 000", 0, "trimmed 0\n");
+    line_ends_with(&rt, alloc, "trim a 1", 0, "fault 30\n");
+    line_ends_with(&rt, alloc, "trim A 0", 0, "fault 2\n");
+    line_ends_with(&rt, alloc, "trim a 18446744073709551616", 2, "line 2\n");
 }
 
 /// Tests how the example ends with so many reads.

@@ -19,7 +19,7 @@ pub(crate) fn lines_behind(line: &[u8]) -> &[u8] {
     }
 }
 
-pub(crate) const TRANSCRIPTS: [Transcript; 19] = [
+pub(crate) const TRANSCRIPTS: [Transcript; 21] = [
     (
         "a write is committed, taken and offered",
         Detail::Plain,
@@ -522,6 +522,86 @@ piece 1 88
 > stale
 put a x weight 9
 > version 4
+",
+    ),
+    (
+        "a trim lets removals go, and the node stays up",
+        Detail::Plain,
+        "world 1024 breadth 100 a b
+put a x weight 1
+> version 1
+del a x
+> version 2
+commit a y weight 2
+> committed 3
+trim a 3
+> fault 30
+trim a 2
+> trimmed 2
+upto a a
+> 2
+take a
+> took 3
+trim a 1
+> trimmed 1
+put a x weight 4
+> version 4
+give a b 1
+> a70300000045030001016100000000000000040000000000000000000000000000000400020179000000000000000302000000000000000201780000000000000004020000000000000004
+> taken 2
+read b a x
+> a x 4 weight 4
+trim b 0
+> trimmed 0
+trim c 0
+> nothing
+crash a x weight 1 lost
+> crashed
+trim a 2
+> fault 15
+restart a
+> restarted 4
+",
+    ),
+    (
+        "a peer shows the same rows before and after a trim",
+        Detail::Plain,
+        "world 1024 breadth 100 a b
+put a k weight 1
+> version 1
+del a k
+> version 2
+put a l text left
+> version 3
+give a b 0
+> a7030000003b03000101610000000000000000000000000000000000000000000000030002016b000000000000000200016c00000000000000030400046c656674
+> taken 2
+trim a 2
+> trimmed 2
+put a m weight 6
+> version 4
+give a b 3
+> a7030000003203000101610000000000000002000000000000000300000000000000040001016d0000000000000004020000000000000006
+> taken 1
+read b a l
+> a l 3 text left
+read b a m
+> a m 4 weight 6
+restart a
+> restarted 4
+give a b 3
+> a7030000003203000101610000000000000002000000000000000300000000000000040001016d0000000000000004020000000000000006
+> stale
+give a b 1
+> a7030000004303000101610000000000000004000000000000000000000000000000040002016c00000000000000030400046c656674016d0000000000000004020000000000000006
+> stale
+put a k weight 7
+> version 5
+give a b 4
+> a7030000003203000101610000000000000002000000000000000400000000000000050001016b0000000000000005020000000000000007
+> taken 1
+read b a k
+> a k 5 weight 7
 ",
     ),
     (

@@ -118,7 +118,7 @@ fn go_a_round(
 {
     let digest = digest_from(rt, alloc, taker);
     holds(rt, "the digest covers a", digest.covers(a));
-    same(rt, &digest.number(a, 0), &(version - 1));
+    same(rt, &digest.start(a, 0, version).after, &(version - 1));
     let delta = answer_from(rt, alloc, giver, &digest);
     match delta.blocks() {
         [block] => take_twice(rt, a, taker, block, version),

@@ -63,11 +63,26 @@ pub(crate) fn purging_events(rt: &impl Abort) -> [Event; 7] {
     ]
 }
 
+/// A write, and its removal, which is taken only after a trim with its floor. Then that trim again.
+pub(crate) fn trimming_events(rt: &impl Abort) -> [Event; 7] {
+    let a = name(rt, b"a");
+    [
+        Event::Commit(a, key(rt, b"x"), weight(rt, 1)),
+        Event::Take(a),
+        Event::Commit(a, key(rt, b"x"), Slot::Removed),
+        Event::Trim(a, 2),
+        Event::Take(a),
+        Event::Trim(a, 2),
+        Event::Upto(a, a),
+    ]
+}
+
 /// What a test sees of an answer.
 #[derive(Clone, Copy, Debug, PartialEq, Eq)]
 pub(crate) enum Told {
     Crashed,
     Purged(u64),
+    Trimmed(u64),
     Restarted(u64),
     Committed(u64),
     Took(u64),
@@ -98,10 +113,22 @@ pub(crate) const PURGING_ANSWERS: [Told; 7] = [
     Told::Number(2),
 ];
 
+/// The answers to the events with a trim.
+pub(crate) const TRIMMING_ANSWERS: [Told; 7] = [
+    Told::Committed(1),
+    Told::Took(1),
+    Told::Committed(2),
+    Told::Failed(Fault::FloorTooHigh),
+    Told::Took(2),
+    Told::Trimmed(2),
+    Told::Number(2),
+];
+
 fn told_by(answer: &Result<Answer, Fault>) -> Told {
     match answer {
         Ok(Answer::Crashed) => Told::Crashed,
         Ok(Answer::Purged(floor)) => Told::Purged(*floor),
+        Ok(Answer::Trimmed(floor)) => Told::Trimmed(*floor),
         Ok(Answer::Restarted(version)) => Told::Restarted(*version),
         Ok(Answer::Committed(version)) => Told::Committed(*version),
         Ok(Answer::Took(version)) => Told::Took(*version),
@@ -144,4 +171,10 @@ fn a_run_answers_each_event(rt: HostRuntime) {
 fn a_run_answers_each_purge(rt: HostRuntime) {
     let found = told_of_run(&rt, rt.alloc(), &purging_events(&rt));
     same(&rt, &found, &PURGING_ANSWERS);
+}
+
+#[test]
+fn a_run_answers_each_trim(rt: HostRuntime) {
+    let found = told_of_run(&rt, rt.alloc(), &trimming_events(&rt));
+    same(&rt, &found, &TRIMMING_ANSWERS);
 }

@@ -1,4 +1,4 @@
-use Rattle.std.proofs.Common.{◌≡◌, ◌++◌, ℕ, List, sym, ap, subst, ◌∙◌, append-nil}
+use Rattle.std.proofs.Common.{◌++◌, ℕ, List, sym, ap, subst, ◌∙◌, append-nil}
 use Rattle.std.specs.List.{filter_map}
 use Rattle.sb_holdings.specs.Plain.{table_of}
 use Rattle.sb_budget.specs.Backlogs.{digest_since, part_since}

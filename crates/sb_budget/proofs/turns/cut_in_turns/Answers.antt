@@ -8,7 +8,7 @@ use Rattle.sb_budget.specs.Cut.{item_of, items_of_all, blocks_of, IsCut, CanCut}
 use Rattle.sb_budget.specs.BlocksByOwner.{item_at, lowered_of}
 use Rattle.sb_budget.specs.Making.{Making, AfterNext, IsTaking}
 use Rattle.sb_budget.specs.Parts.{Part, all_of}
-use Rattle.sb_budget.specs.Turns.{rejoined, in_turns}
+use Rattle.sb_budget.specs.Turns.{parts_after_turn, in_turns}
 use Rattle.sb_budget.proofs.CutLemmas.{cut_taken, some_taken, taken_fits, taken_parts}
 use Rattle.sb_budget.proofs.TurnLemmas.{IsTurn, rejoined_length, left_part, turn_taken, turn_left, turn_ends, none_later, later_first, later_last}
 use Rattle.sb_budget.proofs.turns.cut_in_turns.Goals.{In-Some, In_default, In_ok-push, After-leave_all, In_ok-push_front-in-First, In_ok-push_back-in-Last}
@@ -35,21 +35,21 @@ next c taken is =
 
 -- it was taken
 taken : (c : In_ok-push) → c.in_ok-push.field-0 ≡ true
-    → IsTurn c.args.budget c.args.turns (in_turns c.args.turns c.from-queue.result.items) (rejoined c.args.turns c.pop_front.new.self.items c.in-Some.cursor.later) c.push.new.self
+    → IsTurn c.args.budget c.args.turns (in_turns c.args.turns c.from-queue.result.items) (parts_after_turn c.args.turns c.pop_front.new.self.items c.in-Some.cursor.later) c.push.new.self
 taken c fits =
     turn_taken c.args.budget c.args.turns (in_turns c.args.turns c.from-queue.result.items) c.in-Some.cursor c.pop_front.new.self.items c.loop-cursor.making
     (stands (goal.at.In_ok-push c).In-Some) c.push.new.self (next c true fits)
 
 -- and what is left of its owner goes to the front, or to the back
-first : (c : In_ok-push_front-in-First) → rejoined c.args.turns c.pop_front.new.self.items c.in-Some.cursor.later ≡ c.push_front.new.self.items
+first : (c : In_ok-push_front-in-First) → parts_after_turn c.args.turns c.pop_front.new.self.items c.in-Some.cursor.later ≡ c.push_front.new.self.items
 first c =
-    ap (λ u. rejoined u c.pop_front.new.self.items c.in-Some.cursor.later) c.in-First.is
+    ap (λ u. parts_after_turn u c.pop_front.new.self.items c.in-Some.cursor.later) c.in-First.is
     ∙ later_first c.pop_front.new.self.items c.in-Some.cursor.later c.in-Some-later.later (sym c.split_first-later.ensures.later ∙ c.in-Some-later.is)
     ∙ sym c.in_ok-push_front-in-First.ensures.items
 
-last : (c : In_ok-push_back-in-Last) → rejoined c.args.turns c.pop_front.new.self.items c.in-Some.cursor.later ≡ c.push_back.new.self.items
+last : (c : In_ok-push_back-in-Last) → parts_after_turn c.args.turns c.pop_front.new.self.items c.in-Some.cursor.later ≡ c.push_back.new.self.items
 last c =
-    ap (λ u. rejoined u c.pop_front.new.self.items c.in-Some.cursor.later) c.in-Last.is
+    ap (λ u. parts_after_turn u c.pop_front.new.self.items c.in-Some.cursor.later) c.in-Last.is
     ∙ later_last c.pop_front.new.self.items c.in-Some.cursor.later c.in-Some-later.later (sym c.split_first-later.ensures.later ∙ c.in-Some-later.is)
     ∙ sym c.in_ok-push_back-in-Last.ensures.items
 

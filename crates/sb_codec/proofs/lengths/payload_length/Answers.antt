@@ -1,7 +1,7 @@
 use Rattle.std.proofs.Common.{refl, sym, ◌∙◌}
 use Rattle.sb_codec.specs.Spelling.{number}
 use Rattle.sb_codec.specs.Messages.{spelling}
-use Rattle.sb_codec.proofs.Sizes.{digest-spelled, delta-spelled, page-spelled}
+use Rattle.sb_codec.proofs.Sizes.{digest-spelled, delta-spelled, page-spelled, status-spelled}
 use Rattle.sb_codec.proofs.lengths.payload_length.Goals as goal
 
 pub returns-in-Digest-clause-length : goal.returns-in-Digest-clause-length
@@ -24,3 +24,10 @@ returns-in-Bye-clause-length c = rw c.in-Bye.is refl
 pub returns-in-Refused-clause-length : goal.returns-in-Refused-clause-length
 unfolding spelling
 returns-in-Refused-clause-length c = rw c.in-Refused.is refl
+
+pub returns-in-AskStatus-clause-length : goal.returns-in-AskStatus-clause-length
+unfolding spelling number
+returns-in-AskStatus-clause-length c = rw c.in-AskStatus.is refl
+
+pub returns-in-NodeStatus-clause-length : goal.returns-in-NodeStatus-clause-length
+returns-in-NodeStatus-clause-length c = rw c.in-NodeStatus.is (c.encoded_length-in-NodeStatus.ensures.length ∙ sym (status-spelled c.in-NodeStatus.status))

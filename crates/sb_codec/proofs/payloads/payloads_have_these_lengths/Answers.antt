@@ -1,4 +1,4 @@
-use Rattle.sb_codec.proofs.Sizes.{digest-spelled, delta-spelled, page-spelled}
+use Rattle.sb_codec.proofs.Sizes.{digest-spelled, delta-spelled, page-spelled, status-spelled}
 use Rattle.sb_codec.proofs.payloads.payloads_have_these_lengths.Goals as goal
 
 pub returns-clause-delta : goal.returns-clause-delta
@@ -9,3 +9,6 @@ returns-clause-digest c = digest-spelled
 
 pub returns-clause-page : goal.returns-clause-page
 returns-clause-page c = page-spelled
+
+pub returns-clause-status : goal.returns-clause-status
+returns-clause-status c = status-spelled

@@ -1,19 +1,19 @@
 use Rattle.std.proofs.Common.{rules, ◌≡◌, List, [], ◌∷◌, ◌++◌, ap, subst, ◌∙◌}
 use Rattle.sb_types.specs.Records.{Entry}
 use Rattle.sb_views.specs.declared.change.Change.TheVariants.{Enter}
-use Rattle.sb_types.specs.Runs.{above}
+use Rattle.sb_types.specs.Runs.{newer_entries}
 use Rattle.sb_directory.proofs.Batches.{IsPushing, pushing-begins, pushing-goes_on, pushing-ends, pushed-last}
 use Rattle.sb_directory.proofs.lacked.push_entries.Goals as goal
 
 pub loop-entry-init : goal.loop-entry-init
 loop-entry-init c =
-    pushing-begins c.args.owner.now c.args.batch.now c.args.version (above c.args.version c.args.table.now.entries) c.into_iter-entry-iterator.result
+    pushing-begins c.args.owner.now c.args.batch.now c.args.version (newer_entries c.args.version c.args.table.now.entries) c.into_iter-entry-iterator.result
     (c.into_iter-entry-iterator.ensures.into_iter_gives ∙ c.after-entry-items.ensures.entries)
 
 pub loop-entry-preserved : goal.loop-entry-preserved
 loop-entry-preserved c =
     let owner = c.args.owner.now in
-    let all = above c.args.version c.args.table.now.entries in
+    let all = newer_entries c.args.version c.args.table.now.entries in
     let given = c.in_ok-copy.ensures.copied in
     let copied : c.in_ok-copy.field-0 ≡ c.in-Some.entry.now = cc in
     pushing-goes_on owner c.args.batch.now c.args.version all c.loop-entry.batch c.push.new.self c.loop-entry.last c.version-last.result c.in-Some.entry.now c.next.new.self
@@ -22,7 +22,7 @@ loop-entry-preserved c =
     c.version-last.ensures.version
 
 pub returns-clause-ok : goal.returns-clause-ok
-returns-clause-ok c = search (rules, pushing-ends c.args.owner.now c.args.batch.now c.args.version (above c.args.version c.args.table.now.entries) c.loop-entry.batch)
+returns-clause-ok c = search (rules, pushing-ends c.args.owner.now c.args.batch.now c.args.version (newer_entries c.args.version c.args.table.now.entries) c.loop-entry.batch)
 
 pub returns-clause-last : goal.returns-clause-last
-returns-clause-last c = search (rules, pushed-last c.args.owner.now c.args.batch.now c.args.version (above c.args.version c.args.table.now.entries) c.loop-entry.batch)
+returns-clause-last c = search (rules, pushed-last c.args.owner.now c.args.batch.now c.args.version (newer_entries c.args.version c.args.table.now.entries) c.loop-entry.batch)

@@ -5,18 +5,18 @@ use Rattle.sb_run.proofs.Enduring.{history-later}
 use Rattle.sb_run.proofs.laws.running_nodes_keep_truth.Goals as goal
 
 pub returns-clause-given : goal.returns-clause-given
-returns-clause-given c = λ writes opening history page owner key value version is holds are true view row.
+returns-clause-given c = λ writes opening history node_view owner key value version is holds are true view row.
     let after = c.nodes_hold.ensures.holds writes opening _ is are holds true in
     c.reads_are_true.ensures.written (writes owner) (shown_of (node_after opening history).held owner) key value version (after owner).shown
-    (sym (c.views_show_what_is_held.ensures.row (node_after opening history) page owner key view) ∙ row)
+    (sym (c.views_show_what_is_held.ensures.row (node_after opening history) node_view owner key view) ∙ row)
 
 pub returns-clause-exact : goal.returns-clause-exact
-returns-clause-exact c = λ writes opening history page owner e is holds are true view written last within.
+returns-clause-exact c = λ writes opening history node_view owner e is holds are true view written last within.
     let table = shown_of (node_after opening history).held owner in
     let after = c.nodes_hold.ensures.holds writes opening _ is are holds true in
     let node = c.nodes_hold.ensures.is opening _ is are in
-    let held = subst (λ (n : ℕ). e.version ≤ n) (c.views_show_what_is_held.ensures.upto (node_after opening history) page owner view) within in
-    c.views_show_what_is_held.ensures.row (node_after opening history) page owner e.key view
+    let held = subst (λ (n : ℕ). e.version ≤ n) (c.views_show_what_is_held.ensures.upto (node_after opening history) node_view owner view) within in
+    c.views_show_what_is_held.ensures.row (node_after opening history) node_view owner e.key view
     ∙ c.reads_are_true.ensures.exact (writes owner) table e (node owner).shown (after owner).shown written held last
 
 pub returns-clause-honest : goal.returns-clause-honest

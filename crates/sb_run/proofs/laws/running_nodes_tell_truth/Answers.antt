@@ -3,17 +3,17 @@ use Rattle.sb_run.proofs.Together.{gives_truth, together_true, given_true, histo
 use Rattle.sb_run.proofs.laws.running_nodes_tell_truth.Goals as goal
 
 pub returns-clause-given : goal.returns-clause-given
-returns-clause-given c = λ writes opening settings all run page owner key value version opened turns view row.
+returns-clause-given c = λ writes opening settings all run node_view owner key value version opened turns view row.
     let law = gives_truth c.running_nodes_keep_truth.ensures.honest c.nodes_hold.ensures.is c.answers_are_honest.ensures.is in
     let true_each = together_true law writes opening settings all opened turns run in
-    c.running_nodes_keep_truth.ensures.given writes (opening run) (history_of run all) page owner key value version (opened run).0 (opened run).1
+    c.running_nodes_keep_truth.ensures.given writes (opening run) (history_of run all) node_view owner key value version (opened run).0 (opened run).1
     (λ event s. (true_each event s).0) (λ event s. (true_each event s).1) view row
 
 pub returns-clause-exact : goal.returns-clause-exact
-returns-clause-exact c = λ writes opening settings all run page owner e opened turns view written last within.
+returns-clause-exact c = λ writes opening settings all run node_view owner e opened turns view written last within.
     let law = gives_truth c.running_nodes_keep_truth.ensures.honest c.nodes_hold.ensures.is c.answers_are_honest.ensures.is in
     let true_each = together_true law writes opening settings all opened turns run in
-    c.running_nodes_keep_truth.ensures.exact writes (opening run) (history_of run all) page owner e (opened run).0 (opened run).1
+    c.running_nodes_keep_truth.ensures.exact writes (opening run) (history_of run all) node_view owner e (opened run).0 (opened run).1
     (λ event s. (true_each event s).0) (λ event s. (true_each event s).1) view written last within
 
 pub returns-clause-honest : goal.returns-clause-honest

@@ -1,4 +1,5 @@
 use Rattle.sb_views.proofs.Growing.{grown-none, grown-on, own-grown, delta-grown}
+use Rattle.sb_views.proofs.Purged.{purged-grown}
 use Rattle.sb_views.proofs.laws.tables_grow.Goals as goal
 
 pub returns-clause-none : goal.returns-clause-none
@@ -6,6 +7,9 @@ returns-clause-none c = grown-none
 
 pub returns-clause-own : goal.returns-clause-own
 returns-clause-own c = own-grown
+
+pub returns-clause-purged : goal.returns-clause-purged
+returns-clause-purged c = purged-grown
 
 pub returns-clause-delta : goal.returns-clause-delta
 returns-clause-delta c = delta-grown

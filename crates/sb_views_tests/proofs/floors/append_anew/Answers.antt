@@ -1,9 +1,9 @@
 use Rattle.std.proofs.Common.{◌≡◌, ℕ, ◌+◌, Bool, true, false, nat_eq, List, [], ◌∷◌, ◌++◌, inl, refl, sym, ap, subst, ◌∙◌, arith}
 use Rattle.std.specs.Cmp.Lexicographic.{pointwise}
 use Rattle.sb_types.specs.Records.{Entry}
-use Rattle.sb_types.specs.Runs.{IsRun, entered}
+use Rattle.sb_types.specs.Runs.{IsRun, entries_after}
 use Rattle.sb_types.proofs.Texts.{same_text}
-use Rattle.sb_holdings.specs.Held.{Held, shown_of, written}
+use Rattle.sb_holdings.specs.Held.{Held, shown_of, held_after_write}
 use Rattle.sb_holdings.specs.Nodes.{Node}
 use Rattle.sb_holdings.specs.Plain.{IsHoldings}
 use Rattle.sb_holdings.proofs.Changed.{IsHolder-held}
@@ -34,10 +34,10 @@ module _ (held : Held) (e : Entry) (none : (shown_of held held.me).entries ≡ [
   same-entries : (owner : List ℕ) (b : Bool) → pointwise nat_eq held.me owner ≡ b
       → (table_with_all (shown_of held owner) (of_owner owner (anew held.me e))).entries ≡ (table_with_all (shown_of held owner) (of_owner owner ((held.me, Enter e) ∷ []))).entries
   same-entries owner true is =
-      rw is (ap (λ (es : List Entry). entered es (e ∷ [])) (sym none ∙ ap (λ (o : List ℕ). (shown_of held o).entries) (same_text held.me owner is)))
+      rw is (ap (λ (es : List Entry). entries_after es (e ∷ [])) (sym none ∙ ap (λ (o : List ℕ). (shown_of held o).entries) (same_text held.me owner is)))
   same-entries owner false is = rw is refl
 
-  anew-leads : e.version ≡ (shown_of held held.me).held + 1 → Leads held (written held e) (anew held.me e)
+  anew-leads : e.version ≡ (shown_of held held.me).held + 1 → Leads held (held_after_write held e) (anew held.me e)
   anew-leads next owner =
       let test = pointwise nat_eq held.me owner in
       let alike = own-leads held e next owner in
@@ -51,10 +51,10 @@ append-requires-clause-leads g c =
     let none : (shown_of held held.me).entries ≡ [] =
     none-held (shown_of held held.me).entries
     (subst (λ (n : ℕ). IsRun 0 n (shown_of held held.me).entries) c.requires.nothing (IsHolder-held held c.me.ensures.holdings held.me).shown.run) in
-    let leads : Leads held (written held e) (anew held.me e) = anew-leads held e none (omega (arith, c.requires.nothing, c.requires.first)) in
+    let leads : Leads held (held_after_write held e) (anew held.me e) = anew-leads held e none (omega (arith, c.requires.nothing, c.requires.first)) in
     let batch : c.push_anew.new.batch ≡ anew held.me e = c.in-Ok.ensures ∙ ap (λ (o : List ℕ). anew o e) c.me.ensures.name in
     let upto : c.prefix.result.now ≡ TookOwn e ∷ [] = c.prefix.ensures ∙ c.add.ensures ∙ ap (λ (l : List Event). l ++ TookOwn e ∷ []) c.requires.start in
     subst (λ (b : List (List ℕ × Change)). Leads (node_after opening c.args.writer.now.queued).held (node_after opening c.prefix.result.now).held b) (sym batch)
     (subst (λ (l : List Event). Leads (node_after opening l).held (node_after opening c.prefix.result.now).held (anew held.me e)) (sym c.requires.queued)
     (subst (λ (l : List Event). Leads opening.held (node_after opening l).held (anew held.me e)) (sym upto)
-    (subst (λ (h : Held). Leads h (written h e) (anew held.me e)) (sym c.requires.opening) leads)))
+    (subst (λ (h : Held). Leads h (held_after_write h e) (anew held.me e)) (sym c.requires.opening) leads)))

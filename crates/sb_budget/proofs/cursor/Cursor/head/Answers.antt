@@ -7,7 +7,7 @@ use Rattle.sb_budget.proofs.cursor.Cursor.head.Goals as goal
 pub returns : goal.returns
 returns c =
     let s = c.self.inside in
-    let is = next_of s.owner.now s.table.now s.after _ c.self.invariant.0 in
+    let is = next_of s.owner.now s.table s.after _ c.self.invariant.0 in
     let owner = is.owner in
     let floor = is.floor in
     let after = is.after in

@@ -8,7 +8,7 @@ use Rattle.sb_budget.proofs.cursor.Cursor.owner.Goals as goal
 pub returns : goal.returns
 returns c =
     let s = c.self.inside in
-    let is = next_of s.owner.now s.table.now s.after _ c.self.invariant.0 in
+    let is = next_of s.owner.now s.table s.after _ c.self.invariant.0 in
     record {
       owner = sym is.owner ∙ ap (λ (p : Part). p.next.owner) c.self.view_is;
       later =

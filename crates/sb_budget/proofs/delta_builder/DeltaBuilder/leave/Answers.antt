@@ -2,7 +2,7 @@ use Rattle.std.proofs.Common.{◌≡◌, [], List, set, map, length, sym, ap, su
 use Rattle.std.specs.List.Sorted.{IsSearchInRange, IsBinarySearchResult}
 use Rattle.sb_types.specs.Records.{Block}
 use Rattle.sb_types.specs.Limits.{are_owners_above}
-use Rattle.sb_budget.specs.BlocksByOwner.{lowered, lowered_of}
+use Rattle.sb_budget.specs.BlocksByOwner.{block_to_last_entry, lowered_of}
 use Rattle.sb_budget.specs.Making.{Making, left_by}
 use Rattle.sb_budget.proofs.PlaceLemmas.{text_cmp, lowered_found, lowered_missing, lowered_above}
 use Rattle.sb_budget.proofs.delta_builder.DeltaBuilder.leave.Goals.{After-self-1}
@@ -15,7 +15,7 @@ one c =
     let bound : IsSearchInRange (Ok c.in-Ok.index) (length blocks) = subst (λ (bs : List Block). IsSearchInRange (Ok c.in-Ok.index) (length bs)) c.deref.ensures.value c.in-Ok.ensures.bound in
     let found : IsBinarySearchResult (λ (b : Block). text_cmp b.owner c.args.owner) blocks (Ok c.in-Ok.index) =
     subst (λ (bs : List Block). IsBinarySearchResult (λ (b : Block). text_cmp b.owner c.args.owner) bs (Ok c.in-Ok.index)) c.deref.ensures.value c.in-Ok.ensures.place in
-    ap (set blocks c.in-Ok.index) (c.lower.ensures ∙ ap lowered c.index_mut.ensures.value) ∙ lowered_found c.args.owner blocks c.in-Ok.index _ c.self.invariant bound found
+    ap (set blocks c.in-Ok.index) (c.lower.ensures ∙ ap block_to_last_entry c.index_mut.ensures.value) ∙ lowered_found c.args.owner blocks c.in-Ok.index _ c.self.invariant bound found
 
 pub invariant_of-self : goal.invariant_of-self
 invariant_of-self c = ap (are_owners_above []) (one c) ∙ lowered_above c.args.owner [] c.self.inside.gathered.items c.self.invariant

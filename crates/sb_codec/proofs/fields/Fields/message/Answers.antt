@@ -37,3 +37,11 @@ returns-in_ok-done-in-19-clause-read c = rw (c.in_ok-byte.ensures, c.in-19.is, c
 pub returns-in_ok-refused-in-20-clause-read : goal.returns-in_ok-refused-in-20-clause-read
 unfolding message_field
 returns-in_ok-refused-in-20-clause-read c = rw (c.in_ok-byte.ensures, c.in-20.is, c.in_ok-refused-in-20.ensures) refl
+
+pub returns-in_ok-ask_status-in-21-clause-read : goal.returns-in_ok-ask_status-in-21-clause-read
+unfolding message_field
+returns-in_ok-ask_status-in-21-clause-read c = rw (c.in_ok-byte.ensures, c.in-21.is, c.in_ok-ask_status-in-21.ensures) refl
+
+pub returns-in_ok-status-in-22-clause-read : goal.returns-in_ok-status-in-22-clause-read
+unfolding message_field
+returns-in_ok-status-in-22-clause-read c = rw (c.in_ok-byte.ensures, c.in-22.is, c.in_ok-status-in-22.ensures) refl

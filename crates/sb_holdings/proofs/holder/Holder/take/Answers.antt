@@ -1,7 +1,7 @@
 use Rattle.std.proofs.Common.{◌≡◌, ℕ, ap, ◌∙◌, arith}
 use Rattle.sb_types.specs.Records.{Holder}
-use Rattle.sb_types.specs.Runs.{above}
-use Rattle.sb_holdings.specs.Holders.{told}
+use Rattle.sb_types.specs.Runs.{newer_entries}
+use Rattle.sb_holdings.specs.Holders.{unnamed_block}
 use Rattle.sb_table.proofs.Order.{lower}
 use Rattle.sb_holdings.proofs.Holding.{fits-staged, new-run, taken-is}
 use Rattle.sb_holdings.proofs.holder.Holder.take.Goals as goal
@@ -9,7 +9,7 @@ use Rattle.sb_holdings.proofs.holder.Holder.take.Goals as goal
 pub returns-then-floor-held-clause-end : goal.returns-then-floor-held-clause-end
 returns-then-floor-held-clause-end c =
     let held_is : c.upto-held.result ≡ c.args.self.now.shown.held = c.upto-held.ensures.version ∙ ap (λ (h : Holder). h.shown.held) c.self.view_is in
-    fits-staged c.args.self.now (told c.args.floor c.args.after c.args.upto c.args.entries.now) (omega (arith, held_is, c.if-floor-held.true)) c.take_staged.result c.take_staged.ensures.end
+    fits-staged c.args.self.now (unnamed_block c.args.floor c.args.after c.args.upto c.args.entries.now) (omega (arith, held_is, c.if-floor-held.true)) c.take_staged.result c.take_staged.ensures.end
 
 pub entries_above-requires : goal.entries_above-requires
 entries_above-requires c = lower 0 c.args.after c.args.entries.now (omega arith) c.requires.run.ascending
@@ -22,6 +22,6 @@ take_shown-requires-clause-run c =
 pub returns-clause-effect : goal.returns-clause-effect
 returns-clause-effect c =
     let held_is : c.upto-held.result ≡ c.args.self.now.shown.held = c.upto-held.ensures.version ∙ ap (λ (h : Holder). h.shown.held) c.self.view_is in
-    taken-is c.args.self.now (told c.args.floor c.args.after c.args.upto c.args.entries.now)
+    taken-is c.args.self.now (unnamed_block c.args.floor c.args.after c.args.upto c.args.entries.now)
     (omega (arith, held_is, c.if-floor-held.false)) (omega (arith, held_is, c.if-after-held.false)) (omega (arith, held_is, c.if-upto-held.false))
-    c.take_shown.new.self c.entries_above.result.now c.take_shown.result (c.entries_above.ensures ∙ ap (λ (n : ℕ). above n c.args.entries.now) held_is) c.take_shown.ensures.end c.take_shown.ensures.effect
+    c.take_shown.new.self c.entries_above.result.now c.take_shown.result (c.entries_above.ensures ∙ ap (λ (n : ℕ). newer_entries n c.args.entries.now) held_is) c.take_shown.ensures.end c.take_shown.ensures.effect

@@ -9,7 +9,7 @@ use Rattle.sb_types.specs.Runs.{IsRun}
 use Rattle.sb_holdings.specs.Held.{Held, held_after_block}
 use Rattle.sb_holdings.specs.Plain.{held_of, IsHoldings}
 use Rattle.sb_holdings.specs.Ends.{has_place, Fits}
-use Rattle.sb_holdings.specs.Holders.{named}
+use Rattle.sb_holdings.specs.Holders.{owner_block}
 use Rattle.sb_holdings.proofs.ByOwner.{Rise, found, get-from, len-from, has_place-known}
 use Rattle.sb_holdings.proofs.Naming.{none-from, after-known, fits-known, gap-new, full-new, fits-new, after-new}
 use Rattle.sb_holdings.proofs.holdings.Holdings.apply_parts.Goals as goal
@@ -48,7 +48,7 @@ returns-then-len-ge-OWNERS_MOST-clause-end c =
     let begins : c.args.after ≡ 0 = omega (arith, c.if-after-gt0.false) in
     let most : OWNERS_MOST ≤ len c.args.self.now.owners = omega (arith, count c.args.self.now c.self.inside.me c.self.inside.holders.entries c.self.invariant.0 c.self.view_is, c.len.ensures.len, c.if-len-ge-OWNERS_MOST.true) in
     let none = stands c.args.self.now c.self.inside.me c.args.owner.now c.self.inside.holders.entries c.self.invariant.0 c.self.view_is c.contains_key.result c.contains_key.ensures ∙ c.if-contains_key.false in
-    subst (λ (n : ℕ). Fits c.args.self.now (named c.args.owner.now c.args.floor n c.args.upto c.args.entries.now) OwnersFull) (sym begins)
+    subst (λ (n : ℕ). Fits c.args.self.now (owner_block c.args.owner.now c.args.floor n c.args.upto c.args.entries.now) OwnersFull) (sym begins)
     (full-new c.args.self.now c.args.owner.now c.args.floor c.args.upto c.args.entries.now (none-from (get c.args.self.now.owners c.args.owner.now) (stands c.args.self.now c.self.inside.me c.args.owner.now c.self.inside.holders.entries c.self.invariant.0 c.self.view_is c.contains_key.result c.contains_key.ensures ∙ c.if-contains_key.false)) (apart c.args.self.now c.self.inside.me c.args.owner.now c.self.inside.holders.entries c.self.view_is c.eq.result c.eq.ensures c.if-eq.false) (omega (arith, c.requires.order)) (full c.args.self.now c.args.owner.now none most))
 
 pub add-requires-clause-unknown : goal.add-requires-clause-unknown
@@ -62,13 +62,13 @@ returns-clause-effect c =
     let begins : c.args.after ≡ 0 = omega (arith, c.if-after-gt0.false) in
     c.add.ensures.effect
     ∙ after-new c.args.self.now c.args.owner.now c.args.floor c.args.upto c.args.entries.now (none-from (get c.args.self.now.owners c.args.owner.now) (stands c.args.self.now c.self.inside.me c.args.owner.now c.self.inside.holders.entries c.self.invariant.0 c.self.view_is c.contains_key.result c.contains_key.ensures ∙ c.if-contains_key.false)) (apart c.args.self.now c.self.inside.me c.args.owner.now c.self.inside.holders.entries c.self.view_is c.eq.result c.eq.ensures c.if-eq.false) (omega (arith, c.requires.order)) (subst IsHoldings c.self.view_is c.self.invariant.1) c.add.result c.add.ensures.end
-    ∙ ap (λ (n : ℕ). held_after_block c.args.self.now (named c.args.owner.now c.args.floor n c.args.upto c.args.entries.now) c.add.result) (sym begins)
+    ∙ ap (λ (n : ℕ). held_after_block c.args.self.now (owner_block c.args.owner.now c.args.floor n c.args.upto c.args.entries.now) c.add.result) (sym begins)
 
 pub returns-clause-end : goal.returns-clause-end
 returns-clause-end c =
     let begins : c.args.after ≡ 0 = omega (arith, c.if-after-gt0.false) in
     let most : len c.args.self.now.owners < OWNERS_MOST = omega (arith, count c.args.self.now c.self.inside.me c.self.inside.holders.entries c.self.invariant.0 c.self.view_is, c.len.ensures.len, c.if-len-ge-OWNERS_MOST.false) in
-    subst (λ (n : ℕ). Fits c.args.self.now (named c.args.owner.now c.args.floor n c.args.upto c.args.entries.now) c.add.result) (sym begins)
+    subst (λ (n : ℕ). Fits c.args.self.now (owner_block c.args.owner.now c.args.floor n c.args.upto c.args.entries.now) c.add.result) (sym begins)
     (fits-new c.args.self.now c.args.owner.now c.args.floor c.args.upto c.args.entries.now (none-from (get c.args.self.now.owners c.args.owner.now) (stands c.args.self.now c.self.inside.me c.args.owner.now c.self.inside.holders.entries c.self.invariant.0 c.self.view_is c.contains_key.result c.contains_key.ensures ∙ c.if-contains_key.false)) (apart c.args.self.now c.self.inside.me c.args.owner.now c.self.inside.holders.entries c.self.view_is c.eq.result c.eq.ensures c.if-eq.false) (omega (arith, c.requires.order))
     (subst (λ (n : ℕ). IsRun n c.args.upto c.args.entries.now) begins c.requires.run)
     (or_right (contains_key c.args.self.now.owners c.args.owner.now) (nat_lt (len c.args.self.now.owners) OWNERS_MOST) (lt-ltb (len c.args.self.now.owners) OWNERS_MOST most)) c.add.result c.add.ensures.end)

@@ -7,7 +7,7 @@ use Rattle.std.specs.BTreeMap.Range.{range_contains}
 use Rattle.std.specs.declared.ops.Bound.TheVariants.{Unbounded}
 use Rattle.std.specs.FinMap.{entries-from_sorted}
 use Rattle.sb_types.specs.Value.{Value}
-use Rattle.sb_views.specs.LiveRows.{row_at, rows_under, reached}
+use Rattle.sb_views.specs.LiveRows.{row_at, rows_under, live_rows_under}
 use Rattle.sb_views.proofs.ByText.{by_text, sorted}
 use Rattle.sb_views.proofs.Reaching.{reached-filter}
 use Rattle.sb_views.proofs.owner_view.OwnerView.rows.Goals as goal
@@ -19,7 +19,7 @@ returns c =
     let es = c.self.inside.rows.entries in
     let up = c.self.invariant in
     c.new.ensures
-    ∙ ap (reached owner prefix) (c.range.ensures.between tt)
+    ∙ ap (live_rows_under owner prefix) (c.range.ensures.between tt)
     ∙ reached-filter owner prefix (range_contains (slice_cmp nat_cmp) c.start.result Unbounded) (λ key. and-true _ ∙ c.start.ensures key) es up
     ∙ ap (λ (rows : List (List ℕ × (Value × ℕ))). map (row_at owner) (filter (λ p. starts_with nat_eq p.0 prefix) rows)) (sym (entries-from_sorted by_text es (sorted es up)))
     ∙ ap (rows_under prefix owner) c.self.view_is

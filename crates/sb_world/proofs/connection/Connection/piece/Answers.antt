@@ -2,7 +2,7 @@ use Rattle.std.proofs.Common.{◌≡◌, ℕ, List, [], length, take, drop, min,
 use Rattle.std.proofs.lemmas.List.{append-nil, take_min, drop_min}
 use Rattle.sb_frames.specs.Streams.{Stream}
 use Rattle.sb_world.specs.Connections.{Connection}
-use Rattle.sb_world.specs.Connecting.{fed, listener, heard_by}
+use Rattle.sb_world.specs.Connecting.{stream_with_piece, listener, heard_by}
 use Rattle.sb_world.specs.Hearing.{Listener, listener_of, Hears, Tells}
 use Rattle.sb_world.proofs.Heard.{fed_is, not_fed, if_none}
 use Rattle.sb_world.proofs.connection.Connection.piece.Goals as goal
@@ -16,7 +16,7 @@ returns-in-Err c =
     let piece : take c.min-count.result c.as_slice.result.now ≡ take c.args.count v.left =
     ap (take c.min-count.result) c.as_slice.ensures ∙ ap (λ k. take k v.left) (c.min-count.ensures ∙ ap (min c.args.count) count) ∙ take_min c.args.count v.left in
     let tells = not_fed core v.session v.stream (take c.min-count.result c.as_slice.result.now) c.feed.result c.in-Err.fault c.feed.new.self n c.in-Err.is c.feed.ensures in
-    let told = subst (λ (xs : List ℕ). Tells n [] (listener_of core v.session (fed v.stream xs)) (listener_of core v.session (fed v.stream xs)) (Some c.in-Err.fault) [] []) piece tells in (
+    let told = subst (λ (xs : List ℕ). Tells n [] (listener_of core v.session (stream_with_piece v.stream xs)) (listener_of core v.session (stream_with_piece v.stream xs)) (Some c.in-Err.fault) [] []) piece tells in (
       [],
       listener core c.args.self.now c.args.count,
       listener core c.args.self.now c.args.count,
@@ -39,8 +39,8 @@ returns c =
     let least : c.min-count.result ≡ min c.args.count (length v.left) = c.min-count.ensures ∙ ap (min c.args.count) count in
     let piece : take c.min-count.result c.as_slice.result.now ≡ take c.args.count v.left =
     ap (take c.min-count.result) c.as_slice.ensures ∙ ap (λ k. take k v.left) least ∙ take_min c.args.count v.left in
-    let stream : c.feed.new.self ≡ fed v.stream (take c.args.count v.left) =
-    fed_is v.stream (take c.min-count.result c.as_slice.result.now) c.in-Ok.field-0 c.feed.new.self c.in-Ok.ensures ∙ ap (fed v.stream) piece in
+    let stream : c.feed.new.self ≡ stream_with_piece v.stream (take c.args.count v.left) =
+    fed_is v.stream (take c.min-count.result c.as_slice.result.now) c.in-Ok.field-0 c.feed.new.self c.in-Ok.ensures ∙ ap (stream_with_piece v.stream) piece in
     let left : c.advance.new.self.items ≡ drop c.args.count v.left = c.advance.ensures.items ∙ ap (λ k. drop k v.left) least ∙ drop_min c.args.count v.left in
     let said = c.hear.ensures in
     let last : Listener = listener_of c.hear.new.core c.hear.new.session c.hear.new.frames in

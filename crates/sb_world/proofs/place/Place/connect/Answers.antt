@@ -9,7 +9,7 @@ use Rattle.sb_frames.specs.Streams.{open_with}
 use Rattle.sb_session.specs.Sessions.{Session, new_session, hello_of}
 use Rattle.sb_world.specs.declared.event.Answer.TheVariants as answers
 use Rattle.sb_world.specs.Connections.{Connection, connection_at}
-use Rattle.sb_world.specs.Connecting.{begun, new_connection, Connects}
+use Rattle.sb_world.specs.Connecting.{session_at, new_connection, Connects}
 use Rattle.sb_world.specs.Places.{Place}
 use Rattle.sb_world.proofs.Connected.{resting, in_use, least_budget, connected}
 use Rattle.sb_world.proofs.place.Place.connect.Goals as goal
@@ -35,11 +35,11 @@ returns g c =
     let same : v ≡ c.args.self.now = c.self.view_is in
     let of_settings : c.settings-settings.result ≡ v.core.settings = c.settings-settings.ensures.settings in
     let cluster : c.cluster.result ≡ v.core.settings.cluster = c.cluster.ensures.cluster ∙ ap (λ (s : Settings). s.cluster) of_settings in
-    let session : c.new-session.result ≡ begun v = c.new-session.ensures ∙ ap (λ (name : List ℕ). new_session name v.me) cluster in
-    let message : c.hello.result ≡ hello_of (begun v) = c.hello.ensures ∙ ap hello_of session in
-    let is : is_message (hello_of (begun v)) ≡ true = subst (λ (m : Message). is_message m ≡ true) message c.in_ok-hello.ensures.limits in
+    let session : c.new-session.result ≡ session_at v = c.new-session.ensures ∙ ap (λ (name : List ℕ). new_session name v.me) cluster in
+    let message : c.hello.result ≡ hello_of (session_at v) = c.hello.ensures ∙ ap hello_of session in
+    let is : is_message (hello_of (session_at v)) ≡ true = subst (λ (m : Message). is_message m ≡ true) message c.in_ok-hello.ensures.limits in
     let least : 1024 ≤ v.core.settings.budget = subst (λ (s : Settings). 1024 ≤ s.budget) of_settings (least_budget c.settings-settings.result c.budget.ensures.settings) in
-    let is_later : later ≡ sent ++ frame (hello_of (begun v)) ∷ [] =
+    let is_later : later ≡ sent ++ frame (hello_of (session_at v)) ∷ [] =
     c.push_reserved.ensures.items ∙ ap (λ (fs : List (List ℕ)). fs ++ c.in_ok-hello.hello ∷ []) c.in_ok-reserve-2.ensures.items ∙ ap (λ (f : List ℕ). sent ++ f ∷ []) (c.in_ok-hello.ensures.frame ∙ ap frame message) in
     let is_new : new ≡ conns ++ new_connection v number ∷ [] =
     c.push_reserved-2.ensures.items ∙ ap (λ (cs : List Connection). cs ++ c.new.result ∷ []) c.in_ok-reserve.ensures.items

@@ -4,7 +4,7 @@ use Rattle.sb_holdings.specs.Held.{Held}
 use Rattle.sb_digest.specs.Digests.{Digest}
 use Rattle.sb_node.specs.Answers.{IsDelta, IsAnswer}
 use Rattle.sb_world.specs.Places.{Place}
-use Rattle.sb_world.specs.Turns.{asked}
+use Rattle.sb_world.specs.Turns.{offer_digest}
 use Rattle.sb_world.proofs.place.Place.offer.Goals as goal
 
 pub returns-clause-delta : goal.returns-clause-delta
@@ -14,7 +14,7 @@ returns-clause-delta g c =
     let after = c.args.after in
     let blocks = c.in_ok-delta.delta in
     let held : c.holdings.result.now ≡ p.core.node.held = c.holdings.ensures.held ∙ ap (λ (q : Place). q.core.node.held) c.self.view_is in
-    let digest = c.in_ok-digest.ensures.digest ∙ ap (λ (h : Held). asked h owner after) held in
+    let digest = c.in_ok-digest.ensures.digest ∙ ap (λ (h : Held). offer_digest h owner after) held in
     let told = subst (λ (q : Place). IsDelta q.core.settings q.core.node.held c.in_ok-digest.digest blocks) c.self.view_is c.in_ok-delta.ensures.delta in
     let answer = subst (λ (q : Place). IsAnswer q.core.settings.budget q.core.node.held c.in_ok-digest.digest blocks) c.self.view_is c.in_ok-delta.ensures.answer in
     IfOk-weaker c.frame_of.result _ _ (λ bytes laid. (

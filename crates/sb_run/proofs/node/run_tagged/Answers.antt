@@ -1,0 +1,13 @@
+use Rattle.std.proofs.Common.{inl}
+use Rattle.std.proofs.lemmas.Result.{err_from_is_err_and}
+use Rattle.sb_run.proofs.node.run_tagged.Goals as goal
+
+pub returns-in_err-dialing-clause-fault : goal.returns-in_err-dialing-clause-fault
+returns-in_err-dialing-clause-fault g c =
+    let p = err_from_is_err_and c.from_residual-in_err-dialing.result c.from_residual-in_err-dialing.ensures.1 in
+    rw (p.1, p.2) (inl (inl c.in_err-dialing.ensures))
+
+pub returns-in_err-finished-clause-fault : goal.returns-in_err-finished-clause-fault
+returns-in_err-finished-clause-fault g c =
+    let p = err_from_is_err_and c.from_residual-in_err-finished.result c.from_residual-in_err-finished.ensures.1 in
+    rw (p.1, p.2) (inl c.in_err-finished.ensures.fault)

@@ -1,5 +1,0 @@
-use Rattle.sb_directory.specs.Serving.{IsStill}
-use Rattle.sb_run.proofs.reporting.owners_at_zero.Given as goal
-
-abbrev pub invariant-loop : goal.invariant-loop
-invariant-loop g l = IsStill l.initial.seat l.seat

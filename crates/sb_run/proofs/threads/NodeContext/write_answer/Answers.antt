@@ -1,0 +1,6 @@
+use Rattle.std.proofs.Common.{refl}
+use Rattle.sb_run.proofs.threads.NodeContext.write_answer.Goals as goal
+
+pub returns-in-AskStatus-clause-answers : goal.returns-in-AskStatus-clause-answers
+returns-in-AskStatus-clause-answers g c =
+    (c.reply_to_ask_status-seat.result.1, rw c.in-AskStatus.is (refl, refl, c.reply_to_ask_status-seat.ensures), c.send-sent.ensures)

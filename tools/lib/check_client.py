@@ -1,0 +1,268 @@
+"""A part of tools/check-node: the client of examples/clients. It asks nodes that run and made-up ones, and what it returns is compared with what the
+program's own commands print."""
+import ast
+import importlib.util
+import json
+import socket
+import subprocess
+import sys
+import threading
+import time
+from queue import Empty, Queue
+
+from check_asking import MadeUp, done, refused, rows, texts
+from check_scripts import tell
+from check_status import ASK_STATUS, NODE_STATUS
+from check_watch import VALUES
+from nodes import BYE, FRAME_FRONT, ROOT, SECONDS, Difference, frame, number, run, text, want
+
+CLIENT = ROOT / "examples" / "clients" / "attrdir.py"
+
+
+def client():
+    """The module of the client."""
+    spec = importlib.util.spec_from_file_location("attrdir_client", CLIENT)
+    module = importlib.util.module_from_spec(spec)
+    spec.loader.exec_module(module)
+    return module
+
+
+CLIENT_MODULE = client()
+Fault = CLIENT_MODULE.Fault
+
+
+def client_of(node, timeout=SECONDS):
+    return CLIENT_MODULE.Node(node.control, timeout)
+
+
+def command(node, *words):
+    """The status, what was printed and what was said by the client's command line."""
+    ran = subprocess.run([sys.executable, CLIENT, "--control", node.control, *words], stdin=subprocess.DEVNULL, capture_output=True, encoding="utf-8", timeout=SECONDS)
+    return ran.returncode, ran.stdout, ran.stderr
+
+
+def fault_of(call, *words):
+    """The number and the text of the fault by which a call ends."""
+    try:
+        found = call(*words)
+    except Fault as fault:
+        want("the words of a fault", str(fault), f"fault {fault.number}: {fault.text}")
+        return fault.number, fault.text
+    raise Difference(f"no fault of {words}, but {found!r}")
+
+
+class Changes:
+    """The changes that a watch of the client yields, as they come."""
+
+    def __init__(self, node, *words, **how):
+        self.queue = Queue()
+        self.watch = client_of(node).watch(*words, **how)
+        threading.Thread(target=self.read, daemon=True).start()
+
+    def read(self):
+        try:
+            for change, row in self.watch:
+                self.queue.put((change, row["owner"], row["key"], row["version"], row["value"]))
+        except Exception as fault:
+            self.queue.put(fault)
+
+    def awaits(self, *wanted):
+        """The next changes are these, and no others have come."""
+        found = []
+        try:
+            for _ in wanted:
+                found.append(self.queue.get(timeout=SECONDS))
+        except Empty:
+            pass
+        want("the changes of a client's watch", found + [self.queue.get() for _ in range(self.queue.qsize())], list(wanted))
+
+
+# ---- the parts
+
+
+def client_rows(check):
+    """The client writes each kind of value, and reads the rows that `attrdir get` prints, on all pages, and by owner, prefix and key."""
+    node = check.node("a", "--budget", "1024").start()
+    asked = client_of(node)
+    for at, (kind, _, value) in enumerate(VALUES, 1):
+        want(f"the version of {value!r}", asked.set(f"k/{at:02}._-", kind, value), at)
+    whole = lambda *words: [json.loads(it) for it in node.get("--format", "json", *words)]
+    want("rows", list(map(repr, (it["value"] for it in asked.get()))), [repr(value) for _, _, value in VALUES])
+    count = len(VALUES)
+    for at in range(100):
+        asked.set(f"many/{at:03}", "weight", at)
+    tell(node, "b", 0, ("k/03._-", 1, 10), ("k/03", 2, 20), ("z", 3, 30))
+    want("all rows", asked.get(), whole())
+    want("how many rows", len(asked.get()), count + 103)
+    want("rows of an owner", asked.get("b"), whole("--owner", "b"))
+    want("rows under a prefix", asked.get(prefix="many/09"), whole("--prefix", "many/09"))
+    want("rows of both", asked.get("a", "k/1"), whole("--owner", "a", "--prefix", "k/1"))
+    want("a row", asked.get("b", key="k/03"), whole("--owner", "b", "--key", "k/03"))
+    want("rows of a key", [it["owner"] for it in asked.get(key="k/03._-")], ["a", "b"])
+    want("no rows", (asked.get("c"), asked.get(prefix="l"), asked.get("b", key="k")), ([], [], []))
+    want("a removal", asked.delete("many/050"), count + 101)
+    want("rows afterwards", asked.get(prefix="many/05"), whole("--prefix", "many/05"))
+    want("what it prints", command(node, "get"), (0, node.command("get", "--format", "json")[1], ""))
+
+
+def client_commands(check):
+    """The client's command line writes, removes and prints, and ends with status 3 after a fault."""
+    node = check.node("a").start()
+    words = [("addr", "10.0.0.1:80"), ("weight", "7"), ("flag", "true"), ("flag", "false"), ("text", "zone b \\ \"é\n")]
+    for at, (kind, word) in enumerate(words, 1):
+        want(f"set {word!r}", command(node, "set", f"k{at}", kind, word), (0, f"{at}\n", ""))
+    want("the values", [it["value"] for it in client_of(node).get()], ["10.0.0.1:80", 7, True, False, words[-1][1]])
+    want("del", command(node, "del", "k1"), (0, "6\n", ""))
+    printed = run(check.program, "get", "--control", str(node.control), "--owner", "a", "--key", "k2", "--format", "json")[1]
+    want("get of a key", command(node, "get", "--owner", "a", "--key", "k2"), (0, printed, ""))
+    want("get of none", command(node, "get", "--prefix", "l"), (0, "", ""))
+    for wrong in (["set", "k", "weight", "05"], ["set", "k", "flag", "yes"], ["del", "k1"], ["del", "K"], ["get", "--owner", "A"]):
+        status, printed, said = command(node, *wrong)
+        program = node.command(*wrong)
+        want(f"{wrong}", (status, printed, said.splitlines()[0]), (3, "", program[2].splitlines()[0]))
+    want("wrong command lines", [command(node, *it)[0] for it in ([], ["put"], ["set", "k"], ["get", "k"])], [2, 2, 2, 2])
+
+
+def client_watches(check):
+    """A watch of the client yields what changes, goes on over a restart of the node, and keeps the rows that this node has not heard of again."""
+    node = check.node("a").start()
+    asked = client_of(node)
+    asked.set("own", "weight", 1)
+    tell(node, "p", 0, ("x", 1, 10), ("y", 2, 20), ("z", 3, 30))
+    watch = Changes(node, pause=0.02)
+    watch.awaits(("set", "a", "own", 1, 1), ("set", "p", "x", 1, 10), ("set", "p", "y", 2, 20), ("set", "p", "z", 3, 30))
+    asked.set("own", "weight", 2)
+    watch.awaits(("set", "a", "own", 2, 2))
+    node.kill()
+    want("a node that ended", fault_of(asked.get)[0], 16)
+    node.start()
+    asked.set("own", "weight", 3)
+    watch.awaits(("set", "a", "own", 3, 3))
+    want("that p is not known", asked.get("p"), [])
+    # y was removed meanwhile, and a later row of p shows that the node knows
+    tell(node, "p", 0, ("x", 1, 10), ("z", 3, 30), ("v", 5, 50))
+    watch.awaits(("set", "p", "v", 5, 50), ("gone", "p", "y", 2, 20))
+    asked.delete("own")
+    watch.awaits(("gone", "a", "own", 3, 3))
+    filtered = Changes(node, "p", "v", pause=0.02)
+    filtered.awaits(("set", "p", "v", 5, 50))
+    tell(node, "p", 5, ("w", 6, 60), ("v", 7, 70))
+    filtered.awaits(("set", "p", "v", 7, 70))
+    began = time.monotonic()
+    made = check.folder() / "made.ctl"
+    MadeUp(made, [rows(("a", "k", at, at)) for at in range(1, 7)])
+    six = Changes(type("Place", (), {"control": made}))
+    six.awaits(*(("set", "a", "k", at, at) for at in range(1, 7)))
+    if not 1 <= time.monotonic() - began <= 10:
+        raise Difference(f"six askings took {time.monotonic() - began:.2f} s")
+    want("a prefix that is none", fault_of(next, asked.watch(prefix="P"))[0], 3)
+    want("what is no control socket", fault_of(next, CLIENT_MODULE.Node(node.sock).watch())[0], 13)
+
+
+def client_watches_pages(check):
+    """The node heard of an owner between two pages after it was started again: no row is gone that only the first page could have had."""
+    place = type("Place", (), {"control": check.folder() / "made.ctl"})
+    MadeUp(place.control, [rows(("a", "b1", 5, 1), ("a", "z", 6, 1))])
+    watch = Changes(place, pause=0.02)
+    watch.awaits(("set", "a", "b1", 5, 1), ("set", "a", "z", 6, 1))
+    place.control.unlink()
+    whole = rows(("a", "c1", 1, 1), ("a", "z", 100, 1))
+    MadeUp(place.control, [rows(("a", "c1", 1, 1), more=1), rows(("a", "z", 100, 1)), whole])
+    watch.awaits(("set", "a", "c1", 1, 1), ("set", "a", "z", 100, 1), ("gone", "a", "b1", 5, 1))
+    # a row of an earlier version is passed over
+    other = type("Place", (), {"control": check.folder() / "made.ctl"})
+    MadeUp(other.control, [rows(("b", "k", 2, 1), ("b", "l", 3, 1)), rows(("b", "k", 1, 9))])
+    Changes(other, pause=0.02).awaits(("set", "b", "k", 2, 1), ("set", "b", "l", 3, 1), ("gone", "b", "l", 3, 1))
+
+
+def client_statuses(check):
+    """The client returns the status that `attrdir status` prints, with all peers."""
+    folder = check.folder()
+    other = check.node("b", folder=folder).start()
+    peers = [other.sock, *(folder / f"{at:03}{'p' * 40}.sock" for at in range(30))]
+    node = check.node("a", "--budget", "1024", "--pause", "60000", folder=folder, peers=peers).start()
+    asked, end = client_of(node), time.monotonic() + SECONDS
+    asked.set("k", "weight", 5), asked.set("l", "weight", 6), asked.delete("l")
+    moving = ("uptime", "workers_busy")
+    while True:
+        found, printed = asked.status(), json.loads(node.command("status", "--format", "json")[1])
+        same = [{name: value for name, value in it.items() if name not in moving} for it in (found, printed)]
+        if same[0] == same[1] and found["peers"][1]["state"] != "not_dialed":
+            break
+        if time.monotonic() > end:
+            want("the status", *same)
+    want("its members", sorted(found), sorted(printed))
+    want("its figures", (found["keys"], found["removals"], found["ready"], found["log_fault"], len(found["peers"])), (2, 1, False, None, 31))
+    want("its first peers", [it["state"] for it in found["peers"][:2]], ["answers", "unreachable"])
+    want("the status of a node that is ready", (client_of(other).status()["ready"], client_of(other).status()["peers"]), (True, []))
+    want("what it prints", json.loads(command(other, "status")[1])["node"], "b")
+
+
+def client_status_words(check):
+    """The client has the program's word for each figure, each cause of a log's fault, and each state of a peer, also for those of a later release."""
+    states = [*range(9), 32, 33, 48, 63, 64, 255]
+    peers = b"".join(text(f"p{state}") + number(state, 1) + number(7) for state in states)
+    for cause in range(11):
+        figures = [(at, cause if at == 3 else cause % 2 if at in (2, 4) else at) for at in range(1, 23)]
+        told = b"".join(number(at, 1) + number(value) for at, value in figures)
+        head = b"\x00" + text("a") + text("c") + text("0.3.0")
+        answer = frame(NODE_STATUS, head + number(len(figures), 2) + told + number(len(states), 2) + peers)
+        made = MadeUp(check.folder() / "made.ctl", [answer, answer])
+        printed = run(check.program, "status", "--control", str(made.path), "--format", "json")[1]
+        want(f"a status with the cause {cause}", CLIENT_MODULE.Node(made.path).status(), json.loads(printed))
+        want("its requests", made.requests, [(ASK_STATUS, number(0))] * 2)
+
+
+def client_faults(check):
+    """The client ends by the fault of the program's commands, with its text: of wrong words, of a node's refusal, of no node, and of wrong answers."""
+    told, folder = texts(), check.folder()
+    node = check.node("a").start()
+    asked = client_of(node)
+    for fault, call, *words in (
+        (3, asked.get, None, "", "k" * 65), (3, asked.set, "k" * 65, "weight", 5), (3, asked.delete, ""), (3, asked.get, None, "P"), (2, asked.get, "A"), (2, asked.get, ""),
+        (9, asked.delete, "k"),
+    ):
+        want(f"the fault of {words}", fault_of(call, *words), (fault, told[fault]))
+    for kind, value in (
+        ("addr", "a b"), ("addr", ""), ("addr", "é"), ("weight", -1), ("weight", 2**63), ("weight", True), ("weight", "5"), ("flag", 1), ("flag", "true"), ("text", ""),
+        ("text", "x" * 513), ("text", "é" * 257), ("removed", None), ("wait", 5),
+    ):
+        want(f"the fault of {kind} {value!r}", fault_of(asked.set, "k", kind, value)[0], 4)
+    want("that nothing was written", asked.get(), [])
+    at = lambda path, timeout=SECONDS: CLIENT_MODULE.Node(path, timeout)
+    (folder / "taken").touch()
+    for path in (folder / "none.ctl", folder / "taken", folder / ("x" * 120)):
+        found, words = fault_of(at(path).set, "k", "weight", 5)
+        want(f"the fault of {path.name}", (found, words.startswith("no node could be reached: ")), (16, True))
+    want("the fault at a --sock", fault_of(at(node.sock).get)[0], 13)
+    made = lambda *answers: at(MadeUp(check.folder() / "made.ctl", answers).path)
+    good = done(5)
+    for answer, fault in (
+        (b"\xa8" + good[1:], 10), (b"\xa7\x02" + good[2:], 11), (FRAME_FRONT + number(0, 4), 12), (FRAME_FRONT + number(65531, 4), 12), (b"", 28), (good[:4], 28), (good[:-1], 28), (rows(), 13), (BYE, 13), (good[:5] + b"\x03" + good[6:9], 14),
+    ):
+        want(f"the fault of {answer.hex()}", fault_of(made(answer).delete, "k")[0], fault)
+    want("a page that has no row", fault_of(made(rows(more=1)).get)[0], 14)
+    for fault in told:
+        found, words = fault_of(made(refused(fault)).set, "k", "weight", 5)
+        want("the number of a refusal", found, fault)
+        if fault in (1, 6, 8, 9, 15, 18):
+            want("the text of a refusal", words, told[fault])
+    door = socket.socket(socket.AF_UNIX)
+    door.bind(str(folder / "silent.ctl"))
+    door.listen(8)
+    want("a node that is silent", fault_of(at(folder / "silent.ctl", 0.2).get), (16, "the node did not answer: timed out"))
+    door.close()
+
+
+def client_alone(check):
+    """The client is plain Python 3.8, and imports nothing but the standard library."""
+    tree = ast.parse(CLIENT.read_text(), feature_version=(3, 8))
+    imports = [alias.name for it in ast.walk(tree) if isinstance(it, ast.Import) for alias in it.names]
+    imports += [it.module for it in ast.walk(tree) if isinstance(it, ast.ImportFrom)]
+    there = set("argparse io json os re socket struct time typing collections".split())
+    want("what it imports", sorted(set(imports) - there), [])
+
+
+PARTS = (
+    client_rows, client_commands, client_watches, client_watches_pages, client_statuses, client_status_words, client_faults, client_alone,
+)
