@@ -1,8 +1,8 @@
-//! What a log holds, in lines for a reader, and what a purge of it prints.
+//! What a log holds, in lines for a reader; what a purge of it prints; and rows that are written back into it.
 //!
 //! `log_run` prints a line for each key of a log, in the order of the keys, and then the last version. It prints any `WriteLog`, in
 //! memory or in a database, and the program prints a log file with it. `purge_run` makes a log drop its removals up to a version,
-//! and prints that version.
+//! and prints that version. `write_back` gives a log the rows that another node shows of its owner.
 //!
 //! # What no contract refuses
 //!
@@ -24,6 +24,8 @@
 
 mod log_lines;
 mod purge_line;
+mod writing_back;
 
 pub use log_lines::log_run;
 pub use purge_line::purge_run;
+pub use writing_back::write_back;
