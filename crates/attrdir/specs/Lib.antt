@@ -3,6 +3,7 @@ pub mod Lines
 pub mod Beginning
 pub mod Owners
 pub mod Removals
+pub mod Restoring
 pub mod Rows
 pub mod Status
 pub mod Troubles

@@ -100,6 +100,10 @@ fn about_store(place: FaultPlace<'_>) -> &'static str {
         FaultPlace::LockedLog(_) => {
             "end that process, which may be a node; to read the rows of a node that runs, use get at its control socket"
         }
+        FaultPlace::LinkedLog(_) => "give the path of the file itself",
+        FaultPlace::OldWal(_) => {
+            "it belongs to the log that is lost: see that the path is right, move this file away, and give the command again"
+        }
         FaultPlace::Node(_) => {
             "the node could not write its log, and takes no more writes: see that its disk has room and works, and start the node again"
         }
@@ -167,7 +171,7 @@ fn about_value(place: FaultPlace<'_>) -> &'static str {
 fn about_setting(place: FaultPlace<'_>) -> &'static str {
     match place {
         FaultPlace::Heard(_) => {
-            "the version that this node heard of, plus 1,048,576, is above 1099511627775: give --after, at least 4,096 above the last version; \
+            "the version that this node heard of, plus 1,048,576, is above 1099511627775: begin with --after, at least 4,096 above the last version; \
 if there is no room for that, end the name by --after 1099511627775, and take a new name"
         }
         _ => "give 1 to 32 lower-case letters, digits and -",
@@ -178,7 +182,10 @@ if there is no room for that, end the name by --after 1099511627775, and take a 
 fn about_log(fault: &Fault, place: FaultPlace<'_>) -> &'static str {
     match fault {
         Fault::OutOfTurn(_) if matches!(place, FaultPlace::Log(_)) => {
-            "start the node with this log, which goes on by itself; if that ends in fault 21, move the file and its -wal away, and begin again"
+            "start the node with this log, which goes on by itself; if that ends in fault 21, move the file and its -wal away, and give the command again"
+        }
+        Fault::WrongCluster if matches!(place, FaultPlace::Control(_)) => {
+            "give the --control of a node of the cluster that --cluster names"
         }
         Fault::FloorTooHigh => {
             "give a FLOOR of at most the last version, which `attrdir log` prints last, or --all"
@@ -224,6 +231,9 @@ fn about_fault(fault: &Fault, place: FaultPlace<'_>) -> &'static str {
         Fault::VersionsSpent => {
             "start the node again with a greater --max-version, of at most 1099511627775, or under a new name"
         }
+        Fault::NothingThere if matches!(place, FaultPlace::NoRows(_)) => {
+            "give the sockets of a node that shows its rows; if none does, make a log without rows by `attrdir begin --from`"
+        }
         Fault::NothingThere =>
             "this node has no value under this key: get prints the keys that it has",
         fault => about_log(fault, place),
@@ -239,7 +249,7 @@ fn about_session(fault: &Fault) -> &'static str {
             "the node has this name: give another --name; for `begin` end that node, and ask another one"
         }
         Fault::NothingThere => {
-            "a node that was started since has forgotten it: give the --sock of a node that runs for longer, or --after; a name that never \
+            "a node that was started since has forgotten it: give the --sock of a node that runs for longer, or begin with --after; a name that never \
 wrote needs only an empty file"
         }
         Fault::ReadFailed | Fault::WriteFailed(_) | Fault::Truncated => {

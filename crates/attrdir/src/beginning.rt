@@ -36,7 +36,7 @@ fn within_limits<'a>(version: u64, place: FaultPlace<'a>) -> Result<u64, Failure
 
 /// Returns `heard`, which the node at this socket heard of, plus as many versions as its owner can have written
 /// unheard. `BadSetting` outside the limits.
-fn version_beyond<'a>(heard: u64, sock: &'a str) -> Result<u64, Failure<'a>>
+pub(crate) fn version_beyond<'a>(heard: u64, sock: &'a str) -> Result<u64, Failure<'a>>
     ensures far { IfOk result (λ version. version ≡ heard + UNHEARD_MOST) }
     ensures limits { IfOk result spec.IsWithinLimits }
 {

@@ -4,14 +4,16 @@ use crate::asking::{RowFormat, print_all, put};
 use crate::batch::write_lines;
 use crate::beginning::{Start, begin_log};
 use crate::commands::{
-    AFTER, ALL, ASKING_NAME, CONTROL, COUNT, EVERY, EXPLAIN, FLOOR, FORMAT, FROM, KEY, KIND, LOG,
-    LOG_CLUSTER, LOG_NAME, MARK, ONE_KEY, OWNER, PEER_SOCK, PREFIX, RAW, RAW_VALUE, REMOVED_KEY,
-    RETRY, STATUS_FORMAT, VALUE, VALUE_ALONE, WAIT, lacks_control, serve_arguments, wrong_number,
+    AFTER, ALL, ASKED_CONTROL, ASKED_SOCK, ASKING_NAME, CONTROL, COUNT, EVERY, EXPLAIN, FLOOR,
+    FORMAT, FROM, KEY, KIND, LOG, LOG_CLUSTER, LOG_NAME, MARK, ONE_KEY, OWNER, PEER_SOCK, PREFIX,
+    RAW, RAW_VALUE, REMOVED_KEY, RETRY, STATUS_FORMAT, VALUE, VALUE_ALONE, WAIT, lacks_control,
+    serve_arguments, wrong_number,
 };
 use crate::failure::Failure;
 use crate::log_file::{Floor, print_log, purge_log};
 use crate::one_row::{Portion, RowQuery, print_one};
 use crate::owners::print_owners;
+use crate::restoring::{AskedNode, restore_log};
 use crate::serving::ServeArguments;
 use crate::status::print_status;
 use crate::watching::{WatchQuery, watch, watch_on};
@@ -292,6 +294,16 @@ fn run_begin<'a>(rt: &HostRuntime, given: &ArgMatches<'a>) -> Result<u8, Failure
     Ok(0)
 }
 
+fn run_restore<'a>(rt: &HostRuntime, given: &ArgMatches<'a>) -> Result<u8, Failure<'a>> {
+    let asked = AskedNode {
+        sock: ASKED_SOCK.value(given),
+        control: ASKED_CONTROL.value(given),
+    };
+    let (name, cluster) = (LOG_NAME.value(given), LOG_CLUSTER.value(given));
+    restore_log(rt, LOG.value(given), name, cluster, asked)?;
+    Ok(0)
+}
+
 fn run_sim<'a>(rt: &HostRuntime, given: &ArgMatches<'a>) -> Result<u8, Failure<'a>> {
     Ok(play(rt, detail_of(given))?)
 }
@@ -312,6 +324,7 @@ fn status_of<'a>(
         "log" => run_log(rt, given),
         "purge" => run_purge(rt, given),
         "begin" => run_begin(rt, given),
+        "restore" => run_restore(rt, given),
         "sim" => run_sim(rt, given),
         _ => Ok(USAGE_STATUS),
     }

@@ -241,6 +241,29 @@ pub(crate) const FROM: Part = Part {
     help: "In place of --after: the --sock of a node that heard of N; the version is the last that it heard of, plus 1,048,576",
 };
 
+/// A log in it may have no write, and then is replaced.
+const RESTORED_LOG: Part = Part {
+    name: "log",
+    kind: Kind::Needed,
+    value: "FILE",
+    help: "The file of the log, which does not exist, or has no write",
+};
+
+pub(crate) const ASKED_SOCK: Part = Part {
+    name: "from",
+    kind: Kind::Needed,
+    value: "PATH",
+    help: "The --sock of a node that heard of N; the log begins after the last version that it heard of, plus 1,048,576",
+};
+
+/// It may also be the node itself, if that still runs without its log.
+pub(crate) const ASKED_CONTROL: Part = Part {
+    name: "from-control",
+    kind: Kind::Needed,
+    value: "PATH",
+    help: "The --control of a node that shows the rows of N, as of that node",
+};
+
 /// Left out: frames only in hexadecimal
 pub(crate) const EXPLAIN: Part = Part {
     name: "explain",
@@ -652,6 +675,19 @@ const BEGIN_TASK: Task = Task {
     parts: &[NEW_LOG, LOG_NAME, LOG_CLUSTER, AFTER, FROM],
 };
 
+const RESTORE_TASK: Task = Task {
+    name: "restore",
+    about: "Makes a log for a name whose log is lost, with the rows that a node shows",
+    more: help::RESTORE,
+    parts: &[
+        RESTORED_LOG,
+        LOG_NAME,
+        LOG_CLUSTER,
+        ASKED_SOCK,
+        ASKED_CONTROL,
+    ],
+};
+
 const SIM_TASK: Task = Task {
     name: "sim",
     about: "Plays a script of many nodes in memory, from standard input to standard output",
@@ -660,7 +696,7 @@ const SIM_TASK: Task = Task {
 };
 
 /// The commands, in the order of the help.
-pub(crate) const TASKS: [Task; 11] = [
+pub(crate) const TASKS: [Task; 12] = [
     SERVE_TASK,
     SET_TASK,
     DEL_TASK,
@@ -671,6 +707,7 @@ pub(crate) const TASKS: [Task; 11] = [
     LOG_TASK,
     PURGE_TASK,
     BEGIN_TASK,
+    RESTORE_TASK,
     SIM_TASK,
 ];
 

@@ -69,6 +69,10 @@ pub(crate) enum FaultPlace<'a> {
     UnreadableLog(&'a str),
     /// At the file of a log, which another process has open.
     LockedLog(&'a str),
+    /// At the file of a log, which is a link.
+    LinkedLog(&'a str),
+    /// At the file of a log that does not exist, beside which there is the `-wal` of one.
+    OldWal(&'a str),
     /// At a control socket at which no node could be reached.
     Unreached(&'a str, Obstacle),
     /// At a control socket whose node moved no byte for too long.
@@ -77,6 +81,8 @@ pub(crate) enum FaultPlace<'a> {
     Control(&'a str),
     /// In the node at a control socket, which answered with this fault.
     Node(&'a str),
+    /// In the rows that the node at a control socket shows of a name.
+    NoRows(&'a str),
     /// At a socket for peers at which no node could be reached.
     NoPeer(&'a str, Obstacle),
     /// At a socket for peers whose node moved no byte for too long.
@@ -133,6 +139,21 @@ impl<'a> Failure<'a> {
             place: FaultPlace::Log(path),
             cause: Some(cause),
             line: 0,
+        }
+    }
+
+    /// The same, met at the log that was to come to a path, in place of the file beside it in which that log was made.
+    pub(crate) fn of_log<'b>(self, path: &'b str) -> Failure<'b> {
+        let place = match self.place {
+            FaultPlace::NoLogFolder(_) => FaultPlace::NoLogFolder(path),
+            FaultPlace::LockedLog(_) => FaultPlace::LockedLog(path),
+            _ => FaultPlace::Log(path),
+        };
+        Failure {
+            fault: self.fault,
+            place,
+            cause: self.cause,
+            line: self.line,
         }
     }
 
@@ -209,6 +230,8 @@ fn text_of_store(place: FaultPlace<'_>) -> Option<&'static str> {
         FaultPlace::NoLogFolder(_) => "there is no such log: its folder does not exist",
         FaultPlace::UnreadableLog(_) => "the log cannot be opened",
         FaultPlace::LockedLog(_) => "another process has the log open",
+        FaultPlace::LinkedLog(_) => "the path of the log is a link",
+        FaultPlace::OldWal(_) => "there is no such log, but a file of its name with -wal",
         _ => return None,
     })
 }
@@ -225,6 +248,7 @@ fn closer_text(fault: &Fault, place: FaultPlace<'_>) -> Option<&'static str> {
         (Fault::NothingThere, FaultPlace::Session(_)) => Some(
             "the node has heard nothing of this name",
         ),
+        (Fault::NothingThere, FaultPlace::NoRows(_)) => Some("the node shows no row of this name"),
         _ => None,
     }
 }
@@ -278,10 +302,13 @@ impl fmt::Display for FaultPlace<'_> {
             | FaultPlace::NoLog(path)
             | FaultPlace::NoLogFolder(path)
             | FaultPlace::UnreadableLog(path)
-            | FaultPlace::LockedLog(path) => write!(f, "log {path}: "),
+            | FaultPlace::LockedLog(path)
+            | FaultPlace::LinkedLog(path)
+            | FaultPlace::OldWal(path) => write!(f, "log {path}: "),
             FaultPlace::Unreached(path, _)
             | FaultPlace::Silent(path)
             | FaultPlace::Control(path)
+            | FaultPlace::NoRows(path)
             | FaultPlace::Node(path) => write!(f, "control socket {path}: "),
             FaultPlace::NoPeer(path, _)
             | FaultPlace::SilentPeer(path)

@@ -143,6 +143,36 @@ Examples:
   $ attrdir purge --log a.log --name a --cluster c --all
   purged 3";
 
+pub(crate) const RESTORE: &str =
+    "A node whose log is lost must not use its old versions again; see `attrdir begin --help`. This command makes such a log as begin --from does, and
+writes all rows of the name into it that the node at --from-control shows. Once the node runs with this log, the others show these rows in place of
+the old ones, all at once. What neither node heard of is lost. What was removed, and the removal not heard of, comes back.
+
+First end the node and what starts it again, if it still runs. If it still answers, give its own --control, since it may have rows that nobody else
+heard of, and end it afterwards. Else ask the node that has the greatest version of the name: `attrdir owners` prints it.
+
+The log is there as a whole, or not at all: it is made in FILE.restore, which is then renamed. A FILE.restore that a killed command left is replaced.
+If FILE has writes, or was made by `begin`, it is refused and stays as it is. To restore in its place, move it and its -wal away first.
+
+It prints `restored ROWS last V`: how many rows there are, and the last version of the log. A fault ends the command. Standard error has `fault N`, its
+text, and what to do:
+  1       no memory
+  2       a name
+  5, 8    no version is left
+  9       the node at --from heard nothing of the name, or the one at --from-control shows no row of it
+  17      the line cannot be written; the log is there
+  18      the file cannot be read or written, is open in another process, or is a link; or FILE-wal is there, and no FILE
+  19      the file is not a log of this release, or it is damaged
+  20      the log belongs to another owner or cluster
+  31      the log has writes, or was made by `begin`
+Also those of `attrdir owners`, of the node at --from, and those of `attrdir get`, of the node at --from-control.
+
+The exit status is 0, 2 after a wrong command line, and 3 after a fault.
+
+Example, in which the file of node a is gone, and node b heard of its version 4 and shows two rows:
+  $ attrdir restore --log a.log --name a --cluster c --from b.sock --from-control b.ctl
+  restored 2 last 1048582";
+
 pub(crate) const BEGIN: &str =
     "A node whose log is lost must not use its old versions again. Others hold what it wrote, and would ignore new writes under these versions. This
 command makes a log that begins after a version V. The log holds nothing, and its next write has the version after V. Once the node runs with it, the

@@ -147,6 +147,24 @@ pub(crate) fn make_log<'a>(
     log_in(rt, path, owner, cluster, VERSION_MOST)
 }
 
+/// Whether another process has the log at a path open. Otherwise it makes the file, if there is none.
+pub(crate) fn is_locked(rt: &HostRuntime, path: &str) -> bool {
+    match Connection::open(rt, path) {
+        Ok(_) => false,
+        Err(error) => matches!(StoreCause::of(&error), StoreCause::Locked),
+    }
+}
+
+/// Copies what the `-wal` of a log has into the file of the log, which nobody has open. From then on that file has the whole
+/// log. The faults of `connect`, and `StoreFailed`.
+pub(crate) fn settle_log<'a>(rt: &HostRuntime, path: &'a str) -> Result<(), Failure<'a>> {
+    let conn = connect(rt, path)?;
+    match conn.close() {
+        Ok(()) => Ok(()),
+        Err(error) => Err(Failure::of_store(path, StoreCause::of(&error))),
+    }
+}
+
 /// Prints what a log holds, and ends it. The faults of `log_run`, then those of `close`.
 fn print_lines<L: WriteLog>(rt: &HostRuntime, log: L) -> Result<(), LogError> {
     let mut log = log;

@@ -12,6 +12,8 @@
 //!   `tools/check-node` refuse it.
 //! - `begin` begins after another version within the limits, or asks another node. `tools/check-logs` and
 //!   `tools/check-node` refuse it.
+//! - `restore` asks another node, leaves rows out, makes half a log, or leaves a file beside the log. `tools/check-node`
+//!   refuses it.
 //! - `serve`, `set`, `del`, `get`, `watch`, `status` or `owners` opens another file or socket, sends another request,
 //!   or prints something else. `tools/check-node` refuses it.
 //! - The file of `serve --metrics` has other numbers, is read half written, replaces another file, or outlives the
@@ -44,6 +46,7 @@ mod owners;
 mod part;
 mod pausing;
 mod release;
+mod restoring;
 mod serving;
 mod status;
 mod troubles;

@@ -5,7 +5,7 @@ ghost use Rattle.attrdir.specs.Status as spec;
 use crate::asking::{RowFormat, answer_of, unanswered};
 use crate::failure::{Failure, FaultPlace};
 use crate::output::Output;
-use sb_codec::{AskStatus, Figure, FigureKind, Message, NodeStatus, PeerStatus};
+use sb_codec::{AskStatus, Figure, FigureKind, Message, NodeIdentity, NodeStatus, PeerStatus};
 use sb_query::status_in;
 use sb_run::LogCause;
 use sb_types::{Fault, KIND_NODE_STATUS, Name, ShortText, Spelled};
@@ -34,6 +34,15 @@ fn page_of<'a>(rt: &HostRuntime, control: &'a str, after: u64) -> Result<NodeSta
         Ok(status) => Ok(status),
         Err(reason) => Err(unanswered(control, reason)),
     }
+}
+
+/// Asks which node it is that answers at a control socket.
+pub(crate) fn ask_identity<'a>(
+    rt: &HostRuntime,
+    control: &'a str,
+) -> Result<NodeIdentity, Failure<'a>> {
+    let status = page_of(rt, control, 0)?;
+    Ok(*status.identity())
 }
 
 /// Asks how a node is until all of its peers have come. `Malformed(KIND_NODE_STATUS)` too, if an answer has no peer although more follow.

@@ -56,7 +56,11 @@ impl<'a> Pager for Collector<'_, 'a> {
 }
 
 /// Asks for all rows, page after page, and returns them.
-fn listing<'a>(rt: &HostRuntime, control: &'a str, asked: &Ask) -> Result<Vec<Row>, Failure<'a>> {
+pub(crate) fn listing<'a>(
+    rt: &HostRuntime,
+    control: &'a str,
+    asked: &Ask,
+) -> Result<Vec<Row>, Failure<'a>> {
     let rows = Vec::new(rt.alloc());
     let mut collector = Collector { rt, control, rows };
     take_all(control, &mut collector, *asked)?;
