@@ -6,9 +6,9 @@ _attrdir() {
   COMPREPLY=()
 
   # what is completed, by tools/options
-  local commands='serve set del get watch status owners log purge begin sim'
+  local commands='serve set del get watch status owners log purge begin restore sim'
   local flags='--log-time --raw --value --mark --retry --all --explain --help --version -h -V --'
-  local paths='--log --sock --control --metrics --from'
+  local paths='--log --sock --control --metrics --from --from-control'
   local -A values_of=(
     [--order]='breadth depth'
     [--on-log-fault]='serve exit'
@@ -27,6 +27,7 @@ _attrdir() {
     [log]='--log --name --cluster --help'
     [purge]='--log --name --cluster --all --help'
     [begin]='--log --name --cluster --after --from --help'
+    [restore]='--log --name --cluster --from --from-control --help'
     [sim]='--explain --help'
   )
   local kinds='addr weight flag text'

@@ -241,7 +241,7 @@ pub(crate) const FROM: Part = Part {
     help: "In place of --after: the --sock of a node that heard of N; the version is the last that it heard of, plus 1,048,576",
 };
 
-/// A log in it may have no write, and then is replaced.
+/// A log without writes is replaced.
 const RESTORED_LOG: Part = Part {
     name: "log",
     kind: Kind::Needed,
