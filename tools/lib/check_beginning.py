@@ -1,6 +1,7 @@
-"""The parts of tools/check-node that look at `begin`: at what it takes and refuses, at a node whose log is lost, and at a name that is to end."""
+"""The parts of tools/check-node that look at `begin` and `restore`: at what they take and refuse, at a node whose log is lost, and at a name that is to end."""
 import subprocess
 import threading
+import time
 
 from nodes import SECONDS, exchange, long_text, put, run, want
 
@@ -15,6 +16,18 @@ def begin(check, node, *words, name=None, log=None):
     places = ["--log", str(log or node.log), "--name", name or node.name, "--cluster", "c"]
     status, printed, said = run(check.program, "begin", *places, *map(str, words))
     return status, printed, said.splitlines()
+
+
+def restore(check, node, asked, shown=None, name=None, log=None):
+    """The status of `restore` for a node from this one, or with the rows of another, what it printed, and the lines that it said."""
+    places = ["--log", str(log or node.log), "--name", name or node.name, "--cluster", "c"]
+    status, printed, said = run(check.program, "restore", *places, "--from", str(asked.sock), "--from-control", str((shown or asked).control))
+    return status, printed, said.splitlines()
+
+
+def files_of(log):
+    """The names of the files of a log, and of those beside it."""
+    return sorted(it.name for it in log.parent.glob(log.name + "*"))
 
 
 def want_fault(what, found, fault, about=""):
@@ -161,4 +174,102 @@ def without_a_gap(check):
     want("how many rows the peer had meanwhile", set(looks), {count})
 
 
-PARTS = (begin_words, lost_log, without_a_gap, ended_name)
+def restore_words(check):
+    """What restore refuses, what it leaves then, and which files at the path of the log it replaces."""
+    folder = check.folder()
+    peer, idle = check.node("b", folder=folder).start(), check.node("d", folder=folder).start()
+    lost, gone = (check.node(name, "--pause", "20", folder=folder, peers=[peer.sock]).start() for name in ("a", "gone"))
+    want("writes", [lost.put("x", 1), lost.put("y", 2), gone.put("z", 3)], [1, 2, 1])
+    want("a removal", gone.command("del", "z"), (0, "version 2\n", ""))
+    peer.awaits("the rows of a", lambda found: found == ["a x 1 weight 1", "a y 2 weight 2"])
+    while "gone 2\n" not in run(check.program, "owners", "--sock", str(peer.sock), "--cluster", "c")[1]:
+        time.sleep(0.02)
+    for node in (lost, gone):
+        node.kill()
+    at = ["--log", str(lost.log), "--name", "a", "--cluster", "c"]
+    for wrong in (at, [*at, "--from", str(peer.sock)], [*at, "--from-control", str(peer.control)], [*at, "--from", "x", "--from-control", "y", "7"]):
+        want(f"restore {wrong[6:]}", run(check.program, "restore", *wrong)[:2], (2, ""))
+    want_fault("a log with writes", restore(check, lost, peer), 31, "its next write has version 3")
+    want("what its log holds", lines_of(check, lost), "a x 1 weight 1\na y 2 weight 2\nlast 2\n")
+    want("the files of it", files_of(lost.log), ["a.log", "a.log-wal"])
+    new = folder / "new.log"
+    want_fault("a name that is none", restore(check, lost, peer, name="A", log=new), 2, "--name")
+    want_fault("a node that is not there", restore(check, lost, lost, log=new), 16, "no node could be reached")
+    want_fault("a control socket that is not there", restore(check, lost, peer, shown=lost, log=new), 16, "no node could be reached")
+    want_fault("the name of the node that is asked", restore(check, lost, peer, name="b", log=new), 24)
+    want_fault("a name of which nothing was heard", restore(check, lost, peer, name="zz", log=new), 9, "heard nothing of this name")
+    want_fault("a name without rows", restore(check, lost, peer, name="gone", log=new), 9, "shows no row of this name")
+    want_fault("a node that shows none", restore(check, lost, peer, shown=idle, log=new), 9, "shows no row of this name")
+    want_fault("a log in no folder", restore(check, lost, peer, log=folder / "nowhere" / "a.log"), 18, "its folder does not exist")
+    want("what was made", files_of(new), [])
+    lost.start()
+    want_fault("a log of a node that runs", restore(check, lost, peer), 18, "another process has the log open")
+    want_fault("that node for the name", restore(check, lost, lost), 24)
+    lost.log.rename(folder / "old.log")
+    want_fault("a -wal alone", restore(check, lost, peer), 18, "of its name with -wal")
+    lost.log.with_name("a.log-wal").rename(folder / "old.log-wal")
+    lost.log.symlink_to("new.log")
+    want_fault("a link", restore(check, lost, peer), 18, "is a link")
+    lost.log.unlink()
+    text = "no log, but a text that is long enough to be read as one, were it one\n" * 20
+    lost.log.write_text(text)
+    want_fault("a file that is no log", restore(check, lost, peer), 19)
+    want("that file", lost.log.read_text(), text)
+    lost.log.unlink()
+    # a log without writes, and what a command that was killed left; the rows are those of the node itself
+    lost.log.touch()
+    lost.log.with_name("a.log.restore").write_text(text)
+    want("what restore prints", restore(check, lost, peer, shown=lost), (0, f"restored 2 last {4 + MORE}\n", []))
+    want("the files of it", files_of(lost.log), ["a.log"])
+    lost.kill()
+    want("what its log holds", lines_of(check, lost), f"a x {3 + MORE} weight 1\na y {4 + MORE} weight 2\nlast {4 + MORE}\n")
+    busy = check.node("a", folder=folder)
+    busy.log = folder / "new.log.restore"
+    busy.log.touch()
+    busy.start()
+    want_fault("a file beside it that is open", restore(check, lost, peer, log=new), 18, "another process has the log open")
+    want("what was made", new.exists(), False)
+
+
+def restored_log(check):
+    """A log that is lost is restored with more rows than a frame has room for: whole or not at all, wherever it is killed. Others show the old rows
+    until all new ones came, and the node goes on after them."""
+    folder, count = check.folder(), 600
+    peer = check.node("b", folder=folder).start()
+    lost = check.node("a", folder=folder, peers=[peer.sock]).start()
+    for at in range(count):
+        exchange(lost.control, put(f"k{at:03}", long_text(f"{at:03} " + 200 * "x")))
+    versions = lambda: [int(it.split()[2]) for it in peer.get("--owner", "a")]
+    peer.awaits("the rows of a", lambda _: versions() == list(range(1, count + 1)))
+    lost.kill()
+    values = [it.split(" ", 3)[1::2] for it in peer.get("--owner", "a")]
+    for end in ("", "-wal"):
+        lost.log.with_name(lost.log.name + end).unlink()
+    words = ["restore", "--log", str(lost.log), "--name", "a", "--cluster", "c", "--from", str(peer.sock), "--from-control", str(peer.control)]
+    for turn in range(20):
+        ran = subprocess.Popen([check.program, *words], stdout=subprocess.DEVNULL, stderr=subprocess.DEVNULL)
+        time.sleep(0.01 * turn)
+        ran.kill()
+        ran.wait()
+        if lost.log.exists():
+            want("the lines of a log that is there", lines_of(check, lost).count("\n"), count + 1)
+            for name in files_of(lost.log):
+                (folder / name).unlink()
+    want("what restore prints", restore(check, lost, peer), (0, f"restored {count} last {2 * count + MORE}\n", []))
+    want("the files of it", files_of(lost.log), ["a.log"])
+    looks, is_over = [], threading.Event()
+    looking = threading.Thread(target=lambda: [looks.append(len(versions())) for _ in iter(is_over.is_set, True)])
+    looking.start()
+    try:
+        lost.start()
+        peer.awaits("the new rows", lambda _: versions() == list(range(count + MORE + 1, 2 * count + MORE + 1)))
+    finally:
+        is_over.set()
+        looking.join()
+    want("how many rows the peer had meanwhile", set(looks), {count})
+    want("the values of the new rows", [it.split(" ", 3)[1::2] for it in peer.get("--owner", "a")], values)
+    want("the next write", lost.put("new", 1), 2 * count + MORE + 1)
+    peer.awaits("the next write", lambda found: f"a new {2 * count + MORE + 1} weight 1" in found)
+
+
+PARTS = (begin_words, lost_log, without_a_gap, ended_name, restore_words, restored_log)

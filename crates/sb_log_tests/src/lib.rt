@@ -32,6 +32,8 @@ mod purges;
 mod visits;
 #[cfg(test)]
 mod writes;
+#[cfg(test)]
+mod written_back;
 
 #[cfg(test)]
 use std::fmt::Debug;
