@@ -12,3 +12,4 @@ pub mod Arriving
 pub mod StatusPages
 pub mod StatusTexts
 pub mod StatusAnswers
+pub mod LeavingOut

@@ -71,7 +71,8 @@ step_true writes opening settings all run (TookOwn e) before may step (inl same)
 step_true writes opening settings all run (TookOwn e) before may step (inr s) = absurd s
 step_true writes opening settings all run (Applied blocks ends) before may step s =
     let r = took_of blocks ends step s in
-    let given = before may.0 may.1 blocks r.0 may.2 r.2 in
+    let by = may r.0 r.2 in
+    let given = before by.0 by.2 by.1 r.0 by.3 by.4 in
     subst (IsTrue writes (opening run).held.me) r.3 given
 step_true writes opening settings all run (Purged floor) before may step (inl same) = subst (IsTrue writes (opening run).held.me) same (tt, tt)
 step_true writes opening settings all run (Purged floor) before may step (inr s) = absurd s

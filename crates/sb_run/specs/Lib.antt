@@ -2,6 +2,7 @@ pub mod OwnWriting
 pub mod OwnPurging
 pub mod OneMessage
 pub mod Control
+pub mod Forgetting
 pub mod Gates
 pub mod Hellos
 pub mod Pools

@@ -4,6 +4,7 @@ use Rattle.std.specs.List.{flat_map}
 use mathlib.Core.List.{IsPrefix}
 use Rattle.sb_types.specs.declared.entry.Write.{Write}
 use Rattle.sb_types.specs.Records.{Block, Settings}
+use Rattle.sb_types.specs.Runs.{Stands}
 use Rattle.sb_types.specs.Writes.{Written}
 use Rattle.sb_holdings.specs.Nodes.{Node, IsNode, NodeHolds}
 use Rattle.sb_digest.specs.Digests.{Digest}
@@ -34,11 +35,16 @@ abbrev pub CanGive : (ℕ → Node) → (ℕ → Settings) → List RunEvent →
 CanGive opening settings all blocks =
     (run : ℕ) × (digest : Digest) × AnswersAfter (opening run) (settings run) (history_of run all) (gives digest (Ok blocks))
 
--- after all this a run may take a write of its owner, and a delta that some run could give by then: late, again, in any order, or never.
--- And it may purge its own table
+-- the block is in a delta that some run could give by then
+abbrev pub GivenBy : (ℕ → Node) → (ℕ → Settings) → List RunEvent → Block → Type 0
+GivenBy opening settings all b =
+    (earlier : List RunEvent) × (given : List Block) × IsPrefix earlier all × CanGive opening settings earlier given × Stands given b
+
+-- after all this a run may take a write of its owner, and blocks each of which is in a delta that some run could give by then: late, again, in
+-- any order, without others, or never. And it may purge its own table
 abbrev pub MayHappen : (List ℕ → List Write) → (ℕ → Node) → (ℕ → Settings) → List RunEvent → ℕ → Event → Type 0
 MayHappen writes opening settings all run (TookOwn e) = Written (writes (opening run).held.me) e
-MayHappen writes opening settings all run (Applied blocks ends) = (earlier : List RunEvent) × IsPrefix earlier all × CanGive opening settings earlier blocks
+MayHappen writes opening settings all run (Applied blocks ends) = (b : Block) → Stands blocks b → GivenBy opening settings all b
 MayHappen writes opening settings all run (Purged floor) = Unit {0}
 
 -- each of these events came when it could

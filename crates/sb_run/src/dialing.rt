@@ -4,6 +4,7 @@ ghost use Rattle.sb_directory.specs.Serving.{IsStill, IsLater};
 ghost use Rattle.sb_run.specs.Hellos.{Greets};
 
 use crate::dialer::RoundsTag;
+use crate::forgetting::ForgettingHandler;
 use crate::gate::GatedHandler;
 use crate::peers::{DownReason, PeerState};
 use crate::pool::session_of;
@@ -71,10 +72,12 @@ impl<S: RoundsTag, H: Wait + Drop, Q: Wait> NodeContext<'_, S, H, Q> {
         ensures reads { connection.new.steps ≤ connection.old.steps + self.now.pace.max_reads }
     {
         let served = SeatHandler::new(self.rt, self.directory, seat);
-        let mut handler = GatedHandler::new(served, self.bell, 0);
+        let gated = GatedHandler::new(served, self.bell, 0);
+        let mut handler = ForgettingHandler::new(gated, self.alloc, self.forgotten);
         let session = session_of(self.directory);
         let ended = dial(connection, session, &mut handler, exchanges);
-        (handler.into_inner().into_seat(), ended)
+        let gated = handler.into_inner();
+        (gated.into_inner().into_seat(), ended)
     }
 }
 

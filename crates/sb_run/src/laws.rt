@@ -1,5 +1,5 @@
 //! What follows from the definitions alone. The functions do nothing: each clause is a law.
-ghost use Rattle.std.specs.Prelude.{◌≡◌, ℕ, ◌≤◌, Bool, true, List, length, Option, Some, Ok};
+ghost use Rattle.std.specs.Prelude.{◌≡◌, ℕ, ◌≤◌, Bool, true, false, List, length, Option, Some, Ok};
 ghost use Rattle.std.specs.List.{flat_map};
 ghost use mathlib.Core.List.{IsPrefix};
 ghost use Rattle.sb_types.specs.declared.entry.Slot.TheVariants.{Set};
@@ -17,6 +17,7 @@ ghost use Rattle.sb_views.specs.NodeViews.{NodeView, upto_of, row_of};
 ghost use Rattle.sb_views.specs.Histories.{node_events_of, node_after};
 ghost use Rattle.sb_views.specs.Publishing.{IsView};
 ghost use Rattle.sb_directory.specs.Serving.{AnswersAfter};
+ghost use Rattle.sb_run.specs.Forgetting.{is_forgotten, kept_blocks};
 ghost use Rattle.sb_run.specs.Together.{RunEvent, history_of, AreOpened, CanGive, HappenInTurn};
 
 use sb_digest::digests_are_true;
@@ -71,8 +72,8 @@ pub fn running_nodes_keep_truth()
 
 /// What running nodes give is true and exact if they are given nothing but what one of them gave. Take any lists of writes, one
 /// for each owner, and any number of runs. Each is of a node that opened with what is true of the writes, also after a crash.
-/// Take all that happens to them, in one order (`HappenInTurn`). A run takes writes of its owner, and deltas that some run
-/// could give by then, which come late, again, in any order, or never. Then in each run:
+/// Take all that happens to them, in one order (`HappenInTurn`). A run takes writes of its owner, and blocks of deltas that some
+/// run could give by then. They come late, again, in any order, without others of their delta, or never. Then in each run:
 ///
 /// - `given`: what a view has under an owner and a key was written by that owner under that version.
 /// - `exact`: a write whose key was not written again, at or below the version that the view shows of its owner, is what the
@@ -115,3 +116,14 @@ pub fn running_nodes_tell_truth()
     nodes_hold();
     answers_are_honest();
 }
+
+/// Law: the blocks that are left of a delta without those of forgotten owners.
+///
+/// - `out`: each is a block of the delta, and of no such owner.
+/// - `all`: each other block of the delta is left.
+pub fn forgotten_owners_stay_out()
+    ensures out { (names : List (List ℕ)) (blocks : List Block) (b : Block) →
+        Stands (kept_blocks names blocks) b → Stands blocks b × (is_forgotten names b.owner ≡ false) }
+    ensures all { (names : List (List ℕ)) (blocks : List Block) (b : Block) →
+        Stands blocks b → is_forgotten names b.owner ≡ false → Stands (kept_blocks names blocks) b }
+{}

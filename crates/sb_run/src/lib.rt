@@ -21,6 +21,7 @@
 //!         settings,
 //!         paths: *paths,
 //!         pace,
+//!         forgotten: &[],
 //!     };
 //!     run_node(rt, alloc, config, log, &Nobody)
 //! }
@@ -98,6 +99,8 @@
 //!   Tests and `tools/check-node` refuse it.
 //! - The status of a node has a wrong uptime or a wrong count of owners, removals, rounds, workers or troubles. Clauses
 //!   cover its version, its keys, its conflict, and whether it is caught up. Tests and `tools/check-node` refuse it.
+//! - A session takes blocks of an owner that the node is to forget, since it has no `ForgettingHandler`. Or the observer
+//!   learns of another owner, or never. The tests of `sb_run` and `tools/check-node` refuse it.
 //! - `OwnWrites::put`, `serve_control`, `ask_control`, `serve_pool` or `run_node` never returns. Tests end.
 #![tactic(auto)]
 
@@ -112,6 +115,7 @@ mod dialer;
 mod dialing;
 mod facts;
 mod first_message;
+mod forgetting;
 mod gate;
 mod laws;
 mod node;
@@ -128,8 +132,9 @@ mod status_texts;
 mod threads;
 
 pub use control::ask_control;
+pub use forgetting::ForgottenOwners;
 pub use gate::{Gate, GatePoint, Open};
-pub use laws::{running_nodes_keep_truth, running_nodes_tell_truth};
+pub use laws::{forgotten_owners_stay_out, running_nodes_keep_truth, running_nodes_tell_truth};
 pub use node::{NodeConfig, OnLogFault, Pace, Paths, Ran, Runtime, run_closed_node, run_node};
 pub use observer::{LogCause, LogLoss, Nobody, Observer, PushCounts, Status, Troubles};
 pub use own_writes::{OwnWrites, Stored};

@@ -9,6 +9,7 @@ use crate::arrivals::{Asked, new_handover};
 use crate::bell::Bell;
 use crate::counts::Counts;
 use crate::dialer::{Dialing, RoundsTag, rounds_channel};
+use crate::forgetting::ForgottenOwners;
 use crate::observer::Observer;
 use crate::own_writes::{ClosableLog, OwnWrites};
 use crate::sockets::BoundSockets;
@@ -19,7 +20,7 @@ use sb_directory::Directory;
 use sb_log::WriteLog;
 use sb_node::NodeCore;
 use sb_table::Table;
-use sb_types::{Fault, Settings};
+use sb_types::{Fault, Name, Settings};
 use sb_views::NewHistory;
 use std::alloc::Global;
 use std::marker::Brand;
@@ -76,12 +77,14 @@ pub struct Pace {
     pub purge_removals: u64,
 }
 
-/// What a node is to do: its settings, its sockets and its pace.
+/// What a node is to do: its settings, its sockets and its pace, and which owners it forgets.
 #[derive(Clone, Copy, Debug)]
 pub struct NodeConfig<'a> {
     pub settings: Settings,
     pub paths: Paths<'a>,
     pub pace: Pace,
+    /// The owners whose rows it does not take from its peers, as if it had no room for them. Its own name does not count.
+    pub forgotten: &'a [Name],
 }
 
 /// What a node did.
@@ -153,6 +156,9 @@ fn start_refusal<L: WriteLog>(settings: &Settings, log: &L) -> Option<Fault>
 /// If a fault of its store closes the log, the node reports that to the observer, and goes on or ends, as `on_log_fault` says.
 /// It does the same if the observer finds that the file of the log is lost: it closes the log, and refuses writes by `Closed`.
 ///
+/// The node takes no block of an owner that it is to forget, whoever sends it, so it holds nothing of it. After a round it reports
+/// to the observer that a peer still had rows of that owner.
+///
 /// After each of these faults no file is left that was not there before:
 ///
 /// - `BadSetting` if there are fewer seats than two beside one for each worker.
@@ -178,6 +184,7 @@ pub fn run_node<
         settings,
         paths,
         pace,
+        forgotten,
     } = config;
     if let Some(fault) = start_refusal(&settings, &log) {
         return Err(fault);
@@ -186,6 +193,7 @@ pub fn run_node<
         settings,
         paths,
         pace,
+        forgotten,
     };
     let mut log = log;
     let table = log.load(alloc)?;
@@ -223,11 +231,13 @@ pub fn run_closed_node<
         settings,
         paths,
         pace,
+        forgotten,
     } = config;
     let config = NodeConfig {
         settings,
         paths,
         pace,
+        forgotten,
     };
     if log.cause().is_none() {
         run_node(rt, alloc, config, log, observer)
@@ -259,6 +269,7 @@ fn run_with_table<
         settings,
         paths,
         pace,
+        forgotten,
     } = config;
     if let Some(fault) = start_refusal(&settings, &log) {
         return Err(fault);
@@ -267,6 +278,7 @@ fn run_with_table<
         settings,
         paths,
         pace,
+        forgotten,
     };
     run_opened(
         rt,
@@ -302,14 +314,20 @@ fn run_opened<
         settings,
         paths,
         pace,
+        forgotten,
     } = config;
+    let forgotten = ForgottenOwners::new(alloc, forgotten, writes.owner())?;
     let core = NodeCore::open(alloc, settings, *writes.owner(), table)?;
     let directory = DirectoryStart {
         new_history: NewHistory::new(),
         blank: Blank::new(settings.seats()),
         core,
     };
-    let start = NodeStart { directory, writes };
+    let start = NodeStart {
+        directory,
+        forgotten,
+        writes,
+    };
     run_tagged::<Brand, L, R, O>(rt, alloc, start, &paths, pace, observer)
 }
 
@@ -334,6 +352,8 @@ pub(crate) struct DirectoryStart {
 #[derive(Drop)]
 pub(crate) struct NodeStart<L: WriteLog> {
     pub(crate) directory: DirectoryStart,
+    /// The owners that it forgets.
+    pub(crate) forgotten: ForgottenOwners,
     /// Its log, and the write in it that is still to be handed to the directory.
     pub(crate) writes: OwnWrites<ClosableLog<L>>,
 }
@@ -414,7 +434,7 @@ pub(crate) fn run_tagged<
         rounds_sender,
         rounds_receiver,
     };
-    let workers = directory.settings().workers();
+    let (workers, forgotten) = (directory.settings().workers(), start.forgotten);
     let (ending, counts, asked) = (EndFlag::new(), Counts::new(rt, workers), Asked::new());
     let node = NodeContext {
         rt,
@@ -425,6 +445,7 @@ pub(crate) fn run_tagged<
         bell: &bell,
         counts: &counts,
         asked: &asked,
+        forgotten: &forgotten,
         pace,
     };
     let finished = dialing.run_threads(&node, start.writes, thread_seats, links);

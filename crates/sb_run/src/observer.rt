@@ -38,6 +38,7 @@ use std::fmt;
 ///         settings,
 ///         paths: *paths,
 ///         pace,
+///         forgotten: &[],
 ///     };
 ///     match run_node(rt, alloc, config, log, &observer) {
 ///         Ok(_) => Ok(observer.is_noted.load(Ordering::SeqCst)),
@@ -75,6 +76,9 @@ pub trait Observer {
 
     /// The node's own table and its log were purged up to this version while the node runs.
     fn table_purged(&self, _floor: u64) {}
+
+    /// A peer had rows of this owner, which the node forgets. It is called once for each such owner, after a round.
+    fn forgotten_met(&self, _owner: &Name) {}
 
     /// Whether it wants to know how the node is.
     fn wants_status(&self) -> bool {

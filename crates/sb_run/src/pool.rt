@@ -8,6 +8,7 @@ ghost use Rattle.sb_run.specs.Pools.{IsKept, AreKept};
 ghost use Rattle.sb_run.specs.Sources.{IsNumbered, IsQuestion};
 ghost use Rattle.sb_session.specs.Sessions.{new_session};
 
+use crate::forgetting::{ForgettingHandler, ForgottenOwners};
 use crate::gate::{Gate, GatedHandler};
 use core::mem::replace_with;
 use sb_codec::Ask;
@@ -88,11 +89,13 @@ impl<S: DirectoryTag, H: Wait + Drop, Q: Wait> Serving<'_, S, H, Q> {
         ensures reads { connection.new.steps ≤ connection.old.steps + self.now.max_reads }
     {
         let served = SeatHandler::new(self.rt, self.directory, seat);
-        let mut handler = GatedHandler::new(served, gate, number);
+        let gated = GatedHandler::new(served, gate, number);
+        let mut handler = ForgettingHandler::new(gated, self.alloc, self.forgotten);
         let session = session_of(self.directory);
         let ended = serve(connection, session, &mut handler);
         gate.ended(number, &ended);
-        (handler.into_inner().into_seat(), ended.is_err())
+        let gated = handler.into_inner();
+        (gated.into_inner().into_seat(), ended.is_err())
     }
 
     /// Serves the session of this number, and counts it, and whether it ended with a fault. Its reads are the first of a ledger.
@@ -286,6 +289,8 @@ pub struct Serving<'a, S: DirectoryTag, H: Wait + Drop, Q> {
     pub rt: &'a Q,
     pub alloc: Global,
     pub directory: &'a Directory<S, H>,
+    /// Of which owners its sessions take no block.
+    pub forgotten: &'a ForgottenOwners,
     /// How many reads one connection may take.
     pub max_reads: u64,
 }

@@ -10,6 +10,7 @@ use crate::bell::Bell;
 use crate::control_socket::ControlEnd;
 use crate::counts::Counts;
 use crate::dialer::{Dialing, Rounds, RoundsReceiver, RoundsSender, RoundsTag, Turns};
+use crate::forgetting::ForgottenOwners;
 use crate::gate::{Gate, GatePoint};
 use crate::node::{OnLogFault, Pace, Runtime};
 use crate::observer::{LogCause, Observer};
@@ -441,6 +442,7 @@ pub(crate) struct NodeContext<'a, S: RoundsTag, H: Wait + Drop, Q> {
     pub(crate) bell: &'a Bell,
     pub(crate) counts: &'a Counts,
     pub(crate) asked: &'a Asked,
+    pub(crate) forgotten: &'a ForgottenOwners,
     pub(crate) pace: Pace,
     ghost paced: { pace.rounds ≡ S.rounds },
 }
@@ -454,6 +456,7 @@ impl<S: RoundsTag, H: Wait + Drop, Q> NodeContext<'_, S, H, Q> {
             rt: self.rt,
             alloc: self.alloc,
             directory: self.directory,
+            forgotten: self.forgotten,
             max_reads: self.pace.max_reads,
         }
     }
