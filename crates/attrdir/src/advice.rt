@@ -174,6 +174,9 @@ fn about_setting(place: FaultPlace<'_>) -> &'static str {
             "the version that this node heard of, plus 1,048,576, is above 1099511627775: begin with --after, at least 4,096 above the last version; \
 if there is no room for that, end the name by --after 1099511627775, and take a new name"
         }
+        FaultPlace::OwnName(_) => {
+            "this is the node's own name: to end a name, see RUNBOOK, A retired machine"
+        }
         _ => "give 1 to 32 lower-case letters, digits and -",
     }
 }

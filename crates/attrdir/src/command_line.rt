@@ -7,7 +7,7 @@ use crate::commands::{
     AFTER, ALL, ASKED_CONTROL, ASKED_SOCK, ASKING_NAME, CONTROL, COUNT, EVERY, EXPLAIN, FLOOR,
     FORMAT, FROM, KEY, KIND, LOG, LOG_CLUSTER, LOG_NAME, MARK, ONE_KEY, OWNER, PEER_SOCK, PREFIX,
     RAW, RAW_VALUE, REMOVED_KEY, RETRY, STATUS_FORMAT, VALUE, VALUE_ALONE, WAIT, lacks_control,
-    serve_arguments, wrong_number,
+    repeated_option, serve_arguments, wrong_number,
 };
 use crate::failure::Failure;
 use crate::log_file::{Floor, print_log, purge_log};
@@ -84,7 +84,8 @@ fn detail_of(given: &ArgMatches<'_>) -> Detail {
     }
 }
 
-/// Returns whether a number has another character than digits, or a control socket is missing. If so, it prints that.
+/// Returns whether a number has another character than digits, an option is given too often, or a control socket is missing.
+/// If so, it prints that.
 fn has_wrong_words(rt: &HostRuntime, given: &ArgMatches<'_>, command: &str) -> bool {
     if let Some(part) = wrong_number(given, command) {
         let dashes = if part.value.is_empty() { "" } else { "--" };
@@ -92,6 +93,11 @@ fn has_wrong_words(rt: &HostRuntime, given: &ArgMatches<'_>, command: &str) -> b
         let _ = eprintln!(rt;
             "error: invalid value '{text}' for '{dashes}{name}': a number has only digits"
         );
+        return true;
+    }
+    if let Some((part, most)) = repeated_option(given, command) {
+        let name = part.name;
+        let _ = eprintln!(rt; "error: give '--{name}' at most {most} times");
         return true;
     }
     if lacks_control(given, command) {

@@ -16,6 +16,9 @@ use sb_types::{
 };
 use std::alloc::{AllocError, Global};
 
+/// How many names a node forgets at most.
+const FORGOTTEN_MOST: usize = 64;
+
 /// A command.
 #[derive(Clone, Copy)]
 pub(crate) struct Task {
@@ -463,6 +466,16 @@ const PURGE_REMOVALS: Part = Part {
     help: "With N tombstones or more the node drops them, all when it starts and the older half while it runs, 0 for never",
 };
 
+/// It can be given 64 times, once for each name. The node shows no row of it, and nobody hears of one from this node. See [Owners
+/// used up](RUNBOOK.md#owners-used-up).
+/// Left out: none
+const FORGET: Part = Part {
+    name: "forget",
+    kind: Kind::Values(FORGOTTEN_MOST),
+    value: "NAME",
+    help: "Takes no rows of this name, which is dead, from other nodes",
+};
+
 /// It is the time of UTC. For systems without a journal that adds it.
 const LOG_TIME: Part = Part {
     name: "log-time",
@@ -505,8 +518,6 @@ pub(crate) fn serve_arguments<'a>(
     alloc: Global,
     given: &ArgMatches<'a>,
 ) -> Result<ServeArguments<'a>, AllocError> {
-    let mut peers = Vec::new(alloc);
-    peers.extend_from_slice(given.get_strs(PEERS.name).unwrap_or(&[]))?;
     Ok(ServeArguments {
         name: NODE_NAME.value(given),
         log: NODE_LOG.value(given),
@@ -514,7 +525,8 @@ pub(crate) fn serve_arguments<'a>(
         outside: first_outside(given, SERVE_TASK.parts),
         sock: SOCK.value(given),
         control: NODE_CONTROL.value(given),
-        peers,
+        peers: PEERS.values(alloc, given)?,
+        forgotten: FORGET.values(alloc, given)?,
         pace: pace_of(given),
         purge_removals: PURGE_REMOVALS.number(given),
         has_time: LOG_TIME.is_given(given),
@@ -597,6 +609,7 @@ const SERVE_TASK: Task = Task {
         MAX_READS,
         ON_LOG_FAULT,
         PURGE_REMOVALS,
+        FORGET,
         LOG_TIME,
         METRICS,
         METRICS_OWNERS,
@@ -726,6 +739,19 @@ pub(crate) fn wrong_number(given: &ArgMatches<'_>, command: &str) -> Option<&'st
     parts_of(command)
         .iter()
         .find(|part| part.has_wrong_number(given))
+}
+
+/// The first option of a command that was given more often than it may be, and how often that is.
+pub(crate) fn repeated_option(
+    given: &ArgMatches<'_>,
+    command: &str,
+) -> Option<(&'static Part, usize)> {
+    for part in parts_of(command) {
+        if let Some(most) = part.times_exceeded(given) {
+            return Some((part, most));
+        }
+    }
+    None
 }
 
 /// Whether a command needs a control socket, and neither its option nor the environment gives one.

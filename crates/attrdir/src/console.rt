@@ -8,7 +8,7 @@ use crate::release::RELEASE;
 use crate::troubles::TroubleLines;
 use jiff::Timestamp;
 use sb_run::{LogCause, LogLoss, Observer, PeerState, Status};
-use sb_types::{Fault, KEYS_MOST, OWNERS_MOST};
+use sb_types::{Fault, KEYS_MOST, Name, OWNERS_MOST};
 use std::fmt;
 use std::sync::atomic::{AtomicBool, Ordering};
 
@@ -286,6 +286,15 @@ impl Observer for Console<'_, '_> {
             "{head} node {}: fault {}: {fault}; no more writes are taken; where there is no other node of this name, its log is new, an older copy, or began too low: see `attrdir begin --help`",
             self.name,
             fault.number()
+        );
+    }
+
+    fn forgotten_met(&self, owner: &Name) {
+        let (rt, head) = (self.rt, self.head(Level::Warning));
+        let forgotten = str::from_utf8(owner.bytes()).unwrap_or("");
+        let _ = eprintln!(rt;
+            "{head} node {}: another node still has rows of {forgotten}, which this one forgets: see RUNBOOK, Owners used up",
+            self.name
         );
     }
 

@@ -53,6 +53,8 @@ pub(crate) enum FaultPlace<'a> {
     Line,
     /// In a word of the command line: the option or word that it is for, and the word.
     Word(&'a str, &'a str),
+    /// In a name that a node is to forget, which is its own.
+    OwnName(&'a str),
     /// In the kind and the word of a value.
     Value(&'a str, &'a str),
     /// In the number of an option: its name, and the numbers that it takes.
@@ -296,6 +298,7 @@ impl fmt::Display for FaultPlace<'_> {
         match self {
             FaultPlace::Line => Ok(()),
             FaultPlace::Word(what, word) => write!(f, "{what} '{word}': "),
+            FaultPlace::OwnName(name) => write!(f, "--forget '{name}': "),
             FaultPlace::Value(kind, word) => write!(f, "value '{kind} {word}': "),
             FaultPlace::Number(name, _) => write!(f, "--{name}: "),
             FaultPlace::Log(path)

@@ -1,6 +1,7 @@
 //! An option or a word of the command line: how it is given, which values it takes, and how its value is read.
 use crate::failure::FaultPlace;
 use clap::ArgMatches;
+use std::alloc::{AllocError, Global};
 use std::fmt;
 
 /// Which numbers an option takes.
@@ -58,6 +59,8 @@ pub(crate) enum Kind {
     Control,
     /// An option with one value.
     Value,
+    /// An option with one value, which may be given so many times.
+    Values(usize),
     /// An option with one value. If it is not given, this says in words what holds.
     ValueElse(&'static str),
     /// An option with one value. This is the default.
@@ -93,6 +96,26 @@ impl Part {
     /// The value that was given, or the default. The empty text if there is neither.
     pub(crate) fn value<'a>(&self, given: &ArgMatches<'a>) -> &'a str {
         given.get_str(self.name).unwrap_or("")
+    }
+
+    /// All values that were given, each time that it was.
+    pub(crate) fn values<'a>(
+        &self,
+        alloc: Global,
+        given: &ArgMatches<'a>,
+    ) -> Result<Vec<&'a str>, AllocError> {
+        let mut values = Vec::new(alloc);
+        values.extend_from_slice(given.get_strs(self.name).unwrap_or(&[]))?;
+        Ok(values)
+    }
+
+    /// How often it may be given, if it was given more often.
+    pub(crate) fn times_exceeded(&self, given: &ArgMatches<'_>) -> Option<usize> {
+        let times = given.get_strs(self.name).unwrap_or(&[]).len();
+        match self.kind {
+            Kind::Values(most) if times > most => Some(most),
+            _ => None,
+        }
     }
 
     /// The number that was given, or the default. `None` if there is neither.

@@ -12,7 +12,8 @@ use jiff::Timestamp;
 use sb_log::{LogError, WriteLog};
 use sb_run::{NodeConfig, Pace, Paths, Ran, Runtime, run_closed_node, run_node};
 use sb_table::Table;
-use sb_types::{Fault, RawSettings, Settings};
+use sb_types::{Fault, Name, RawSettings, Settings};
+use std::alloc::Global;
 use std::fs::{remove_file, symlink_metadata};
 use std::io::ErrorKind;
 use std::net::{Net, TcpListener, TcpStream};
@@ -33,6 +34,8 @@ pub(crate) struct ServeArguments<'a> {
     pub(crate) sock: &'a str,
     pub(crate) control: &'a str,
     pub(crate) peers: Vec<&'a str>,
+    /// The names of the owners that the node forgets.
+    pub(crate) forgotten: Vec<&'a str>,
     pub(crate) pace: Pace,
     /// From how many tombstones in its log on the node drops them before it starts. 0 is for never.
     pub(crate) purge_removals: u64,
@@ -169,6 +172,25 @@ fn purge_first<'a, L: WriteLog>(
     }
 }
 
+/// The owners that a node of this name is to forget. `BadSetting` if a name is none, or if it is that of the node.
+fn forgotten_of<'a>(
+    alloc: Global,
+    given: &ServeArguments<'a>,
+    own: &Name,
+) -> Result<Vec<Name>, Failure<'a>> {
+    let mut names = Vec::new(alloc);
+    for word in given.forgotten.iter().copied() {
+        let Ok(name) = Name::read(word.as_bytes()) else {
+            return Err(Failure::at(FaultPlace::Word("--forget", word), Fault::BadSetting));
+        };
+        if name == *own {
+            return Err(Failure::at(FaultPlace::OwnName(word), Fault::BadSetting));
+        }
+        names.push(name)?;
+    }
+    Ok(names)
+}
+
 /// What prints the lines of a node, which has printed none yet.
 fn console_of<'r, 'a>(rt: &'r HostRuntime, given: &ServeArguments<'a>) -> Console<'r, 'a> {
     let metrics = match given.metrics {
@@ -202,6 +224,7 @@ fn run<'a, L: WriteLog + Drop, R: Runtime + Net<Listener = TcpListener, Stream =
     runtime: &R,
     given: &ServeArguments<'a>,
     settings: Settings,
+    forgotten: &[Name],
     log: L,
 ) -> Result<(), Failure<'a>> {
     let mut log = log;
@@ -216,6 +239,7 @@ fn run<'a, L: WriteLog + Drop, R: Runtime + Net<Listener = TcpListener, Stream =
         settings,
         paths,
         pace: given.pace,
+        forgotten,
     };
     let ran = match left {
         None => run_node(runtime, rt.alloc(), config, log, &console),
@@ -234,7 +258,7 @@ fn run<'a, L: WriteLog + Drop, R: Runtime + Net<Listener = TcpListener, Stream =
 /// Runs a node. The faults before it opens the log, in this order:
 ///
 /// - `BadName` of its name.
-/// - `BadSetting`, also for too few seats.
+/// - `BadSetting`, also for too few seats, and for a name that it cannot forget.
 /// - `ReadFailed` if the path of a peer cannot be that of a socket.
 /// - `WriteFailed` if metrics would replace something else.
 ///
@@ -253,6 +277,7 @@ pub(crate) fn serve<'a, R: Runtime + Net<Listener = TcpListener, Stream = TcpStr
     if settings.seats() < settings.workers() + 2 {
         return Err(Failure::at(SEATS.place(), Fault::BadSetting));
     }
+    let forgotten = forgotten_of(rt.alloc(), given, &name)?;
     if let Some(path) = unreachable_peer(given) {
         return Err(Failure::at(FaultPlace::Peer(path), Fault::ReadFailed));
     }
@@ -261,5 +286,5 @@ pub(crate) fn serve<'a, R: Runtime + Net<Listener = TcpListener, Stream = TcpStr
     }
     let (cluster, max_version) = (settings.cluster(), settings.max_version());
     let log = open_log(rt, given.log, name, cluster, max_version)?;
-    run(rt, runtime, given, settings, log)
+    run(rt, runtime, given, settings, &forgotten, log)
 }

@@ -126,6 +126,7 @@ fn run_full_disk<R: Host + Net<Listener = TcpListener, Stream = TcpStream>>(
         settings: settings(rt, 3),
         paths: *paths,
         pace,
+        forgotten: &[],
     };
     run_closed_node(rt, alloc, config, log, table, witness)
 }
@@ -142,6 +143,7 @@ fn run_two<R: Host + Net<Listener = TcpListener, Stream = TcpStream>>(
         settings: settings(rt, 3),
         paths: *paths,
         pace,
+        forgotten: &[],
     };
     run_node(rt, alloc, config, log_of_two(rt, alloc), witness)
 }
@@ -240,6 +242,7 @@ fn an_open_log_is_no_closed_one(rt: HostRuntime) {
         settings: settings(&rt, 3),
         paths,
         pace: pace(1, 0),
+        forgotten: &[],
     };
     let log = new_log(&rt, alloc, b"a");
     let ran = run_closed_node(&rt, alloc, config, log, Table::new(alloc), &witness);

@@ -23,6 +23,7 @@ fn run_in_memory<R: Runtime + Net<Listener = TcpListener, Stream = TcpStream>>(
         settings,
         paths: *paths,
         pace,
+        forgotten: &[],
     };
     run_node(rt, alloc, config, log, &Nobody)
 }
@@ -74,6 +75,7 @@ fn run_and_note<R: Runtime + Net<Listener = TcpListener, Stream = TcpStream>, L:
         settings,
         paths: *paths,
         pace,
+        forgotten: &[],
     };
     match run_node(rt, alloc, config, log, &observer) {
         Ok(_) => Ok(observer.is_noted.load(Ordering::SeqCst)),

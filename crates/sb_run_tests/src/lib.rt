@@ -13,6 +13,8 @@ mod examples;
 #[cfg(test)]
 mod failing;
 #[cfg(test)]
+mod forgetting;
+#[cfg(test)]
 mod making;
 #[cfg(test)]
 mod owing;

@@ -5,7 +5,7 @@ use crate::making::new_node;
 use crate::{got, same};
 use sb_directory::{Directory, DirectoryTag, ReaderSeat};
 use sb_node::NodeCore;
-use sb_run::{Gate, GatePoint, Pooled, Serving, Source, Taken};
+use sb_run::{ForgottenOwners, Gate, GatePoint, Pooled, Serving, Source, Taken};
 use sb_types::Fault;
 use sb_views::NewHistory;
 use std::alloc::Global;
@@ -124,10 +124,12 @@ fn serve_from<S: DirectoryTag + Send + Sync, R: Threads + Wait + Clock + Abort +
         has_answered: AtomicBool::new(false),
         turns: course.turns,
     };
+    let none = ForgottenOwners::none(alloc);
     let serving = Serving {
         rt,
         alloc,
         directory,
+        forgotten: &none,
         max_reads: 99,
     };
     match serving.serve_pool(seats, &peers, &gate) {

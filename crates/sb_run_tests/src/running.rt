@@ -104,6 +104,7 @@ pub(crate) fn run_observed<
         settings: settings(rt, 3),
         paths: *paths,
         pace,
+        forgotten: &[],
     };
     run_node(rt, alloc, config, log, observer)
 }
@@ -121,6 +122,7 @@ pub(crate) fn run_log<R: Host + Net<Listener = TcpListener, Stream = TcpStream>>
         settings,
         paths: *paths,
         pace,
+        forgotten: &[],
     };
     run_node(rt, alloc, config, log, &Nobody)
 }

@@ -42,7 +42,7 @@ const WROTE_ONE: Counted = Counted {
 type Ends = [(PeerState, u64); 2];
 
 /// How many owners are shown, and how far a, b and c are.
-type StatusParts = (usize, [u64; 3]);
+pub(crate) type StatusParts = (usize, [u64; 3]);
 
 /// Keeps what was reported last after the round of this number.
 #[derive(Drop)]
@@ -70,7 +70,7 @@ fn counts_of(status: &Status<'_>) -> Counted {
     }
 }
 
-fn parts_of(rt: &impl Abort, status: &Status<'_>) -> StatusParts {
+pub(crate) fn parts_of(rt: &impl Abort, status: &Status<'_>) -> StatusParts {
     let snapshot = &status.snapshot;
     let upto = [
         snapshot.upto(&name(rt, b"a")),
@@ -110,7 +110,7 @@ fn new_listener<R>(rt: &R, behind: u64) -> Listener<'_, R> {
 
 /// Plays the owner, who writes, c, which dials, and b, which is dialed, each with a write of its own. Returns whether
 /// all of it succeeded.
-fn write_and_play<R: Net + Abort>(
+pub(crate) fn write_and_play<R: Net + Abort>(
     rt: &R,
     alloc: Global,
     listener: &UnixListener,
