@@ -144,7 +144,7 @@ impl<'a> Failure<'a> {
         }
     }
 
-    /// The same, met at the log that was to come to a path, in place of the file beside it in which that log was made.
+    /// The same, met at the log at this path in place of another one.
     pub(crate) fn of_log<'b>(self, path: &'b str) -> Failure<'b> {
         let place = match self.place {
             FaultPlace::NoLogFolder(_) => FaultPlace::NoLogFolder(path),

@@ -144,7 +144,7 @@ fn empty_log<'a>(
     }
 }
 
-/// Removes a file. It is no error if there is none.
+/// Removes a file, if there is one.
 fn remove_if_any(rt: &HostRuntime, path: &str) -> io::Result<()> {
     match fs::remove_file(rt, path) {
         Err(error) if error.kind() != io::ErrorKind::NotFound => Err(error),
@@ -183,7 +183,7 @@ fn sync_folder(rt: &HostRuntime, path: &str) -> io::Result<()> {
     fs::File::open(rt, folder)?.sync_all()
 }
 
-/// Puts a whole log at a path, in place of an empty one or of none.
+/// Puts a whole log at a path, where nothing is or an empty log.
 fn put_in_place(rt: &HostRuntime, beside: &str, path: &str) -> io::Result<()> {
     remove_wal(rt, beside)?;
     remove_wal(rt, path)?;
@@ -259,8 +259,8 @@ fn restore_at<'a>(rt: &HostRuntime, path: &'a str, lost: &Lost) -> Result<u64, F
     restore_beside(rt, beside.as_str(), path, lost)
 }
 
-/// Makes a log of an owner in a cluster, which begins far after all that a node heard of the owner, and has the rows that
-/// this node shows of the owner. It prints how many rows there are, and the last version. The faults, in this order:
+/// Makes a log of an owner in a cluster, with the rows that a node shows of that owner. It begins far after all that the node
+/// heard of the owner. Prints how many rows there are, and the last version. The faults, in this order:
 ///
 /// - `BadName` of either name.
 /// - Those of `ask_greatest` and of `rows_of`, and `BadSetting` if that version would be outside the limits. These come

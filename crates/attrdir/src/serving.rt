@@ -172,7 +172,7 @@ fn purge_first<'a, L: WriteLog>(
     }
 }
 
-/// The owners that a node of this name is to forget. `BadSetting` if a name is none, or if it is that of the node.
+/// The owners that a node of this name is to forget. `BadSetting` if a word is not a name, or is the node's own.
 fn forgotten_of<'a>(
     alloc: Global,
     given: &ServeArguments<'a>,

@@ -471,8 +471,8 @@ impl<'a> Turns<'a> {
         node.report_status(observer, counts, self.peers.as_slice(), seat)
     }
 
-    /// Publishes what there was no memory to publish before. It reports to the observer, once, that a peer still has rows of an
-    /// owner that the node forgets, and that another node writes under this node's name.
+    /// Publishes what there was no memory to publish before. It reports to the observer, once each, that a peer has rows of an
+    /// owner to forget, and that another node writes under this node's name.
     fn refresh_and_report<S: RoundsTag, H: Wait + Drop, Q: Wait, O: Observer>(
         &mut self,
         node: &NodeContext<S, H, Q>,

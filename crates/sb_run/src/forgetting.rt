@@ -64,7 +64,7 @@ impl ForgottenOwners {
         Ok(())
     }
 
-    /// Notes of which of them these are blocks.
+    /// Notes whose blocks these are.
     fn note(&self, blocks: &[Block]) {
         for (name, sighting) in self.names.iter().zip(&self.sightings) {
             if blocks.iter().any(|block| block.owner() == name) {
@@ -154,8 +154,8 @@ fn kept_delta(alloc: Global, names: &[Name], delta: &Delta) -> Result<Delta, Fau
     }
 }
 
-/// Adds the end of each block to a list with room for them: `OwnersFull` for a block of these owners, and else the next of the
-/// ends of the kept blocks.
+/// Adds the end of each block to a list with room for them. A block of these owners ends as `OwnersFull`, and each other one as
+/// the next of the kept blocks.
 fn add_ends(ends: &mut Vec<BlockEnd>, names: &[Name], blocks: &[Block], kept: &[BlockEnd])
     requires room { vec_len ends.old + length blocks.now ≤ vec_capacity ends.old }
     ensures { ends.new.items ≡ ends.old.items ++ spec.told_ends names.now blocks.now kept.now }
