@@ -172,6 +172,12 @@ fn purge_first<'a, L: WriteLog>(
     }
 }
 
+/// Adds a name. `NoMemory`.
+fn add_name(names: &mut Vec<Name>, name: Name) -> Result<(), Fault> {
+    names.push(name)?;
+    Ok(())
+}
+
 /// The owners that a node of this name is to forget. `BadSetting` if a word is not a name, or is the node's own.
 fn forgotten_of<'a>(
     alloc: Global,
@@ -186,7 +192,7 @@ fn forgotten_of<'a>(
         if name == *own {
             return Err(Failure::at(FaultPlace::OwnName(word), Fault::BadSetting));
         }
-        names.push(name)?;
+        add_name(&mut names, name)?;
     }
     Ok(names)
 }
