@@ -1,5 +1,5 @@
 //! A log for an owner whose log is lost, with the rows that a node shows of that owner.
-ghost use Rattle.std.specs.Prelude.{◌≡◌, ◌≢◌, [], true, IfOk, OnOk};
+ghost use Rattle.std.specs.Prelude.{◌≡◌, ◌≢◌, [], true, OnOk};
 ghost use Rattle.attrdir.specs.Restoring as spec;
 
 use crate::beginning::version_beyond;

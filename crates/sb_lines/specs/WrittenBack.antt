@@ -45,5 +45,5 @@ pub record PutsRows (old : Log) (rows : List Row) (result : Result (Unit {0}) Fa
 -- all rows are in the log, and its floor is its last version, so that other nodes show them all at once
 pub record IsWrittenBack (old : Log) (rows : List Row) (last : ℕ) (new : Log) : Type 0 where
   pub fits : rows_refusal old.most old.content rows ≡ None
-  pub last : last ≡ (content_with_rows old.content rows).held
+  pub reach : last ≡ (content_with_rows old.content rows).held
   pub content : new.content ≡ content_after_purge last (content_with_rows old.content rows)
