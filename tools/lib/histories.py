@@ -10,6 +10,8 @@ from math import log2
 # how many writers an owner has, and how many keys each of them
 WRITERS, KEYS = 2, 24
 REMOVED = "removed"
+# the keys that are written once, removed once and never written again begin so
+ONCE = "once/"
 # a key of none of the writers, under which hostile callers have an owner write
 DISTURBED = "changed"
 # the name of hostile peers, who write as nobody else
@@ -48,6 +50,59 @@ class Open:
         return f"{self.asked.kind} {self.asked.value}" == words and is_between and self.seen in (0, version)
 
 
+class KeysUsedOnce:
+    """The keys of one owner that are written once, removed once and never written again: the number of each is its value. Threads share it."""
+
+    def __init__(self):
+        self.lock = threading.Lock()
+        self.count = 0
+        # those whose write was answered and whose removal was not asked for; and those that may have a row, or may have none
+        self.written, self.unclear = set(), set()
+
+    def next(self):
+        """Another number, before its write is asked for."""
+        with self.lock:
+            self.count += 1
+            self.unclear.add(self.count)
+            return self.count
+
+    def oldest(self):
+        """The number of the oldest key that is written, before its removal is asked for."""
+        with self.lock:
+            number = min(self.written)
+            self.written.remove(number)
+            self.unclear.add(number)
+            return number
+
+    def settle(self, number, is_written):
+        """What became of the key is clear."""
+        with self.lock:
+            self.unclear.discard(number)
+            if is_written:
+                self.written.add(number)
+
+    def __len__(self):
+        with self.lock:
+            return len(self.written)
+
+    def lose(self):
+        """The log was lost: what each key is now is what others show of it, so nothing is known."""
+        with self.lock:
+            self.unclear |= self.written
+            self.written = set()
+
+    def has(self, row):
+        """Whether somebody asked for the row."""
+        number = row.key.removeprefix(ONCE)
+        return number.isdecimal() and 0 < int(number) <= self.count and row.words == f"weight {int(number)}"
+
+    def losses(self, numbers):
+        """What is wrong with these numbers, of all keys that a node shows which has each write."""
+        with self.lock:
+            yield from (f"{ONCE}{it} is gone" for it in sorted(self.written - numbers))
+            yield from (f"{ONCE}{it} is there, and its removal was answered" for it in sorted(numbers - self.written - self.unclear))
+
+
 class History:
     """The writes of one owner: those that were acknowledged, with their versions, and those that are open. What a number asks for follows
     from the seed and the owner, so no write has to be kept. Threads share it."""
@@ -66,9 +121,11 @@ class History:
         self.answered = {}
         self.versions = {key: array("Q") for key in self.keys}
         self.open = {key: {} for key in self.keys}
+        self.once = KeysUsedOnce()
 
     def lose(self, version):
         """Its log was lost, and begins anew behind this version."""
+        self.once.lose()
         with self.lock:
             self.begun.append(version)
             self.last = max(self.last, version)
@@ -123,6 +180,8 @@ class History:
 
     def has(self, row):
         """Whether the row is a write that the owner was asked for, at the version under which it was acknowledged."""
+        if row.key.startswith(ONCE):
+            return self.once.has(row)
         if row.key not in self.open:
             return could_be_disturbed(row.key, DISTURBED)
         with self.lock:
@@ -168,6 +227,8 @@ class Sight:
         self.histories, self.whole = histories, whole
         # of each owner a version that is held, and of each owner and key the version that was read last
         self.upto, self.seen = {}, {}
+        # of each owner the keys used once that were read last, and those that were read and then were not
+        self.once, self.gone = {}, {}
 
     def holds(self, owner, version):
         """All of the owner's writes up to this version are held by now."""
@@ -177,15 +238,28 @@ class Sight:
         """What is wrong with these rows, all that a node gave in their order."""
         yield from wrong_rows(self.histories, rows)
         yield from self.falls(rows)
+        yield from self.come_back(rows)
         for owner, history in self.histories.items():
             yield from self.losses(history, {it.key: it.version for it in rows if it.owner == owner})
 
     def falls(self, rows):
         for it in rows:
+            # (a key used once has one version)
+            if it.key.startswith(ONCE):
+                continue
             before = self.seen.get((it.owner, it.key), 0)
             if it.version < before:
                 yield f"{it.owner} {it.key} fell from version {before} to {it.version}"
             self.seen[it.owner, it.key] = it.version
+
+    def come_back(self, rows):
+        """Keys used once that were gone and are there again."""
+        for owner in self.histories:
+            now = once_numbers(rows, owner)
+            gone = self.gone.setdefault(owner, set())
+            yield from (f"{owner} {ONCE}{it} came back" for it in sorted(gone & now))
+            gone |= self.once.get(owner, set()) - now
+            self.once[owner] = now
 
     def losses(self, history, versions):
         """Keys of an owner of which less is given than is held. A page is of one state, and none is older than the page before: so all that
@@ -205,6 +279,11 @@ class Sight:
             elif version < newest:
                 yield f"{history.owner} {key} is of version {version}, and {newest} was acknowledged, where {upto} is held"
         self.holds(history.owner, max([upto, *versions.values()]))
+
+
+def once_numbers(rows, owner):
+    """The numbers of an owner's keys used once among these rows."""
+    return {int(it.key.removeprefix(ONCE)) for it in rows if it.owner == owner and it.key.startswith(ONCE)}
 
 
 def wrong_rows(histories, rows):
