@@ -135,7 +135,7 @@ fn start_refusal<L: WriteLog>(settings: &Settings, log: &L) -> Option<Fault>
 /// The seats beyond two and one for each worker are for this: so many peers are dialed side by side. Without such seats they
 /// are dialed one after another, between the rounds in turn. A peer has at most one session for news at a time; news during
 /// one makes another after it. Peers whose last session took half a second or more leave one of these seats to others. News
-/// that comes within ten milliseconds goes together. With no pause there is no need of it.
+/// that comes within twenty milliseconds goes together. With no pause there is no need of it.
 ///
 /// A push is not a round. It counts as taken only if the peer greeted and ended the connection itself. If not, the next push to
 /// this peer has the same again. If a peer's delta has writes after ones that the node lacks, the next round in turn is made at

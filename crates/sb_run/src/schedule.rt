@@ -15,7 +15,7 @@ use std::alloc::Global;
 use std::time::{Clock, Instant};
 
 /// How long after a burst begins news is gathered for the next, in milliseconds.
-const NEWS_INTERVAL: u64 = 10;
+const NEWS_INTERVAL: u64 = 20;
 
 /// How a session with a peer ended: a round, or a push.
 #[derive(Clone, Copy)]
