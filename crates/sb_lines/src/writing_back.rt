@@ -9,6 +9,7 @@ use sb_types::{Fault, Slot};
 use std::alloc::Global;
 
 /// Writes the value of a row under its key, with the next version. `NoMemory`; the faults of `put`.
+#[tactic(auto, using(crate::proofs::Refusals::reason_of_one))]
 fn put_row<L: WriteLog>(alloc: Global, log: &mut L, row: &Row) -> Result<(), Fault>
     ensures puts { PutsRows (L.seen log.old) (row.now ∷ []) result (L.seen log.new) }
 {
@@ -20,6 +21,7 @@ fn put_row<L: WriteLog>(alloc: Global, log: &mut L, row: &Row) -> Result<(), Fau
 }
 
 /// Writes rows, each under the next version. The first fault of `put_row` ends it, and the rows before it stay written.
+#[tactic(auto, using(crate::proofs::Refusals::reason_of_first))]
 fn put_rows<L: WriteLog>(alloc: Global, log: &mut L, rows: &[Row]) -> Result<(), Fault>
     ensures puts { PutsRows (L.seen log.old) rows.now result (L.seen log.new) }
 {
