@@ -1,5 +1,5 @@
 -- Why rows are refused: for the reason of the first of them that is refused.
-use Rattle.std.proofs.Common.{◌≡◌, ◌⊎◌, inl, inr, true, List, [], ◌∷◌, Option, Some, None, Err, sym, subst, ◌∙◌, ⊎_elim}
+use Rattle.std.proofs.Common.{◌≡◌, ◌⊎◌, inl, inr, Bool, true, false, true≢false, refl, List, [], ◌∷◌, Option, Some, None, Err, sym, subst, ◌∙◌, ⊎_elim}
 use Rattle.sb_types.specs.declared.fault.Fault.{Fault}
 use Rattle.sb_types.specs.declared.fault.Fault.TheVariants.{NoMemory, StoreFailed}
 use Rattle.sb_codec.specs.Records.{Row}
@@ -27,6 +27,11 @@ stays_on old at new first then =
       sure = λ sure. then.sure (first.sure sure);
     }
 
+-- what is open stays open, so what is closed was closed before
+pub shut_before : (before after : Bool) → (before ≡ true → after ≡ true) → after ≡ false → before ≡ false
+shut_before true after up shut = absurd (true≢false (sym (up refl) ∙ shut))
+shut_before false after up shut = refl
+
 -- a row that is refused after others is the reason of them all
 pub refused_at : (old at new : Log) (rows rest : List Row) (row : Row) (fault : Fault) → Stays old at → (old.is_open ≡ true → at.is_open ≡ true)
     → (at.is_clean ≡ true → rows_refusal old.most at.content (row ∷ rest) ≡ rows_refusal old.most old.content rows)
@@ -42,4 +47,9 @@ refused_at old at new rows rest row fault stays up same puts =
           (λ why. inl (sym (same (puts.stays.clean clean)) ∙ subst (λ most. rows_refusal most at.content (row ∷ rest) ≡ Some fault) stays.most (reason_of_first _ _ fault why)))
           (λ other. inr other)
           (puts.refused clean (up is_open));
+      ends = record {
+        closed = λ closed. shut_before old.is_open at.is_open up (puts.ends.closed closed);
+        closes = puts.ends.closes;
+        sure = λ sure. puts.ends.sure (stays.sure sure);
+      };
     }
