@@ -6,16 +6,16 @@ import json
 import os
 import re
 import socket
-import struct
 import time
 
-ASK, ROWS, PUT, DONE, REFUSED, ASK_STATUS, NODE_STATUS = range(0x10, 0x17)
-NAME, KEY, PREFIX, ADDRESS = "[a-z0-9-]{1,32}", "[a-z0-9._/-]{1,64}", "[a-z0-9._/-]{0,64}", "[!-~]{1,128}"
+ASK, PUT, REFUSED, ASK_STATUS = 0x10, 0x12, 0x14, 0x15  # a request is answered by the kind after its own, or by REFUSED
+NAME, KEY, PREFIX = (b"[a-z0-9-]{1,32}", 2), (b"[a-z0-9._/-]{1,64}", 3), (b"[a-z0-9._/-]{0,64}", 3)
+KINDS = {1: ("addr", str, 1, b"[!-~]{1,128}"), 2: ("weight", int, 8, 2**63), 3: ("flag", bool, 1, 2), 4: ("text", str, 2, b"(?s).{1,512}")}
 FIGURES = dict(enumerate("""uptime caught_up log_fault conflict version keys removals owners peers rounds round_faults sessions
     workers workers_busy all_workers_busy session_faults last_session_fault other_versions turned_away full_writes""".split(), 1))
-CAUSES = dict(enumerate("no_space cannot_open locked io damaged no_memory other removed replaced".split(), 1))
-STATES = dict(enumerate("not_dialed answers unreachable silent unreadable hung_up broken_off ended_early".split()))
-STATES.update((32 + number, f"fault_{number}") for number in range(1, 32))
+CAUSES = dict(enumerate([None, *"no_space cannot_open locked io damaged no_memory other removed replaced".split()]))
+STATES = "not_dialed answers unreachable silent unreadable hung_up broken_off ended_early".split()
+STATES += [f"fault_{number - 32}" if 32 < number < 64 else f"state_{number}" for number in range(8, 256)]
 TEXTS = {
     1: "there was no memory; free some, or ask for less",
     2: "a name is 1 to 32 of the bytes a-z, 0-9 and -",
@@ -24,15 +24,8 @@ TEXTS = {
     6: "the owner has 4,096 keys, removed ones counted; write under a key that it has",
     8: "the owner has used every version that the settings allow",
     9: "there is nothing to remove under this key",
-    10: "a frame begins with another byte than a7; the peer speaks another protocol",
-    11: "the frame is of another version of the format; run the same release at both ends",
-    12: "a frame's length is outside 1 to 65,530",
-    13: "a message of this kind has no place here",
-    14: "a message breaks the format",
     15: "this is closed; open it again",
     18: "the log could not be read or written; open it again",
-    21: "another node writes under this node's name; give each node a name of its own",
-    28: "the stream ends inside a frame",
 }
 
 
@@ -44,51 +37,20 @@ class Fault(Exception):
         super().__init__(f"fault {number}: {self.text}")
 
 
-class Body(io.BytesIO):
-    """The body of a message. Each call reads its next part."""
-
-    def number(self, size):
-        part = self.read(size)
-        if len(part) < size:
-            raise Fault(14)
-        return int.from_bytes(part, "big")
-
-    def text(self, size=1):
-        return self.read(self.number(size)).decode()
-
-    def row(self):
-        owner, key, version = self.text(), self.text(), self.number(8)
-        kind, read, size = KINDS[self.number(1)]
-        value = read(self, size)
-        return {"owner": owner, "key": key, "version": version, "kind": kind, "value": value == 1 if kind == "flag" else value}
-
-    def peer(self):
-        path, state, last_round = self.text(), self.number(1), self.number(8)
-        return {"path": path, "state": STATES.get(state, f"state_{state}"), "round": last_round}
-
-
-# by the tag: a kind of value, and how to read one
-KINDS = {1: ("addr", Body.text, 1), 2: ("weight", Body.number, 8), 3: ("flag", Body.number, 1), 4: ("text", Body.text, 2)}
-
-
-def short(text, pattern, fault):
-    """A name, a key, a prefix or an address in a message: one byte for its length, and then the text."""
-    if not re.fullmatch(pattern, text):
+def take(stream, size, of=int, fault=14):
+    """The next part of a message: a number of so many bytes, or a text after its length of so many."""
+    content = stream.read(size)
+    if len(content) < size:
         raise Fault(fault)
-    return bytes([len(text)]) + text.encode()
+    number = int.from_bytes(content, "big")
+    return stream.read(number).decode() if of is str else of(number)
 
 
-def slot(kind, value):
-    """A value in a message: the tag of its kind, and then the value."""
-    if kind == "addr":
-        return b"\1" + short(value, ADDRESS, 4)
-    if kind == "weight" and type(value) is int and 0 <= value < 2**63:
-        return struct.pack(">BQ", 2, value)
-    if kind == "flag" and type(value) is bool:
-        return struct.pack(">BB", 3, value)
-    if kind == "text" and 1 <= len(value.encode()) <= 512:
-        return struct.pack(">BH", 4, len(value.encode())) + value.encode()
-    raise Fault(4)
+def part(text, pattern, fault, size=1):
+    """A text in a message: its length of so many bytes, and then the text, which has to match the pattern."""
+    if not re.fullmatch(pattern, text.encode()):
+        raise Fault(fault)
+    return len(text.encode()).to_bytes(size, "big") + text.encode()
 
 
 class Node:
@@ -100,109 +62,101 @@ class Node:
 
     def set(self, key, kind, value):
         """Writes a str (addr, text), an int (weight) or a bool (flag). Returns the version of the write."""
-        return self._ask(PUT, short(key, KEY, 3) + slot(kind, value), DONE).number(8)
+        for tag, (name, of, size, limit) in KINDS.items():
+            if name == kind and type(value) is of and (of is str or 0 <= value < limit):
+                slot = part(value, limit, 4, size) if of is str else value.to_bytes(size, "big")
+                return take(self._ask(PUT, part(key, *KEY) + bytes([tag]) + slot), 8)
+        raise Fault(4)
 
     def delete(self, key):
         """Removes a key of this node. Returns the version of the removal."""
-        return self._ask(PUT, short(key, KEY, 3) + b"\0", DONE).number(8)
+        return take(self._ask(PUT, part(key, *KEY) + b"\0"), 8)
 
     def get(self, owner=None, prefix="", key=None):
         """Returns a list of rows, by owner, and by prefix or key. A row is a dict, as `attrdir get --format json` prints it."""
-        query = b"\0" if owner is None else short(owner, NAME, 2)
-        query += short(prefix, PREFIX, 3) if key is None else short(key, KEY, 3)
-        rows, after, more = [], b"\0\0", True
-        while more:
-            body = self._ask(ASK, query + after, ROWS)
-            more, count = body.number(1), body.number(2)
-            if more and not count:
-                raise Fault(14)
-            rows += [body.row() for _ in range(count)]
-            after = short(rows[-1]["owner"], NAME, 14) + short(rows[-1]["key"], KEY, 14) if more else b""
+        query = b"\0" if owner is None else part(owner, *NAME)
+        query += part(prefix, *PREFIX) if key is None else part(key, *KEY)
+        rows, after = [], b"\0\0"
+        while after:
+            body = self._ask(ASK, query + after)
+            more = take(body, 1)
+            for _ in range(max(more, take(body, 2))):  # only the last page may have no row
+                row = {"owner": take(body, 1, str), "key": take(body, 1, str), "version": take(body, 8)}
+                row["kind"], of, size, _ = KINDS[take(body, 1)]
+                rows.append({**row, "value": take(body, size, of)})
+            after = more and part(row["owner"], *NAME) + part(row["key"], *KEY)
         return [row for row in rows if key in (None, row["key"])]
 
     def watch(self, owner=None, prefix="", key=None, pause=0.2):
-        """Yields ("set", row) for each new or changed row, and ("gone", row) for each that is gone, without end.
-
-        If the node ends, it waits for the next start. At first such a node lacks the rows of others. So a row is gone
-        only after the node has shown this version of the owner, or a later one, since the start.
-        """
+        """Yields ("set", row) for each new or changed row, and ("gone", row) for each that is gone, without end."""
         table, latest, start = {}, {}, None
         while True:
             try:
                 before = os.stat(self.path).st_mtime_ns  # each start of the node makes the socket again
                 rows = {(row["owner"], row["key"]): row for row in self.get(owner, prefix, key)}
-                is_whole = before == os.stat(self.path).st_mtime_ns
+                if before == os.stat(self.path).st_mtime_ns:
+                    start, latest = before, latest if before == start else {}
+                    for place in sorted({*table, *rows}):
+                        old, new = table.get(place), rows.get(place)
+                        if new and (not old or new != old and new["version"] >= old["version"]):
+                            table[place] = new
+                            yield "set", new
+                        elif not new and latest.get(place[0], 0) >= old["version"]:  # the node had heard of it since its start
+                            yield "gone", table.pop(place)
+                    for row in rows.values():
+                        latest[row["owner"]] = max(row["version"], latest.get(row["owner"], 0))
             except (Fault, OSError) as fault:
-                if isinstance(fault, Fault) and fault.number not in (1, 15, 16, 28):
+                if getattr(fault, "number", 16) not in (1, 15, 16, 28):
                     raise
-                is_whole = False
-            if is_whole:
-                start, latest = before, latest if before == start else {}
-                for place in sorted({*table, *rows}):
-                    old, new = table.get(place), rows.get(place)
-                    if new and (not old or new != old and new["version"] >= old["version"]):
-                        table[place] = new
-                        yield "set", new
-                    elif not new and latest.get(old["owner"], 0) >= old["version"]:
-                        yield "gone", table.pop(place)
-                for row in rows.values():
-                    latest[row["owner"]] = max(row["version"], latest.get(row["owner"], 0))
             time.sleep(pause)
 
     def status(self):
         """Returns how the node is: the dict that `attrdir status --format json` prints."""
         peers, more = [], True
         while more:
-            body = self._ask(ASK_STATUS, struct.pack(">Q", len(peers)), NODE_STATUS)
-            more, node, cluster, release = body.number(1), body.text(), body.text(), body.text()
-            figures = [(body.number(1), body.number(8)) for _ in range(body.number(2))]
-            peers += [body.peer() for _ in range(body.number(2))]
-        status = {FIGURES.get(number, f"figure_{number}"): value for number, value in figures}
-        cause, conflict, caught_up = status["log_fault"], status["conflict"], status["caught_up"] == 1
-        cause = CAUSES.get(cause, f"cause_{cause}") if cause else None
-        status.update(node=node, cluster=cluster, release=release, ready=caught_up and not cause and not conflict)
-        return {**status, "caught_up": caught_up, "log_fault": cause, "conflict": conflict or None, "peers": peers}
+            body = self._ask(ASK_STATUS, len(peers).to_bytes(8, "big"))
+            more, status = take(body, 1), {word: take(body, 1, str) for word in ("node", "cluster", "release")}
+            status.update((FIGURES.get(at := take(body, 1), f"figure_{at}"), take(body, 8)) for _ in range(take(body, 2)))
+            peers += [{"path": take(body, 1, str), "state": STATES[take(body, 1)], "round": take(body, 8)} for _ in range(take(body, 2))]
+        cause = CAUSES.get(status["log_fault"], f"cause_{status['log_fault']}")
+        status.update(peers=peers, log_fault=cause, caught_up=status["caught_up"] == 1, conflict=status["conflict"] or None)
+        return {**status, "ready": status["caught_up"] and not cause and not status["conflict"]}
 
-    def _ask(self, kind, body, answer_kind):
-        """Sends a message, and returns the body of the answer, which has to be of this kind."""
+    def _ask(self, kind, body):
+        """Sends a message, and returns the body of its answer."""
         problem = "no node could be reached"
-        with socket.socket(socket.AF_UNIX) as stream:
+        with socket.socket(socket.AF_UNIX) as stream, stream.makefile("rb") as reader:
             try:
                 stream.connect(self.path)  # waits if the socket has no room for another caller
                 problem = "the node did not answer"
                 stream.settimeout(self.timeout)
-                stream.sendall(struct.pack(">BBIB", 0xA7, 3, 1 + len(body), kind) + body)
-                with stream.makefile("rb") as reader:
-                    head = reader.read(6)
-                    length = int.from_bytes(head[2:], "big") if head[:2] == b"\xa7\x03" else 0
-                    answer = reader.read(length if length <= 65530 else 0)
+                stream.sendall(b"\xa7\3" + (1 + len(body)).to_bytes(4, "big") + bytes([kind]) + body)
+                mark, version, length = (take(reader, size, fault=28) for size in (1, 1, 4))
+                answer = reader.read(length if (mark, version) == (0xA7, 3) and length <= 65530 else 0)
             except OSError as error:
                 raise Fault(16, f"{problem}: {error.strerror or error}") from error
-        if len(head) < 6 or len(answer) < length <= 65530:
-            raise Fault(28)
-        if not answer:
-            raise Fault(10 if head[0] != 0xA7 else 11 if head[1] != 3 else 12)
-        if answer[0] != answer_kind:
+        if not answer or len(answer) < length:
+            raise Fault(10 if mark != 0xA7 else 11 if version != 3 else 28 if 0 < length <= 65530 else 12)
+        if answer[0] != kind + 1:
             raise Fault(answer[1] if answer[0] == REFUSED else 13)
-        return Body(answer[1:])
+        return io.BytesIO(answer[1:])
 
 
 def main():
     """Runs one command, and prints what it answers as lines of JSON."""
-    parser = argparse.ArgumentParser(description=__doc__)
+    parser, filters = argparse.ArgumentParser(description=__doc__), ["--owner", "--prefix", "--key"]
     parser.add_argument("--control", required=True, metavar="PATH", help="the control socket of the node")
-    commands, filters = parser.add_subparsers(dest="command", required=True), ["--owner", "--prefix", "--key"]
-    words = {"get": filters, "watch": filters, "set": ["key", "kind", "value"], "del": ["key"], "status": []}
-    for command in words:
-        options = commands.add_parser(command)
-        for word in words[command]:
+    commands = parser.add_subparsers(dest="command", required=True)
+    for command, words in ("get", filters), ("watch", filters), ("set", ["key", "kind", "value"]), ("del", ["key"]), ("status", []):
+        options = commands.add_parser(command, argument_default=argparse.SUPPRESS)
+        for word in words:
             options.add_argument(word)
-    arguments = {name: word for name, word in vars(parser.parse_args()).items() if word is not None}
-    node, command = Node(arguments.pop("control")), arguments.pop("command")
-    if arguments.get("kind") in ("weight", "flag") and re.fullmatch("0|[1-9][0-9]*|true|false", arguments["value"]):
-        arguments["value"] = json.loads(arguments["value"])
+    given = vars(parser.parse_args())
+    node, command = Node(given.pop("control")), given.pop("command")
+    if given.get("kind") in ("weight", "flag") and re.fullmatch("0|[1-9][0-9]*|true|false", given["value"]):
+        given["value"] = json.loads(given["value"])
     try:
-        answer = getattr(node, "delete" if command == "del" else command)(**arguments)
+        answer = getattr(node, "delete" if command == "del" else command)(**given)
         for item in answer if command in ("get", "watch") else [answer]:
             print(json.dumps(item, ensure_ascii=False, sort_keys=True, separators=(",", ":")), flush=True)
     except Fault as fault:
