@@ -19,5 +19,5 @@ returns-in_err-put_row g c =
           refused_at old at (g.L.WriteLog.seen c.put_row.new.log) rows rest c.row-item.result c.in_err-put_row.field-0.0
           c.loop-row.invariant.0 c.loop-row.invariant.1
           (λ clean. subst (λ (l : List Row). rows_refusal old.most at.content l ≡ rows_refusal old.most old.content rows) left (c.loop-row.invariant.3 clean))
-          c.in_err-put_row.ensures.puts
+          c.in_err-put_row.ensures.puts;
     })
