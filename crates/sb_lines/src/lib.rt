@@ -7,6 +7,7 @@
 //! # What no contract refuses
 //!
 //! `log_run` reports `StoreFailed` in place of `LogDamaged`, or the other way round. Either closes the log.
+//! `write_back` also makes other writes before it returns a fault. A caller that wants all rows or none drops such a log.
 //!
 //! ```rust
 //! /// The lines of a log of `a` with one write.
