@@ -129,7 +129,12 @@ fn copy_block(alloc: Global, block: &Block) -> Result<Block, Fault>
 }
 
 /// Copies a block to the end of a list, unless it is of one of these owners. `NoMemory`.
-fn add_kept(alloc: Global, kept: &mut Vec<Block>, names: &[Name], block: &Block) -> Result<(), Fault>
+fn add_kept(
+    alloc: Global,
+    kept: &mut Vec<Block>,
+    names: &[Name],
+    block: &Block,
+) -> Result<(), Fault>
     ensures added { OnOk result (kept.new.items ≡ kept.old.items ++ spec.kept_blocks names.now (block.now ∷ [])) }
     ensures memory { IfErr result (λ fault. fault ≡ Fault.NoMemory) }
 {
