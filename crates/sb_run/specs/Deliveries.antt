@@ -1,6 +1,22 @@
 -- How news is on its way to peers.
-use Rattle.std.specs.Prelude.{◌≡◌, ◌≢◌, ℕ, Bool, true, false, ◌||◌, nat_lt, List, Some, slice_get, IfSome}
+use Rattle.std.specs.Prelude.{◌≡◌, ◌≢◌, ℕ, ◌-◌, Bool, true, false, not, ◌&&◌, ◌||◌, nat_lt, List, count_by, Some, slice_get, IfSome}
 use Rattle.sb_run.specs.declared.schedule.Delivery.{Delivery}
+
+-- no session with the peer was short yet, and there is no news for it
+abbrev pub at_first : Delivery
+at_first = record { is_due = false; is_open = false; is_slow = true }
+
+-- a session with a slow peer is under way
+abbrev pub takes_slow_room : Delivery → Bool
+takes_slow_room delivery = delivery.is_open && delivery.is_slow
+
+-- one more session with a slow peer leaves room for another session, or there is never room for two
+abbrev pub has_room : ℕ → List Delivery → Bool
+has_room most all = nat_lt most 2 || nat_lt (count_by takes_slow_room all) (most - 1)
+
+-- a session for news can begin: there is news, none is under way, and there is room for a slow peer or it is not one
+abbrev pub can_begin : Bool → Delivery → Bool
+can_begin room delivery = (delivery.is_due && not delivery.is_open) && (room || not delivery.is_slow)
 
 -- there is news for the peer
 abbrev pub with_news : Delivery → Delivery

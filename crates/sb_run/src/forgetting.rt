@@ -128,6 +128,23 @@ fn copy_block(alloc: Global, block: &Block) -> Result<Block, Fault>
     }
 }
 
+/// Copies a block to the end of a list, unless it is of one of these owners. `NoMemory`.
+fn add_kept(
+    alloc: Global,
+    kept: &mut Vec<Block>,
+    names: &[Name],
+    block: &Block,
+) -> Result<(), Fault>
+    ensures added { OnOk result (kept.new.items ≡ kept.old.items ++ spec.kept_blocks names.now (block.now ∷ [])) }
+    ensures memory { IfErr result (λ fault. fault ≡ Fault.NoMemory) }
+{
+    if is_forgotten(names, block.owner()) {
+        return Ok(());
+    }
+    kept.push(copy_block(alloc, block)?)?;
+    Ok(())
+}
+
 /// Copies the blocks of all other owners than these. `NoMemory`.
 fn copy_kept(alloc: Global, names: &[Name], blocks: &[Block]) -> Result<Vec<Block>, Fault>
     ensures kept { IfOk result (λ kept. kept.items ≡ spec.kept_blocks names.now blocks.now) }
@@ -135,9 +152,7 @@ fn copy_kept(alloc: Global, names: &[Name], blocks: &[Block]) -> Result<Vec<Bloc
 {
     let mut kept = Vec::new(alloc);
     for block in blocks {
-        if !is_forgotten(names, block.owner()) {
-            kept.push(copy_block(alloc, block)?)?;
-        }
+        add_kept(alloc, &mut kept, names, block)?;
     }
     Ok(kept)
 }

@@ -55,7 +55,7 @@
 //! - Pushes, gaps or hastened rounds are counted wrongly. The tests of `sb_run` refuse it.
 //! - A session for news begins that `Deliveries::begin` refused, or ends unnoted, so that its peer gets no more news.
 //!   The tests of `sb_run` and `tools/check-node` refuse it.
-//! - Slow peers hold all threads for news, or a session counts as slow that is not. Only `tools/check-node` refuses it.
+//! - A session counts as slow that is not, or as quick that is slow. Only `tools/check-node` refuses it.
 //! - A peer counts as silent or as heard that was not: no clause covers what `PeerReader` notes. The tests of `sb_run`
 //!   and `tools/check-node` refuse it.
 //! - A silent connection is never closed, or is closed too soon. A Hello or a request that is whole is never handed

@@ -1,5 +1,5 @@
 //! Whom to dial next, and the rounds that were made: what the threads that dial share, under one lock.
-ghost use Rattle.std.specs.Prelude.{◌≡◌, true, false, None, IfSome, IfOk, IfErr, ◌+◌, slice_get, vec_len};
+ghost use Rattle.std.specs.Prelude.{◌≡◌, true, false, None, IfSome, MatchOption, IfOk, IfErr, ◌+◌, slice_get, vec_len, replicate};
 ghost use Rattle.sb_run.specs.Deliveries as spec;
 ghost use Rattle.sb_run.specs.StatusReplies.{have_had_rounds};
 ghost use Rattle.sb_run.specs.Turns.{turn_of};
@@ -314,8 +314,16 @@ impl Delivery {
     fn can_begin(&self, has_room: bool) -> bool
         ensures due { result ≡ true → (self.now.is_due ≡ true) × (self.now.is_open ≡ false) }
         ensures goes { self.now.is_due ≡ true → self.now.is_open ≡ false → self.now.is_slow ≡ false → result ≡ true }
+        ensures can { result ≡ spec.can_begin has_room self.now }
     {
         self.is_due && !self.is_open && (has_room || !self.is_slow)
+    }
+
+    /// Whether a session with a slow peer is under way.
+    fn takes_slow_room(&self) -> bool
+        ensures { result ≡ spec.takes_slow_room self.now }
+    {
+        self.is_open && self.is_slow
     }
 }
 
@@ -333,16 +341,16 @@ impl Deliveries {
     /// Nothing is due to so many peers. So many of them can be brought news at a time. Each counts as slow until a session with
     /// it was short. `NoMemory`.
     pub(crate) fn new(alloc: Global, count: usize, most: usize) -> Result<Deliveries, Fault>
+        ensures all { IfOk result (λ deliveries. deliveries.all.items ≡ replicate count spec.at_first) }
+        ensures first { IfOk result (λ deliveries. (deliveries.most ≡ most) × (deliveries.turn ≡ 0)) }
         ensures memory { IfErr result (λ fault. fault ≡ Fault.NoMemory) }
     {
-        let mut all = Vec::with_capacity(alloc, count)?;
-        for _ in 0..count {
-            all.push(Delivery {
-                is_due: false,
-                is_open: false,
-                is_slow: true,
-            })?;
-        }
+        let at_first = Delivery {
+            is_due: false,
+            is_open: false,
+            is_slow: true,
+        };
+        let all = vec![in alloc; at_first; count]?;
         Ok(Deliveries { all, most, turn: 0 })
     }
 
@@ -363,11 +371,13 @@ impl Deliveries {
     }
 
     /// Whether one more session with a slow peer leaves room for a session with another. It does if there is room for one alone.
-    fn has_room(&self) -> bool {
+    fn has_room(&self) -> bool
+        ensures { result ≡ spec.has_room self.now.most self.now.all.items }
+    {
         let mut slow: usize = 0;
         for delivery in &self.all {
-            if delivery.is_open && delivery.is_slow {
-                slow = slow.saturating_add(1);
+            if delivery.takes_slow_room() {
+                slow += 1;
             }
         }
         self.most < 2 || slow < self.most - 1
@@ -400,6 +410,7 @@ impl Deliveries {
         ensures begins { IfSome (slice_get self.old.all.items index) (λ delivery. result ≡ true → (delivery.is_due ≡ true) × (delivery.is_open ≡ false)) }
         // One that is not slow begins whatever room there is for slow ones.
         ensures goes { IfSome (slice_get self.old.all.items index) (λ delivery. delivery.is_due ≡ true → delivery.is_open ≡ false → delivery.is_slow ≡ false → result ≡ true) }
+        ensures can { MatchOption (slice_get self.old.all.items index) (result ≡ false) (λ delivery. result ≡ spec.can_begin (spec.has_room self.old.most self.old.all.items) delivery) }
         ensures changes { result ≡ true → spec.Changes index spec.begun self.old.all.items self.new.all.items }
         ensures same { result ≡ false → self.new.all ≡ self.old.all }
     {
