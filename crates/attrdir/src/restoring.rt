@@ -5,7 +5,9 @@ ghost use Rattle.attrdir.specs.Restoring as spec;
 
 use crate::beginning::version_beyond;
 use crate::failure::{Failure, FaultPlace};
-use crate::log_file::{FileLog, error_of, failure, has_folder, is_locked, make_log, open_log, settle_log};
+use crate::log_file::{
+    FileLog, error_of, failure, has_folder, is_locked, make_log, open_log, settle_log,
+};
 use crate::owners::ask_greatest;
 use crate::status::ask_identity;
 use crate::watching::listing;
