@@ -1,4 +1,7 @@
 """The parts of tools/check-node that look at `begin` and `restore`: at what they take and refuse, at a node whose log is lost, and at a name that is to end."""
+import contextlib
+import fcntl
+import os
 import subprocess
 import threading
 import time
@@ -174,6 +177,17 @@ def without_a_gap(check):
     want("how many rows the peer had meanwhile", set(looks), {count})
 
 
+@contextlib.contextmanager
+def locked(folder):
+    """A folder that is locked as a command that restores a log in it does."""
+    handle = os.open(folder, os.O_RDONLY)
+    try:
+        fcntl.flock(handle, fcntl.LOCK_EX)
+        yield
+    finally:
+        os.close(handle)
+
+
 def restore_words(check):
     """What restore refuses, what it leaves then, and which files at the path of the log it replaces."""
     folder = check.folder()
@@ -201,6 +215,8 @@ def restore_words(check):
     want_fault("a name without rows", restore(check, lost, peer, name="gone", log=new), 9, "shows no row of this name")
     want_fault("a node that shows none", restore(check, lost, peer, shown=idle, log=new), 9, "shows no row of this name")
     want_fault("a log in no folder", restore(check, lost, peer, log=folder / "nowhere" / "a.log"), 18, "its folder does not exist")
+    with locked(folder):
+        want_fault("a folder in which another process restores", restore(check, lost, peer, log=new), 18, "another process restores a log")
     want("what was made", files_of(new), [])
     lost.start()
     want_fault("a log of a node that runs", restore(check, lost, peer), 18, "another process has the log open")

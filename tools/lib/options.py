@@ -42,7 +42,7 @@ class Option:
     @property
     def default(self):
         """Its default, or the words that say what holds without it. None if it has neither."""
-        return self.words[-1] if self.kind in ("OneOf", "ValueOr", "ValueElse", "NumberOr", "NumberElse") else None
+        return self.words[-1] if self.kind in ("OneOf", "ValueOr", "ValueElse", "Values", "NumberOr", "NumberElse") else None
 
     @property
     def sentence(self):

@@ -101,6 +101,7 @@ fn about_store(place: FaultPlace<'_>) -> &'static str {
             "end that process, which may be a node; to read the rows of a node that runs, use get at its control socket"
         }
         FaultPlace::LinkedLog(_) => "give the path of the file itself",
+        FaultPlace::BusyFolder(_) => "wait until that process ends, and give the command again",
         FaultPlace::OldWal(_) => {
             "it belongs to the log that is lost: see that the path is right, move this file away, and give the command again"
         }

@@ -74,7 +74,7 @@ fn arg_of<'a>(
         Kind::Needed => option(alloc, part, help).required(true),
         Kind::Control => control(alloc, part, help, fallback),
         Kind::Value | Kind::ValueElse(_) => option(alloc, part, help),
-        Kind::Values(_) => option(alloc, part, help).action(ArgAction::Append),
+        Kind::Values(..) => option(alloc, part, help).action(ArgAction::Append),
         Kind::ValueOr(default) => option(alloc, part, help).default_value(default),
         Kind::ValueBeside(beside, other) => option(alloc, part, help)
             .requires_arg(beside)?

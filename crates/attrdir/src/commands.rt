@@ -468,10 +468,9 @@ const PURGE_REMOVALS: Part = Part {
 
 /// It can be given 64 times, once for each name. The node shows no row of it, and nobody hears of one from this node. See [Owners
 /// used up](RUNBOOK.md#owners-used-up).
-/// Left out: none
 const FORGET: Part = Part {
     name: "forget",
-    kind: Kind::Values(FORGOTTEN_MOST),
+    kind: Kind::Values(FORGOTTEN_MOST, "none"),
     value: "NAME",
     help: "Takes no rows of this name, which is dead, from other nodes",
 };

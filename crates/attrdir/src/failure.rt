@@ -73,6 +73,8 @@ pub(crate) enum FaultPlace<'a> {
     LockedLog(&'a str),
     /// At the file of a log, which is a link.
     LinkedLog(&'a str),
+    /// At the file of a log in whose folder another process restores one.
+    BusyFolder(&'a str),
     /// At the file of a log that does not exist, beside which there is the `-wal` of one.
     OldWal(&'a str),
     /// At a control socket at which no node could be reached.
@@ -233,6 +235,7 @@ fn text_of_store(place: FaultPlace<'_>) -> Option<&'static str> {
         FaultPlace::UnreadableLog(_) => "the log cannot be opened",
         FaultPlace::LockedLog(_) => "another process has the log open",
         FaultPlace::LinkedLog(_) => "the path of the log is a link",
+        FaultPlace::BusyFolder(_) => "another process restores a log in its folder",
         FaultPlace::OldWal(_) => "there is no such log, but a file of its name with -wal",
         _ => return None,
     })
@@ -307,6 +310,7 @@ impl fmt::Display for FaultPlace<'_> {
             | FaultPlace::UnreadableLog(path)
             | FaultPlace::LockedLog(path)
             | FaultPlace::LinkedLog(path)
+            | FaultPlace::BusyFolder(path)
             | FaultPlace::OldWal(path) => write!(f, "log {path}: "),
             FaultPlace::Unreached(path, _)
             | FaultPlace::Silent(path)

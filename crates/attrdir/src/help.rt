@@ -161,7 +161,8 @@ text, and what to do:
   5, 8    no version is left
   9       the node at --from heard nothing of the name, or the one at --from-control shows no row of it
   17      the line cannot be written; the log is there
-  18      the file cannot be read or written, is open in another process, or is a link; or FILE-wal is there, and no FILE
+  18      the file cannot be read or written, is open in another process, or is a link; or FILE-wal is there, and no FILE; or another process restores
+          a log in the same folder
   19      the file is not a log of this release, or it is damaged
   20      the log belongs to another owner or cluster
   31      the log has writes, or was made by `begin`

@@ -59,8 +59,8 @@ pub(crate) enum Kind {
     Control,
     /// An option with one value.
     Value,
-    /// An option with one value, which may be given so many times.
-    Values(usize),
+    /// An option with one value, which may be given so many times. If it is not given, the second part says in words what holds.
+    Values(usize, &'static str),
     /// An option with one value. If it is not given, this says in words what holds.
     ValueElse(&'static str),
     /// An option with one value. This is the default.
@@ -113,7 +113,7 @@ impl Part {
     pub(crate) fn times_exceeded(&self, given: &ArgMatches<'_>) -> Option<usize> {
         let times = given.get_strs(self.name).unwrap_or(&[]).len();
         match self.kind {
-            Kind::Values(most) if times > most => Some(most),
+            Kind::Values(most, _) if times > most => Some(most),
             _ => None,
         }
     }
@@ -172,7 +172,7 @@ impl fmt::Display for Part {
             Some(range) => write!(f, ", {range}")?,
         }
         match self.kind {
-            Kind::ValueElse(words) | Kind::NumberElse(_, words) => {
+            Kind::ValueElse(words) | Kind::Values(_, words) | Kind::NumberElse(_, words) => {
                 write!(f, " [default: {words}]")
             }
             _ => Ok(()),

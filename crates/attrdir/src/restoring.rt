@@ -1,10 +1,13 @@
 //! A log for an owner whose log is lost, with the rows that a node shows of that owner.
-ghost use Rattle.std.specs.Prelude.{◌≡◌, ◌≢◌, [], true, OnOk};
+ghost use Rattle.std.specs.Prelude.{◌≡◌, ◌≢◌, ◌+◌, ◌<◌, ℕ, [], true, Ok, IfOk, OnOk};
+ghost use Rattle.attrdir.specs.declared.beginning.TheConstants.{UNHEARD_MOST};
 ghost use Rattle.attrdir.specs.Restoring as spec;
 
 use crate::beginning::version_beyond;
 use crate::failure::{Failure, FaultPlace};
-use crate::log_file::{FileLog, error_of, failure, is_locked, make_log, open_log, settle_log};
+use crate::log_file::{
+    FileLog, error_of, failure, has_folder, is_locked, make_log, open_log, settle_log,
+};
 use crate::owners::ask_greatest;
 use crate::status::ask_identity;
 use crate::watching::listing;
@@ -61,7 +64,8 @@ fn are_of(rows: &[Row], owner: &Name) -> bool
 /// Tests the rows that the node at a control socket showed of an owner. `Malformed(KIND_ROWS)` if one is of another owner;
 /// `NothingThere` if there is none.
 fn test_rows<'a>(rows: &[Row], owner: &Name, control: &'a str) -> Result<(), Failure<'a>>
-    ensures { OnOk result ((spec.are_of owner.now rows.now ≡ true) × (rows.now ≢ [])) }
+    ensures good { OnOk result ((spec.are_of owner.now rows.now ≡ true) × (rows.now ≢ [])) }
+    ensures every { spec.are_of owner.now rows.now ≡ true → rows.now ≢ [] → result ≡ Ok tt }
 {
     if !are_of(rows, owner) {
         return Err(Failure::at(FaultPlace::Control(control), Fault::Malformed(KIND_ROWS)));
@@ -79,7 +83,9 @@ fn rows_of<'a>(
     control: &'a str,
     cluster: Name,
     owner: Name,
-) -> Result<Vec<Row>, Failure<'a>> {
+) -> Result<Vec<Row>, Failure<'a>>
+    ensures good { IfOk result (λ rows. (spec.are_of owner rows.items ≡ true) × (rows.items ≢ [])) }
+{
     if ask_identity(rt, control)?.cluster != cluster {
         return Err(Failure::at(FaultPlace::Control(control), Fault::WrongCluster));
     }
@@ -99,7 +105,11 @@ fn ask_lost<'a>(
     asked: AskedNode<'a>,
     owner: Name,
     cluster: Name,
-) -> Result<Lost, Failure<'a>> {
+) -> Result<Lost, Failure<'a>>
+    ensures own { IfOk result (λ lost. (lost.owner ≡ owner) × (lost.cluster ≡ cluster)) }
+    ensures rows { IfOk result (λ lost. (spec.are_of owner lost.rows.items ≡ true) × (lost.rows.items ≢ [])) }
+    ensures after { IfOk result (λ lost. (heard : ℕ) × (0 < heard) × (lost.after ≡ spec.newest_of heard lost.rows.items + UNHEARD_MOST)) }
+{
     let heard = ask_greatest(rt, asked.sock, cluster, owner)?;
     let rows = rows_of(rt, asked.control, cluster, owner)?;
     let after = version_beyond(newest_of(heard, &rows), asked.sock)?;
@@ -173,22 +183,36 @@ fn has_wal(rt: &HostRuntime, path: &str) -> io::Result<bool> {
     }
 }
 
-/// Makes what was entered in a folder outlast a crash: the folder of a path.
-fn sync_folder(rt: &HostRuntime, path: &str) -> io::Result<()> {
-    let folder = match path.rsplit_once('/') {
+/// The folder of a path, which is locked until it is dropped. So one process at a time makes logs in it. `StoreFailed` if it
+/// can't be opened or another has it locked.
+fn locked_folder<'a>(rt: &HostRuntime, path: &'a str) -> Result<fs::File, Failure<'a>> {
+    let name = match path.rsplit_once('/') {
         Some(("", _)) => "/",
-        Some((folder, _)) => folder,
+        Some((name, _)) => name,
         None => ".",
     };
-    fs::File::open(rt, folder)?.sync_all()
+    let Ok(folder) = fs::File::open(rt, name) else {
+        let place = if has_folder(rt, path) {
+            FaultPlace::UnreadableLog(path)
+        } else {
+            FaultPlace::NoLogFolder(path)
+        };
+        return Err(Failure::at(place, Fault::StoreFailed));
+    };
+    match folder.try_lock() {
+        Ok(()) => Ok(folder),
+        Err(_) => Err(Failure::at(FaultPlace::BusyFolder(path), Fault::StoreFailed)),
+    }
 }
 
-/// Puts a whole log at a path, where nothing is or an empty log.
-fn put_in_place(rt: &HostRuntime, beside: &str, path: &str) -> io::Result<()> {
+/// Puts a whole log at a path in a folder, where nothing is or an empty log. The old `-wal` is gone for good before the log is
+/// there, whose own it would seem to be.
+fn put_in_place(rt: &HostRuntime, folder: &fs::File, beside: &str, path: &str) -> io::Result<()> {
     remove_wal(rt, beside)?;
     remove_wal(rt, path)?;
+    folder.sync_all()?;
     fs::rename(rt, beside, path)?;
-    sync_folder(rt, path)
+    folder.sync_all()
 }
 
 /// Writes rows back into a log, and ends it. Returns its last version. The faults of `write_back`, then those of `close`.
@@ -222,10 +246,12 @@ fn make_whole<'a>(rt: &HostRuntime, path: &'a str, lost: &Lost) -> Result<u64, F
     Ok(last)
 }
 
-/// Makes a log beside a path, and then puts it there. Returns its last version. After a fault nothing is left beside the
-/// path, and what is at the path stays. `StoreFailed` if another process makes one there too; the faults of `make_whole`.
+/// Makes a log beside a path in a folder, and then puts it there. Returns its last version. After a fault nothing is left beside
+/// the path, and what is at the path stays. `StoreFailed` if another process has the file beside it open; the faults of
+/// `make_whole`; `StoreFailed` if the log cannot be put there. If just the folder fails to be synced, the log is there as a whole.
 fn restore_beside<'a>(
     rt: &HostRuntime,
+    folder: &fs::File,
     beside: &str,
     path: &'a str,
     lost: &Lost,
@@ -238,7 +264,7 @@ fn restore_beside<'a>(
         Err(_) => Err(Failure::at(FaultPlace::Log(beside), Fault::StoreFailed)),
     };
     let placed = match made {
-        Ok(last) => match put_in_place(rt, beside, path) {
+        Ok(last) => match put_in_place(rt, folder, beside, path) {
             Ok(()) => return Ok(last),
             Err(_) => Failure::at(FaultPlace::Log(path), Fault::StoreFailed),
         },
@@ -248,15 +274,16 @@ fn restore_beside<'a>(
     Err(placed)
 }
 
-/// Makes a log at a path, all of it or nothing. Returns its last version. The faults of `empty_log`; `StoreFailed` if there
-/// is none, but a `-wal` of one; then those of `restore_beside`.
+/// Makes a log at a path, all of it or nothing. Returns its last version. The faults of `locked_folder` and of `empty_log`;
+/// `StoreFailed` if there is none, but a `-wal` of one; then those of `restore_beside`.
 fn restore_at<'a>(rt: &HostRuntime, path: &'a str, lost: &Lost) -> Result<u64, Failure<'a>> {
+    let folder = locked_folder(rt, path)?;
     let held = empty_log(rt, path, lost)?;
     if held.is_none() && has_wal(rt, path).unwrap_or(true) {
         return Err(Failure::at(FaultPlace::OldWal(path), Fault::StoreFailed));
     }
     let beside = format!(in rt.alloc(); "{path}{BESIDE}")?;
-    restore_beside(rt, beside.as_str(), path, lost)
+    restore_beside(rt, &folder, beside.as_str(), path, lost)
 }
 
 /// Makes a log of an owner in a cluster, with the rows that a node shows of that owner. It begins far after all that the node
