@@ -7,6 +7,8 @@ mod asking;
 #[cfg(test)]
 mod closing;
 #[cfg(test)]
+mod deferring;
+#[cfg(test)]
 mod desk;
 #[cfg(test)]
 mod examples;
