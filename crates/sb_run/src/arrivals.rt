@@ -24,7 +24,7 @@ const HANDED_MOST: usize = 1_024;
 /// What a worker is to do next.
 #[derive(Drop)]
 pub(crate) enum Job {
-    /// To serve the session of a peer, whose name is known if its Hello has come, and of which this has come.
+    /// To serve the session of a peer that sent this. The name is known if that is a Hello.
     Session(Option<Name>, Vec<u8>, UnixStream),
     /// To answer a caller's question.
     Question(Ask, UnixStream),
@@ -144,7 +144,7 @@ impl Handover {
         self.to_owner.give(rt, Request { message, stream })
     }
 
-    /// Hands the session of a peer to the workers, with its name, if that is known, and with what has come of it. `ReadFailed` if
+    /// Hands the session of a peer to the workers, with its name if that is known, and with what has come of it. `ReadFailed` if
     /// too many wait for one, or if the connection can't be used.
     pub(crate) fn give_session<R: Wait>(
         &mut self,

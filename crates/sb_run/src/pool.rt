@@ -29,8 +29,8 @@ use std::thread::Threads;
 /// What a worker takes from a source.
 #[derive(Drop)]
 pub enum Taken<I, O> {
-    /// The connection of a peer, as a reader and a writer, with the number of its session, from 1, and with the peer's name if
-    /// that is known.
+    /// The connection of a peer, as a reader and a writer. It has the number of its session, from 1, and the peer's name if that
+    /// is known.
     Session(u64, Option<Name>, I, O),
     /// The question of a caller, and the writer that gets its answer.
     Question(Ask, O),

@@ -9,26 +9,27 @@ use sb_types::{Block, Delta, Fault, Name, OWNERS_MOST};
 use std::alloc::Global;
 use std::sync::{Mutex, Wait};
 
-/// How far a peer holds an owner, as its digest says: where a sender whose table has no floor starts, and where one starts whose
-/// floor is above that.
+/// How far a peer holds an owner, as its digest says.
 #[derive(Clone, Copy, PartialEq, Eq)]
 struct Standing {
     held: u64,
+    /// Above which version a sender starts whose own floor is above `held`.
     progress: u64,
+    /// Under which floor it starts.
     floor: u64,
 }
 
-/// A block of an owner that a peer was offered, when the peer held the owner so far, and how often.
+/// That a peer was offered a block of an owner, how far it held the owner by then, and how often that was.
 #[derive(Clone, Copy)]
 struct Offer {
     owner: Name,
     standing: Standing,
     times: u64,
-    /// Whether an answer was given since without a block of the owner.
+    /// Whether a later answer had no block of the owner.
     was_deferred: bool,
 }
 
-/// What one peer was offered, and has not taken as far as the node knows.
+/// What one peer was offered. The node does not know that the peer took it.
 #[derive(Drop)]
 pub(crate) struct PeerOffers {
     all: Vec<Offer>,
@@ -72,7 +73,7 @@ fn is_open(theirs: &Digest, offer: &Offer) -> bool
     !theirs.covers(&offer.owner) || standing_in(theirs, &offer.owner) == offer.standing
 }
 
-/// The owners that were offered in vain more often than so many times. `NoMemory`.
+/// Which owners were offered in vain more often than so many times. `NoMemory`.
 fn owners_above(
     alloc: Global,
     offers: &[Offer],
@@ -91,7 +92,7 @@ fn owners_above(
     Ok(owners)
 }
 
-/// Whether something was offered in vain that was not deferred since.
+/// Whether something was offered in vain, and not deferred since.
 fn is_any_new(offers: &[Offer], theirs: &Digest) -> bool
     ensures { result ≡ spec.is_any_new offers.now theirs.now }
 {
@@ -100,7 +101,7 @@ fn is_any_new(offers: &[Offer], theirs: &Digest) -> bool
         .any(|offer| !offer.was_deferred && is_in_vain(theirs, offer))
 }
 
-/// How often the owner was offered in vain that was offered least often. The greatest number if none was.
+/// How often an owner was offered in vain, the least of all. The greatest number if none was.
 fn least_times(offers: &[Offer], theirs: &Digest) -> u64
     ensures { result ≡ spec.least_times offers.now theirs.now }
 {
@@ -233,10 +234,12 @@ impl PeerOffers {
     }
 }
 
-/// Who asks: a peer that this node dials, by its place among those, or one that dialed, by its name.
+/// Who asks.
 #[derive(Clone, Copy, PartialEq, Eq)]
 pub(crate) enum Asker {
+    /// The peer at this index, which the node dialed.
     Dialed(usize),
+    /// A peer of this name, which dialed the node.
     Named(Name),
 }
 
@@ -251,7 +254,7 @@ struct AskerOffers {
 #[derive(Drop)]
 pub struct VainOffers {
     alloc: Global,
-    /// At most as many as there may be owners, those first whose sessions ended first.
+    /// At most as many as there may be owners. The oldest is the first.
     kept: Mutex<Vec<AskerOffers>>,
 }
 
@@ -297,7 +300,7 @@ impl VainOffers {
     }
 }
 
-/// A handler that defers what it offered in vain: it first offers the same peer what else that lacks.
+/// A handler that defers what it offered in vain. It first offers the peer what else the peer lacks.
 #[derive(Drop)]
 pub(crate) struct DeferringHandler<'a, H> {
     inner: H,
@@ -338,8 +341,8 @@ impl<'a, H: Handler> DeferringHandler<'a, H> {
         inner
     }
 
-    /// The digest in which each owner is held that was offered in vain more often than so many times. None if there is no such
-    /// owner, or no room for it.
+    /// A copy of the digest. There each owner is held that was offered in vain more often than so many times. None if there is no
+    /// such owner, or no room for it.
     fn digest_above(&self, theirs: &Digest, times: u64) -> Option<Digest>
         ensures { IfSome result (spec.IsDeferral self.now.offers.all.items theirs.now times) }
     {
@@ -351,8 +354,8 @@ impl<'a, H: Handler> DeferringHandler<'a, H> {
         with_held(alloc, theirs, &owners)
     }
 
-    /// What the peer lacks beside the owners that it was offered in vain more often than so many times. None if that is nothing,
-    /// or if there is no such owner.
+    /// What the peer lacks of all but the owners that it was offered in vain more often than so many times. None if that is
+    /// nothing, or if there is no such owner.
     fn deltas_above(&mut self, theirs: &Digest, times: u64) -> Result<Option<Delta>, Fault>
         ensures tries { spec.Tries H.step self.old.offers.all.items theirs.now times self.old.inner result self.new.inner }
         ensures offers { self.new.offers ≡ self.old.offers }
@@ -378,8 +381,8 @@ impl<'a, H: Handler> DeferringHandler<'a, H> {
         }
     }
 
-    /// If something was offered in vain that was not deferred since, all that was offered in vain is deferred. Otherwise, or if
-    /// nothing is left then, all but what was offered least often.
+    /// If something was offered in vain, and not deferred since, all that was offered in vain is deferred. Otherwise, or if nothing
+    /// is left then, all but what was offered least often.
     fn deferring_deltas(&mut self, theirs: &Digest) -> Result<Delta, Fault>
         ensures defers { spec.Defers self.old.offers.all.items H.step theirs.now self.old.inner result self.new.inner }
         ensures offers { self.new.offers ≡ self.old.offers }
