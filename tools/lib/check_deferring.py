@@ -1,7 +1,7 @@
 """The parts of tools/check-node that look at offers in vain: a peer that refuses all rows of one name has those of another all the same."""
 import time
 
-from nodes import FRAME_FRONT, SECONDS, Difference, connect, delta, hello, long_text, number, pair, read_frame, throw, weight
+from nodes import FRAME_FRONT, SECONDS, Difference, block, connect, delta, frame, hello, long_text, number, pair, read_frame, throw, want, weight
 
 # A peer that takes the rows of w in vain asks for at most so many rounds before it has another row.
 ROUNDS_MOST = 12
@@ -75,6 +75,28 @@ def refused_by_breadth(check):
             await_row(reader, reader, f"{owner} k{at:05d} {at + 1} text {500 * 'x'}")
 
 
+def refused_for_room(check):
+    """Node r holds as many owners as it may, and then dials the sender, which has another one with more rows than a frame holds. The newer row of z
+    comes all the same."""
+    folder = check.folder()
+    later = folder / "later.sock"
+    sender = check.node("s", "--order", "depth", folder=folder).start()
+    reader = check.node("r", "--pause", "100", folder=folder, peers=[later]).start()
+    names = [f"o{it:04d}" for it in range(1021)] + ["z"]
+    for node in (sender, reader):
+        for at in range(0, len(names), 511):
+            blocks = [block(it, 0, [("x", 1, weight(7))]) for it in names[at : at + 511]]
+            throw(node.sock, hello("p") + frame(3, number(len(blocks), 2) + b"".join(blocks)))
+        node.awaits("the rows of all", lambda found: len(found) == len(names))
+    give_weight(reader, "q")
+    give_texts(sender, "w", 400, 200)
+    throw(sender.sock, hello("p") + delta("z", 1, [("x", 2, weight(8))]))
+    sender.awaits("the newer row of z", lambda found: "z x 2 weight 8" in found)
+    later.symlink_to(sender.sock)
+    await_row(reader, reader, "z x 2 weight 8")
+    want("who holds w", any(it.startswith("w ") for it in reader.get()), False)
+
+
 def owners_of_delta(node, name, held):
     """Whose blocks a peer of this name is offered that holds owners up to these versions."""
     with connect(node.sock) as stream:
@@ -116,4 +138,4 @@ def refused_in_turn(check):
         raise Difference(f"the first offers were {found}")
 
 
-PARTS = (refused_by_depth, refused_by_breadth, refused_in_turn)
+PARTS = (refused_by_depth, refused_by_breadth, refused_for_room, refused_in_turn)
