@@ -121,8 +121,8 @@ Gives step digest old answer new = step old (gives digest answer) new
 abbrev pub Defers : {H : Type 0} → List Offer → (H → Act → H → Type 0) → Digest → H → Result (List Block) Fault → H → Type 0
 Defers offers step digest old answer new =
     MatchBool (is_any_new offers digest)
-        (TriesOr step offers digest 0 (TriesOr step offers digest (least_times offers digest) (Gives step digest)) old answer new)
-        (TriesOr step offers digest (least_times offers digest) (Gives step digest) old answer new)
+    (TriesOr step offers digest 0 (TriesOr step offers digest (least_times offers digest) (Gives step digest)) old answer new)
+    (TriesOr step offers digest (least_times offers digest) (Gives step digest) old answer new)
 
 -- a step of the handler within; a digest is answered by one or a few of them
 abbrev pub DeferringStep : {H : Type 0} → List Offer → (H → Act → H → Type 0) → H → Act → H → Type 0
@@ -149,9 +149,9 @@ module _ {H : Type 0} (offers : List Offer) (step : H → Act → H → Type 0) 
   tries-or-keep : (times : ℕ) (next : H → Result (List Block) Fault → H → Type 0)
       → ((old new : H) (answer : Result (List Block) Fault) → next old answer new → keeps old new)
       → (old new : H) (answer : Result (List Block) Fault) → TriesOr step offers digest times next old answer new → keeps old new
-  tries-or-keep times next then old new answer took =
+  tries-or-keep times next next_keeps old new answer took =
       ⊎_elim (tries-keep times old new (tried answer))
-          (λ nothing. on old nothing.0 new (tries-keep times old nothing.0 (Ok None) nothing.1) (then nothing.0 new answer nothing.2)) took
+      (λ nothing. on old nothing.0 new (tries-keep times old nothing.0 (Ok None) nothing.1) (next_keeps nothing.0 new answer nothing.2)) took
 
   -- and of the answer
   defers-keep : (old new : H) (answer : Result (List Block) Fault) → Defers offers step digest old answer new → keeps old new
@@ -159,7 +159,7 @@ module _ {H : Type 0} (offers : List Offer) (step : H → Act → H → Type 0) 
       let least = least_times offers digest in
       let later = tries-or-keep least (Gives step digest) (λ a b r s. each a b digest r s) in
       match-keep (is_any_new offers digest) (tries-or-keep 0 (TriesOr step offers digest least (Gives step digest)) later old new answer)
-          (later old new answer) took
+      (later old new answer) took
 
 -- only a delta that was applied enters anything
 pub deferring-nothing : {H : Type 0} (offers : List Offer) (step : H → Act → H → Type 0) (stays : H → H → Type 0)

@@ -31,7 +31,7 @@ struct Offer {
 
 /// What one peer was offered. The node does not know that the peer took it.
 #[derive(Drop)]
-pub(crate) struct PeerOffers {
+struct PeerOffers {
     all: Vec<Offer>,
 }
 
@@ -214,7 +214,7 @@ fn unless_empty(delta: Delta) -> Option<Delta>
 
 impl PeerOffers {
     /// It was offered nothing. It takes no memory.
-    pub(crate) fn new(alloc: Global) -> PeerOffers
+    fn new(alloc: Global) -> PeerOffers
         ensures { result.all.items ≡ [] }
     {
         PeerOffers {
@@ -275,16 +275,18 @@ impl VainOffers {
     }
 
     /// Takes what this peer was offered, for a session with it. Nothing if it is not known who asks.
-    pub(crate) fn take<R: Wait>(&self, rt: &R, asker: Option<Asker>) -> PeerOffers {
-        let found = match asker {
-            Some(asker) => remove_of(&mut self.kept.lock(rt), &asker),
-            None => None,
+    fn take<R: Wait>(&self, rt: &R, asker: Option<&Asker>) -> PeerOffers {
+        let Some(asker) = asker else {
+            return PeerOffers::new(self.alloc);
         };
-        found.unwrap_or_else(|| PeerOffers::new(self.alloc))
+        match remove_of(&mut self.kept.lock(rt), asker) {
+            Some(offers) => offers,
+            None => PeerOffers::new(self.alloc),
+        }
     }
 
     /// Keeps what this peer was offered, for its next session. It is forgotten if memory is missing.
-    pub(crate) fn keep<R: Wait>(&self, rt: &R, asker: Option<Asker>, offers: PeerOffers) {
+    fn keep<R: Wait>(&self, rt: &R, asker: Option<Asker>, offers: PeerOffers) {
         let Some(asker) = asker else {
             return;
         };
@@ -319,11 +321,12 @@ impl<'a, H: Handler> DeferringHandler<'a, H> {
     ) -> DeferringHandler<'a, H>
         ensures inner { result.inner ≡ inner }
     {
+        let offers = vain_offers.take(rt, asker.as_ref());
         DeferringHandler {
             inner,
             vain_offers,
             asker,
-            offers: vain_offers.take(rt, asker),
+            offers,
         }
     }
 
@@ -428,14 +431,14 @@ impl<H: Handler> Handler for DeferringHandler<'_, H> {
     }
 
     ghost enters_nothing = { λ old new act none step.
-      deferring-nothing old.offers.all.items H.step H.stays H.enters_nothing H.stays_still H.stays_on old.inner new.inner act none step };
+        deferring-nothing old.offers.all.items H.step H.stays H.enters_nothing H.stays_still H.stays_on old.inner new.inner act none step };
 
     ghost stays_still = { λ state. H.stays_still state.inner };
 
     ghost stays_on = { λ old mid new first then. H.stays_on old.inner mid.inner new.inner first then };
 
     ghost step_grows = { λ old new act step.
-      deferring-later old.offers.all.items H.step H.grows H.step_grows H.grows_still H.grows_on old.inner new.inner act step };
+        deferring-later old.offers.all.items H.step H.grows H.step_grows H.grows_still H.grows_on old.inner new.inner act step };
 
     ghost grows_still = { λ state. H.grows_still state.inner };
 

@@ -8,4 +8,4 @@ invariant-loop-offer l = l.all.items ≡ map (deferred l.theirs) (filter (λ o. 
 abbrev pub invariant-loop-block : goal.invariant-loop-block
 invariant-loop-block l =
     l.all.items ≡ map (deferred l.theirs) (filter (λ o. not (has_block l.blocks o.owner)) l.offers)
-        ++ map (offer_after l.offers l.theirs) (take l.block-index l.blocks)
+    ++ map (offer_after l.offers l.theirs) (take l.block-index l.blocks)
