@@ -1,7 +1,6 @@
 -- What a peer was offered in vain, and which of it an answer defers.
 use Rattle.std.proofs.Common.{◌≡◌, ◌⊎◌, inl, inr, ⊎_elim, ℕ, ◌+◌, ◌-◌, ◌^◌, ◌&&◌, ◌||◌, Bool, true, false, not, refl, sym, subst, List, [], ◌∷◌, ◌++◌, map, filter, nat_eq, nat_lt, if◌then◌else◌, Option, Some, None, Result, Ok, Err}
-use Rattle.std.specs.Prelude.{IsPermutation, find, MatchBool}
-use Rattle.std.specs.Option.{option_map_or}
+use Rattle.std.specs.Prelude.{IsPermutation, MatchBool}
 use Rattle.std.specs.List.{list_any}
 use Rattle.std.specs.Cmp.Lexicographic.{pointwise}
 use Rattle.sb_types.specs.declared.fault.Fault.{Fault}
@@ -68,8 +67,10 @@ pub record IsWithHeld (owners : List (List ℕ)) (digest copy : Digest) : Type 0
 abbrev pub IsDeferral : List Offer → Digest → ℕ → Digest → Type 0
 IsDeferral offers digest times copy = IsWithHeld (owners_above offers digest times) digest copy
 
+-- how often a block of the owner was offered before
 abbrev pub times_before : List Offer → List ℕ → ℕ
-times_before offers owner = option_map_or (λ o. o.times) (find (λ o. pointwise nat_eq o.owner owner) offers) 0
+times_before [] owner = 0
+times_before (o ∷ os) owner = if pointwise nat_eq o.owner owner then o.times else times_before os owner
 
 abbrev pub has_block : List Block → List ℕ → Bool
 has_block blocks owner = list_any (λ b. pointwise nat_eq b.owner owner) blocks

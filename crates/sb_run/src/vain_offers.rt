@@ -1,5 +1,6 @@
 //! What a node offered in vain: a peer that asks again is first offered what else it lacks.
 ghost use Rattle.std.specs.Prelude.{◌≡◌, [], IfOk, IfErr, IfSome};
+ghost use Rattle.sb_session.specs.Handlers.{IsRefusal};
 ghost use Rattle.sb_run.specs.Deferring as spec;
 
 use sb_digest::{Digest, Pair};
@@ -151,10 +152,12 @@ fn with_held(alloc: Global, theirs: &Digest, owners: &[Name]) -> Option<Digest>
 fn times_before(offers: &[Offer], owner: &Name) -> u64
     ensures { result ≡ spec.times_before offers.now owner.now }
 {
-    match offers.iter().find(|offer| offer.owner == *owner) {
-        Some(offer) => offer.times,
-        None => 0,
+    for offer in offers {
+        if offer.owner == *owner {
+            return offer.times;
+        }
     }
+    0
 }
 
 /// Whether a block of the owner is among these.
@@ -227,10 +230,10 @@ impl PeerOffers {
         ensures { spec.IsNoted self.old.all.items theirs.now blocks.now self.new.all.items }
     {
         self.all.retain(|offer| is_open(theirs, offer));
-        self.all = match offers_after(alloc, &self.all, theirs, blocks) {
-            Ok(all) => all,
-            Err(_) => Vec::new(alloc),
-        };
+        match offers_after(alloc, &self.all, theirs, blocks) {
+            Ok(all) => self.all = all,
+            Err(_) => self.all.clear(),
+        }
     }
 }
 
@@ -359,9 +362,11 @@ impl<'a, H: Handler> DeferringHandler<'a, H> {
 
     /// What the peer lacks of all but the owners that it was offered in vain more often than so many times. None if that is
     /// nothing, or if there is no such owner.
+    #[tactic(auto, using(crate::proofs::Deferring::tried))]
     fn deltas_above(&mut self, theirs: &Digest, times: u64) -> Result<Option<Delta>, Fault>
         ensures tries { spec.Tries H.step self.old.offers.all.items theirs.now times self.old.inner result self.new.inner }
-        ensures offers { self.new.offers ≡ self.old.offers }
+        ensures offers { self.new.offers.all.items ≡ self.old.offers.all.items }
+        ensures fault { IfErr result IsRefusal }
     {
         let Some(others) = self.digest_above(theirs, times) else {
             return Ok(None);
@@ -375,7 +380,8 @@ impl<'a, H: Handler> DeferringHandler<'a, H> {
     /// The same, or all that the peer lacks if that is nothing.
     fn deltas_above_or_all(&mut self, theirs: &Digest, times: u64) -> Result<Delta, Fault>
         ensures tries { spec.TriesOr H.step self.old.offers.all.items theirs.now times (spec.Gives H.step theirs.now) self.old.inner result self.new.inner }
-        ensures offers { self.new.offers ≡ self.old.offers }
+        ensures offers { self.new.offers.all.items ≡ self.old.offers.all.items }
+        ensures fault { IfErr result IsRefusal }
     {
         match self.deltas_above(theirs, times) {
             Err(fault) => Err(fault),
@@ -386,9 +392,11 @@ impl<'a, H: Handler> DeferringHandler<'a, H> {
 
     /// If something was offered in vain, and not deferred since, all that was offered in vain is deferred. Otherwise, or if nothing
     /// is left then, all but what was offered least often.
+    #[tactic(auto, using(crate::proofs::Deferring::defers_rest, crate::proofs::Deferring::defers_later))]
     fn deferring_deltas(&mut self, theirs: &Digest) -> Result<Delta, Fault>
         ensures defers { spec.Defers self.old.offers.all.items H.step theirs.now self.old.inner result self.new.inner }
-        ensures offers { self.new.offers ≡ self.old.offers }
+        ensures offers { self.new.offers.all.items ≡ self.old.offers.all.items }
+        ensures fault { IfErr result IsRefusal }
     {
         let least = least_times(&self.offers.all, theirs);
         if !is_any_new(&self.offers.all, theirs) {
