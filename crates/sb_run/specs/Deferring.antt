@@ -87,9 +87,12 @@ deferred digest o = record { owner = o.owner; standing = o.standing; times = o.t
 abbrev pub offers_after : List Offer → Digest → List Block → List Offer
 offers_after offers digest blocks = map (deferred digest) (filter (λ o. not (has_block blocks o.owner)) offers) ++ map (offer_after offers digest) blocks
 
+abbrev pub open_offers : Digest → List Offer → List Offer
+open_offers digest offers = filter (is_open digest) offers
+
 -- so it is noted of all that is open, or all is forgotten
 abbrev pub IsNoted : List Offer → Digest → List Block → List Offer → Type 0
-IsNoted offers digest blocks new = (new ≡ offers_after (filter (is_open digest) offers) digest blocks) ⊎ (new ≡ [])
+IsNoted offers digest blocks new = (new ≡ offers_after (open_offers digest offers) digest blocks) ⊎ (new ≡ [])
 
 -- the delta, if it has a block
 abbrev pub unless_empty : List Block → Option (List Block)

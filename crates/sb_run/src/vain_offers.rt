@@ -204,6 +204,13 @@ fn offers_after(
     Ok(all)
 }
 
+/// Drops those that are not open.
+fn keep_open(offers: &mut Vec<Offer>, theirs: &Digest)
+    ensures { offers.new.items ≡ spec.open_offers theirs.now offers.old.items }
+{
+    offers.retain(|offer| is_open(theirs, offer));
+}
+
 /// The delta, if it has a block.
 fn unless_empty(delta: Delta) -> Option<Delta>
     ensures { result ≡ spec.unless_empty delta }
@@ -229,7 +236,7 @@ impl PeerOffers {
     fn note(&mut self, alloc: Global, theirs: &Digest, blocks: &[Block])
         ensures { spec.IsNoted self.old.all.items theirs.now blocks.now self.new.all.items }
     {
-        self.all.retain(|offer| is_open(theirs, offer));
+        keep_open(&mut self.all, theirs);
         match offers_after(alloc, &self.all, theirs, blocks) {
             Ok(all) => self.all = all,
             Err(_) => self.all.clear(),
@@ -362,7 +369,6 @@ impl<'a, H: Handler> DeferringHandler<'a, H> {
 
     /// What the peer lacks of all but the owners that it was offered in vain more often than so many times. None if that is
     /// nothing, or if there is no such owner.
-    #[tactic(auto, using(crate::proofs::Deferring::tried))]
     fn deltas_above(&mut self, theirs: &Digest, times: u64) -> Result<Option<Delta>, Fault>
         ensures tries { spec.Tries H.step self.old.offers.all.items theirs.now times self.old.inner result self.new.inner }
         ensures offers { self.new.offers.all.items ≡ self.old.offers.all.items }
@@ -392,7 +398,6 @@ impl<'a, H: Handler> DeferringHandler<'a, H> {
 
     /// If something was offered in vain, and not deferred since, all that was offered in vain is deferred. Otherwise, or if nothing
     /// is left then, all but what was offered least often.
-    #[tactic(auto, using(crate::proofs::Deferring::defers_rest, crate::proofs::Deferring::defers_later))]
     fn deferring_deltas(&mut self, theirs: &Digest) -> Result<Delta, Fault>
         ensures defers { spec.Defers self.old.offers.all.items H.step theirs.now self.old.inner result self.new.inner }
         ensures offers { self.new.offers.all.items ≡ self.old.offers.all.items }
