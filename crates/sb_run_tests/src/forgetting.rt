@@ -88,7 +88,7 @@ fn a_node_forgets_an_owner(rt: HostRuntime) {
         &["forget.nobody", "forget.b"],
     );
     let alloc = rt.alloc();
-    let noter = new_noter(&rt, 3);
+    let noter = new_noter(&rt, 2);
     let listener = got(&rt, UnixListener::bind(&rt, "forget.b"));
     let (ran, played) = thread::join(
         &rt,
