@@ -25,7 +25,7 @@ const ASKING: &[u8] = b"\xa7\x03\x00\x00\x00\x06\x01\x02c1\x01c\
     \xa7\x03\x00\x00\x00\x02\x04\x01";
 
 /// How long a text is that leaves no room for another in a delta.
-const TEXT: usize = 600;
+const TEXT: usize = 500;
 
 /// The bytes of an answer: a Hello, and a delta of one block with one text.
 const ANSWER: usize = 12 + 9 + 28 + 13 + TEXT;
