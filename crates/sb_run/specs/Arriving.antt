@@ -55,3 +55,8 @@ with_room most all = if nat_lt (length all) most then all else without_oldest al
 -- the bytes begin with the Hello of a node of this name
 abbrev pub IsHelloOf : List ℕ → List ℕ → Type 0
 IsHelloOf came name = (hello : Hello) × (rest : List ℕ) × (front_of came ≡ whole (kinds.Hello hello) rest) × (hello.node ≡ name)
+
+-- the name of the node that says Hello by a message
+abbrev pub hello_name : Message → Option (List ℕ)
+hello_name (kinds.Hello hello) = Some hello.node
+hello_name other = None

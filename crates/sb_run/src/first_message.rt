@@ -1,7 +1,7 @@
 //! The first bytes of a peer, which come before a worker takes it.
 ghost use Rattle.std.specs.Prelude.{◌≡◌, IfOk, IfErr, IfSome};
 ghost use Rattle.sb_run.specs.declared.first_message.TheConstants.{FIRST_MOST};
-ghost use Rattle.sb_run.specs.Arriving.{has_begun, IsHelloOf};
+ghost use Rattle.sb_run.specs.Arriving.{has_begun, hello_name, IsHelloOf};
 
 use sb_codec::Message;
 use sb_frames::{Frames, faults_are_of_the_bytes};
@@ -31,15 +31,27 @@ pub(crate) fn is_enough(alloc: Global, came: &[u8]) -> Result<bool, Fault>
     }
 }
 
+/// The name of the node that says Hello by a message. None if the message is another.
+fn name_in(message: &Message) -> Option<Name>
+    ensures { result ≡ hello_name message.now }
+{
+    match message {
+        Message::Hello(hello) => Some(hello.node),
+        _ => None,
+    }
+}
+
 /// The name in the Hello that a peer begins with. None if it begins otherwise, or if memory is missing.
 pub(crate) fn name_of(alloc: Global, came: &[u8]) -> Option<Name>
     ensures { IfSome result (IsHelloOf came.now) }
 {
     faults_are_of_the_bytes();
     let mut frames = Frames::new(alloc);
-    frames.feed(came).ok()?;
-    match frames.next() {
-        Ok(Some(Message::Hello(hello))) => Some(hello.node),
-        _ => None,
+    if frames.feed(came).is_err() {
+        return None;
     }
+    let Ok(Some(message)) = frames.next() else {
+        return None;
+    };
+    name_in(&message)
 }
