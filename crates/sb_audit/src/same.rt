@@ -20,6 +20,7 @@ pub(crate) fn is_same_slot(slot: &Slot, other: &Slot) -> bool
 }
 
 /// Returns the entry of a version in a table, by one look-up. The version has to be at least 1.
+#[tactic(auto, using(crate::proofs::Versions::entry_above))]
 pub(crate) fn entry_of(table: &Table, version: u64) -> Option<&Entry>
     requires { 1 ≤ version }
     ensures { option_copied result ≡ entry_of version table.now.entries }
@@ -34,6 +35,7 @@ pub(crate) fn entry_of(table: &Table, version: u64) -> Option<&Entry>
 
 /// Returns the entry of a version in a list, by a search of the half in which it is. The versions have to ascend, and
 /// the version has to be at least 1.
+#[tactic(auto, using(crate::proofs::Versions::entry_above))]
 pub(crate) fn entry_among(entries: &[Entry], version: u64) -> Option<&Entry>
     requires version { 1 ≤ version }
     requires ascending { are_ascending 0 entries.now ≡ true }
