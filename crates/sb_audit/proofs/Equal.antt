@@ -1,6 +1,6 @@
 -- Equal slots and equal entries.
-use Rattle.std.proofs.Common.{◌≡◌, ℕ, true, false, beq, refl, sym, ap, ◌∙◌, subst, nat_eq}
-use Rattle.std.proofs.lemmas.Bool.{and_parts, and_from, same_from_beq, false≢true}
+use Rattle.std.proofs.Common.{◌≡◌, ℕ, true, false, refl, sym, ap, subst}
+use Rattle.std.proofs.lemmas.Bool.{and_parts, and_from, eqb-true, eq-eqb, false≢true}
 use Rattle.sb_types.specs.declared.entry.Slot.{Slot}
 use Rattle.sb_types.specs.declared.entry.Slot.TheVariants.{Set, Removed}
 use Rattle.sb_types.specs.Value.{Value, Addr, Weight, Flag, Text}
@@ -16,7 +16,7 @@ same_value (Addr text) (Weight other) h = absurd (false≢true h)
 same_value (Addr text) (Flag other) h = absurd (false≢true h)
 same_value (Addr text) (Text other) h = absurd (false≢true h)
 same_value (Weight weight) (Addr other) h = absurd (false≢true h)
-same_value (Weight weight) (Weight other) h = ap Weight (sym (same_from_beq other weight h))
+same_value (Weight weight) (Weight other) h = ap Weight (sym (eqb-true other weight h))
 same_value (Weight weight) (Flag other) h = absurd (false≢true h)
 same_value (Weight weight) (Text other) h = absurd (false≢true h)
 same_value (Flag flag) (Addr other) h = absurd (false≢true h)
@@ -33,7 +33,7 @@ same_value (Text text) (Text other) h = ap Text (sym (same_text other text h))
 
 value_itself : (a : Value) → is_same_value a a ≡ true
 value_itself (Addr text) = text_same text text refl
-value_itself (Weight weight) = grind arith
+value_itself (Weight weight) = eq-eqb weight weight refl
 value_itself (Flag true) = refl
 value_itself (Flag false) = refl
 value_itself (Text text) = text_same text text refl

@@ -24,17 +24,17 @@ module _ {Such : Entry → Type 0} where
   first_here x xs such = record { before = []; behind = xs; parts = refl; such = such; first = λ y s. absurd s }
 
   pub first_there : (x : Entry) (xs : List Entry) (e : Entry) → (Such x → ⊥) → IsFirst Such xs e → IsFirst Such (x ∷ xs) e
-  first_there x xs e no f = record {
+  first_there x xs e never f = record {
     before = x ∷ f.before;
     behind = f.behind;
     parts = ap (λ (es : List Entry). x ∷ es) f.parts;
     such = f.such;
-    first = λ y s. ⊎_elim (λ p. subst (λ (z : Entry). Such z → ⊥) p no) (λ r. f.first y r) s;
+    first = λ y s. ⊎_elim (λ p. subst (λ (z : Entry). Such z → ⊥) p never) (λ r. f.first y r) s;
   }
 
   pub none_there : (x : Entry) (xs : List Entry) → (Such x → ⊥) → ((y : Entry) → Stands xs y → Such y → ⊥) → (y : Entry) → Stands (x ∷ xs) y → Such y → ⊥
-  none_there x xs no rest y (inl p) = subst (λ (z : Entry). Such z → ⊥) p no
-  none_there x xs no rest y (inr s) = rest y s
+  none_there x xs never rest y (inl p) = subst (λ (z : Entry). Such z → ⊥) p never
+  none_there x xs never rest y (inr s) = rest y s
 
 -- ---- foreign entries
 
@@ -44,12 +44,12 @@ module _ (t : Table) (upto : ℕ) (run : IsRun 0 t.held t.entries) where
   Found es (Some p) = IsFirst (IsForeign t upto) es p.0 × IsReason t upto p.0 p.1
 
   found_behind : (x : Entry) (xs : List Entry) → (IsForeign t upto x → ⊥) → (o : Option (Entry × Reason)) → Found xs o → Found (x ∷ xs) o
-  found_behind x xs no None rest = none_there x xs no rest
-  found_behind x xs no (Some p) f = (first_there x xs p.0 no f.0, f.1)
+  found_behind x xs never None rest = none_there x xs never rest
+  found_behind x xs never (Some p) f = (first_there x xs p.0 never f.0, f.1)
 
   found_next : (x : Entry) (xs : List Entry) (r : Option Reason) (o : Option (Entry × Reason)) → Answers t upto x r → Found xs o → Found (x ∷ xs) (or_foreign x r o)
   found_next x xs (Some reason) o is rest = (first_here x xs (reason, is.explains), is)
-  found_next x xs None o no rest = found_behind x xs no o rest
+  found_next x xs None o never rest = found_behind x xs never o rest
 
   found_all : (es : List Entry) → Found es (first_foreign t upto es)
   found_all [] = λ e s. absurd s
@@ -78,7 +78,7 @@ dead_gone (Set value) floor version h = absurd (false≢true h)
 dead_gone Removed floor version h = (refl, ltb-false floor version (not-true _ h))
 
 gone_dead : (slot : Slot) (floor version : ℕ) → (slot ≡ Removed) × (version ≤ floor) → not (is_set slot || nat_lt floor version) ≡ true
-gone_dead slot floor version gone = not_from_false _ (or_from _ _ (ap is_set gone.0) (le-ltb version floor gone.1))
+gone_dead slot floor version gone = not_from_false _ (or_from _ _ (ap is_set gone.0) (le-ltb floor version gone.1))
 
 module _ (b : Block) (run : IsRun b.after b.upto b.entries) where
   entry_stands : (own : Entry) (o : Option Entry) → entry_of own.version b.entries ≡ o → is_entry own o ≡ true → Stands b.entries own
@@ -112,8 +112,8 @@ module _ (b : Block) (run : IsRun b.after b.upto b.entries) where
   Lacked es (Some own) = IsFirst (IsMissing b) es own
 
   lacked_behind : (x : Entry) (xs : List Entry) → (IsMissing b x → ⊥) → (o : Option Entry) → Lacked xs o → Lacked (x ∷ xs) o
-  lacked_behind x xs no None rest = none_there x xs no rest
-  lacked_behind x xs no (Some own) f = first_there x xs own no f
+  lacked_behind x xs never None rest = none_there x xs never rest
+  lacked_behind x xs never (Some own) f = first_there x xs own never f
 
   lacked_all : (a : ℕ) (es : List Entry) → are_ascending a es ≡ true → Lacked es (first_lacking b (newer_entries b.after es))
   lacked_all a [] up = λ own s. absurd s

@@ -31,8 +31,8 @@ other_foreign t upto own e s version apart =
 
 -- nothing is shown of a slot that cannot be a value
 shown_no_value : (version : ℕ) (slot : Slot) → (is_set slot ≡ true → ⊥) → shown_slot version slot ≡ None
-shown_no_value version (Set value) no = absurd (no refl)
-shown_no_value version Removed no = refl
+shown_no_value version (Set value) never = absurd (never refl)
+shown_no_value version Removed never = refl
 
 set_removed : (slot : Slot) → is_set slot ≡ true → slot ≡ Removed → ⊥
 set_removed slot set removed = false≢true (sym (ap is_set removed) ∙ set)

@@ -1,5 +1,5 @@
 -- What is true of a log's writes is neither foreign nor missing.
-use Rattle.std.proofs.Common.{◌≡◌, ℕ, zero, suc, ◌+◌, ◌-◌, ◌<◌, ◌≤◌, Bool, true, false, List, [], ◌∷◌, ◌++◌, length, inl, inr, ⊎_elim, ◌⊎◌, refl, sym, ap, ◌∙◌, arith}
+use Rattle.std.proofs.Common.{◌≡◌, ℕ, zero, suc, ◌+◌, ◌-◌, ◌<◌, ◌≤◌, Bool, true, false, List, [], ◌∷◌, ◌++◌, length, inl, inr, ⊎_elim, ◌⊎◌, refl, sym, ap, ◌∙◌, subst, arith}
 use Rattle.std.proofs.lemmas.Bool.{cases_Bool, cases_order, false≢true}
 use Rattle.sb_types.specs.declared.entry.Slot.{Slot}
 use Rattle.sb_types.specs.declared.entry.Slot.TheVariants.{Removed}
@@ -107,12 +107,12 @@ one_run : (e : Entry) → 1 ≤ e.version → IsRun (e.version - 1) e.version (e
 one_run e counted = record { ascending = grind (arith, counted); most = omega arith; distinct = refl }
 
 one_told : (writes : List Write) (e : Entry) → Written writes e → Tells writes 0 (e.version - 1) e.version (e ∷ [])
-one_told writes e w = record {
-  reach = within_writes e w;
+one_told writes e v = record {
+  reach = within_writes e v;
   reach_floor = omega arith;
-  true_each = λ x s. ⊎_elim (λ p. rw (sym p) w) (λ none. absurd none) s;
-  whole = λ x v lo hi. inl (inl (one_write e x w v (omega (arith, lo, hi, w.counted))));
-  past = λ x y v gone s k o. absurd (omega (arith, v.counted, gone.1));
+  true_each = λ x s. ⊎_elim (λ p. subst (Written writes) p v) (λ none. absurd none) s;
+  whole = λ x y lo hi. inl (inl (one_write e x v y (omega (arith, lo, hi, v.counted))));
+  past = λ x y by gone s k o. absurd (omega (arith, by.counted, gone.1));
 }
 
 pub written_not_foreign : (writes : List Write) (t : Table) (e : Entry) → IsOwn writes t → Written writes e → IsForeign t e.version e → ⊥

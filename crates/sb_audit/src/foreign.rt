@@ -4,6 +4,7 @@ ghost use Rattle.std.specs.Prelude.{◌≡◌, None, IfSome, IfNone};
 ghost use Rattle.std.specs.Option.{option_map};
 ghost use Rattle.sb_types.specs.Records as records;
 ghost use Rattle.sb_types.specs.Runs.{Stands, entry_at};
+ghost use Rattle.sb_table.specs.Floors.{IsKeptTable};
 ghost use Rattle.sb_audit.specs.Foreign.{IsForeign, IsReason, IsFirst};
 ghost use Rattle.sb_audit.specs.Search.{reason_beside, reason_by_key, reason_of, first_foreign};
 
@@ -58,8 +59,11 @@ pub fn find_foreign<'a>(table: &Table, block: &'a Block) -> Option<Foreign<'a>>
 
 /// Returns the first of these entries that has a reason, with that reason.
 fn first_foreign<'a>(table: &Table, upto: u64, entries: &'a [Entry]) -> Option<Foreign<'a>>
-    ensures { option_map (λ foreign. (foreign.entry.now, foreign.reason)) result ≡ first_foreign table.now upto entries.now }
+    ensures first { option_map (λ foreign. (foreign.entry.now, foreign.reason)) result ≡ first_foreign table.now upto entries.now }
+    ensures table { IsKeptTable table.now }
 {
+    // Proof only: the call shows that the table keeps its limits.
+    let _ = table.upto();
     for entry in entries {
         if let Some(reason) = reason_of(table, upto, entry) {
             return Some(Foreign { entry, reason });

@@ -1,10 +1,11 @@
 //! The entries of a node's own table that a block lacks.
 
-ghost use Rattle.std.specs.Prelude.{◌≡◌, IfSome, IfNone};
+ghost use Rattle.std.specs.Prelude.{◌≡◌, true, IfSome, IfNone};
 ghost use Rattle.std.specs.Option.{option_copied};
 ghost use Rattle.sb_types.specs.Records as records;
+ghost use Rattle.sb_types.specs.Limits.{is_delta_block};
 ghost use Rattle.sb_types.specs.Runs.{Stands, newer_entries};
-ghost use Rattle.sb_table.specs.Floors.{is_dead};
+ghost use Rattle.sb_table.specs.Floors.{IsKeptTable, is_dead};
 ghost use Rattle.sb_audit.specs.Foreign.{IsFirst};
 ghost use Rattle.sb_audit.specs.Missing.{IsMissing};
 ghost use Rattle.sb_audit.specs.Search.{entry_of, is_entry, is_lacking, first_lacking};
@@ -25,7 +26,9 @@ pub fn find_missing<'a>(table: &'a Table, block: &Block) -> Option<&'a Entry>
 
 /// Returns the first entry of the table above `after` of the block that the block lacks.
 fn first_lacking<'a>(table: &'a Table, block: &Block) -> Option<&'a Entry>
-    ensures { option_copied result ≡ first_lacking block.now (newer_entries block.now.after table.now.entries) }
+    ensures first { option_copied result ≡ first_lacking block.now (newer_entries block.now.after table.now.entries) }
+    ensures table { IsKeptTable table.now }
+    ensures block { is_delta_block block.now ≡ true }
 {
     for own in table.after(block.after()) {
         if own.version() > block.upto() {

@@ -20,31 +20,27 @@ pub(crate) fn is_same_slot(slot: &Slot, other: &Slot) -> bool
 }
 
 /// Returns the entry of a version in a table, by one look-up. The version has to be at least 1.
-#[tactic(auto, using(crate::proofs::Versions::entry_above))]
+#[tactic(auto, using(crate::proofs::Versions::entry_above, crate::proofs::Versions::front_none, crate::proofs::Versions::front_same, crate::proofs::Versions::front_apart))]
 pub(crate) fn entry_of(table: &Table, version: u64) -> Option<&Entry>
     requires { 1 ≤ version }
     ensures { option_copied result ≡ entry_of version table.now.entries }
 {
-    let entry = table.after(version - 1).next()?;
-    if entry.version() == version {
-        Some(entry)
-    } else {
-        None
+    match table.after(version - 1).next() {
+        Some(entry) if entry.version() == version => Some(entry),
+        _ => None,
     }
 }
 
 /// Returns the entry of a version in a list, by a search of the half in which it is. The versions have to ascend, and
 /// the version has to be at least 1.
-#[tactic(auto, using(crate::proofs::Versions::entry_above))]
+#[tactic(auto, using(crate::proofs::Versions::entry_above, crate::proofs::Versions::front_none, crate::proofs::Versions::front_same, crate::proofs::Versions::front_apart))]
 pub(crate) fn entry_among(entries: &[Entry], version: u64) -> Option<&Entry>
     requires version { 1 ≤ version }
     requires ascending { are_ascending 0 entries.now ≡ true }
     ensures { option_copied result ≡ entry_of version entries.now }
 {
-    let entry = entries_above(entries, version - 1).first()?;
-    if entry.version() == version {
-        Some(entry)
-    } else {
-        None
+    match entries_above(entries, version - 1).first() {
+        Some(entry) if entry.version() == version => Some(entry),
+        _ => None,
     }
 }
