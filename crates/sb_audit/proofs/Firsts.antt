@@ -1,18 +1,17 @@
 -- The first foreign entry of a block, and the first own entry that a block lacks.
-use Rattle.std.proofs.Common.{◌≡◌, ℕ, ◌<◌, ◌≤◌, Bool, true, false, not, ◌&&◌, ◌||◌, cond, List, [], ◌∷◌, ◌++◌, inl, inr, ⊎_elim, ◌⊎◌, refl, sym, ap, ◌∙◌, subst, nat_lt, Option, Some, None, IfSome, IfNone, arith, ltb-true, ltb-false}
-use Rattle.std.proofs.lemmas.Bool.{cases_Bool, cond_both, cond-true, cond-false, and_parts, and_cases, or_parts, or_from, not-true, not-false, not_from_true, not_from_false, false≢true, le-ltb}
-use Rattle.std.specs.Option.{option_map, option_copied}
+use Rattle.std.proofs.Common.{◌≡◌, ℕ, ◌<◌, ◌≤◌, true, false, not, ◌||◌, cond, List, [], ◌∷◌, inl, inr, ⊎_elim, refl, sym, ap, ◌∙◌, subst, nat_lt, Option, Some, None, IfSome, IfNone, arith, ltb-true, ltb-false}
+use Rattle.std.proofs.lemmas.Bool.{cond_both, and_parts, and_cases, or_from, not-true, not-false, not_from_false, false≢true, le-ltb}
+use Rattle.std.specs.Option.{option_map}
 use Rattle.sb_types.specs.declared.entry.Slot.{Slot}
 use Rattle.sb_types.specs.declared.entry.Slot.TheVariants.{Set, Removed}
 use Rattle.sb_types.specs.Records.{Entry, Table, Block}
-use Rattle.sb_types.specs.Runs.{Stands, IsRun, IsBlock, is_set, are_ascending, newer_entries}
-use Rattle.sb_types.specs.Writes.{Gone}
+use Rattle.sb_types.specs.Runs.{Stands, IsRun, is_set, are_ascending, newer_entries}
 use Rattle.sb_table.specs.Floors.{is_dead}
 use Rattle.sb_table.proofs.Order.{behind}
 use Rattle.sb_audit.specs.declared.foreign.Reason.{Reason}
-use Rattle.sb_audit.specs.Foreign.{Explains, IsForeign, IsReason, IsFirst}
+use Rattle.sb_audit.specs.Foreign.{IsForeign, IsReason, IsFirst}
 use Rattle.sb_audit.specs.Missing.{IsMissing}
-use Rattle.sb_audit.specs.Search.{entry_of, is_same_entry, is_entry, is_lacking, first_lacking, or_foreign, reason_of, first_foreign}
+use Rattle.sb_audit.specs.Search.{entry_of, is_entry, is_lacking, first_lacking, or_foreign, reason_of, first_foreign}
 use Rattle.sb_audit.proofs.Equal.{same_entry, entry_itself}
 use Rattle.sb_audit.proofs.Versions.{found_stands, stands_found}
 use Rattle.sb_audit.proofs.Reasons.{Answers, reason_answers}

@@ -1,10 +1,9 @@
 -- What a block shows in which no entry is foreign, and which lacks no own entry.
-use Rattle.std.proofs.Common.{◌≡◌, ℕ, ◌<◌, ◌≤◌, Bool, true, false, List, inl, inr, ⊎_elim, ◌⊎◌, refl, sym, ap, ◌∙◌, subst, Option, Some, None, arith, nat_eq}
+use Rattle.std.proofs.Common.{◌≡◌, ℕ, ◌≤◌, true, false, List, inr, ⊎_elim, refl, sym, ap, ◌∙◌, subst, Option, Some, None, arith, nat_eq}
 use Rattle.std.proofs.lemmas.Bool.{cases_Bool, cases_order, false≢true}
 use Rattle.std.specs.Cmp.Lexicographic.{pointwise}
 use Rattle.sb_types.specs.declared.entry.Slot.{Slot}
 use Rattle.sb_types.specs.declared.entry.Slot.TheVariants.{Set, Removed}
-use Rattle.sb_types.specs.Value.{Value}
 use Rattle.sb_types.specs.Records.{Entry, Table, Block}
 use Rattle.sb_types.specs.Runs.{Stands, IsTable, IsBlock, entry_at, has_key, is_set, shown_slot, shown_by_entry, shown_at}
 use Rattle.sb_types.proofs.Standing.{keyed}
@@ -12,9 +11,8 @@ use Rattle.sb_types.proofs.Texts.{same_text, text_same}
 use Rattle.sb_table.proofs.Lookup.{Stands-entry_at, key-entry_at, entry_at-stands, entry_at-none}
 use Rattle.sb_table.proofs.Order.{run_after}
 use Rattle.sb_holdings.proofs.Telling.{same_parts}
-use Rattle.sb_audit.specs.declared.foreign.Reason.{Reason}
 use Rattle.sb_audit.specs.declared.foreign.Reason.TheVariants.{OtherSlot, OtherKey, LaterWrite, EarlierWrite, UnknownKey}
-use Rattle.sb_audit.specs.Foreign.{Explains, IsForeign}
+use Rattle.sb_audit.specs.Foreign.{IsForeign}
 use Rattle.sb_audit.specs.Missing.{IsMissing}
 use Rattle.sb_audit.specs.Search.{is_same_slot}
 use Rattle.sb_audit.proofs.Equal.{same_slot, slot_same}
@@ -39,7 +37,6 @@ set_removed slot set removed = false≢true (sym (ap is_set removed) ∙ set)
 
 module _ (t : Table) (b : Block) (key : List ℕ) (is : IsTable t) (block : IsBlock b) (start : b.after ≡ 0) (reach : t.floor ≤ b.upto)
     (clean : (e : Entry) → Stands b.entries e → IsForeign t b.upto e → ⊥) (whole : (own : Entry) → Stands t.entries own → IsMissing b own → ⊥) where
-
   -- ---- a key that the own table has
 
   module _ (own : Entry) (s : Stands t.entries own) (of_key : own.key ≡ key) (within : own.version ≤ b.upto) where

@@ -1,5 +1,5 @@
 -- The reason that is found is the first that fits; if none is found, none fits.
-use Rattle.std.proofs.Common.{◌≡◌, ℕ, ◌<◌, ◌≤◌, Bool, true, false, not, ◌&&◌, ◌||◌, cond, List, inl, inr, ⊎_elim, ◌⊎◌, refl, sym, ap, ◌∙◌, subst, nat_eq, nat_lt, nat_le, Option, Some, None, arith, ltb-true, ltb-false, leb-true}
+use Rattle.std.proofs.Common.{◌≡◌, ℕ, ◌<◌, ◌≤◌, false, not, ◌&&◌, ◌||◌, cond, List, inl, inr, ⊎_elim, ◌⊎◌, refl, sym, ap, ◌∙◌, subst, nat_eq, nat_lt, nat_le, Option, Some, None, arith, ltb-true, ltb-false, leb-true}
 use Rattle.std.proofs.lemmas.Bool.{cases_lt, cond_both, or_cases, or_parts, and_parts, and_from, le-leb, lt-ltb, leb-false, not-true, not-false, false≢true, false_from_ne_true}
 use Rattle.std.specs.Cmp.Lexicographic.{pointwise}
 use Rattle.sb_types.specs.Records.{Entry, Table}
@@ -7,8 +7,7 @@ use Rattle.sb_types.specs.Runs.{Stands, IsRun, entry_at, has_key, is_set}
 use Rattle.sb_types.proofs.Standing.{has, keyed}
 use Rattle.sb_types.proofs.Texts.{same_text, text_same}
 use Rattle.sb_table.proofs.Lookup.{Stands-entry_at, key-entry_at, entry_at-stands}
-use Rattle.sb_table.proofs.Order.{run_one, run_upto}
-use Rattle.sb_holdings.proofs.Telling.{same_parts}
+use Rattle.sb_table.proofs.Order.{run_one}
 use Rattle.sb_audit.specs.declared.foreign.Reason.{Reason}
 use Rattle.sb_audit.specs.declared.foreign.Reason.TheVariants.{AheadOfLog, OtherSlot, OtherKey, LaterWrite, EarlierWrite, UnknownKey}
 use Rattle.sb_audit.specs.Foreign.{Explains, IsForeign, IsReason, place_of}
@@ -164,10 +163,13 @@ module _ (t : Table) (upto : ℕ) (e : Entry) (run : IsRun 0 t.held t.entries) w
       by_none =
           cond_both (nat_lt t.floor e.version || (is_set e.slot && nat_le t.floor upto)) (Some UnknownKey) None (Answers t upto e)
           (λ unknown. record {
-            explains = (lacks, ⊎_elim
-            (λ above. inl (ltb-true t.floor e.version above))
-            (λ value. let parts = and_parts (is_set e.slot) (nat_le t.floor upto) value in inr (parts.0, leb-true t.floor upto parts.1))
-            (or_cases (nat_lt t.floor e.version) (is_set e.slot && nat_le t.floor upto) unknown));
+            explains = (
+              lacks,
+              ⊎_elim
+                  (λ above. inl (ltb-true t.floor e.version above))
+                  (λ value. let parts = and_parts (is_set e.slot) (nat_le t.floor upto) value in inr (parts.0, leb-true t.floor upto parts.1))
+                  (or_cases (nat_lt t.floor e.version) (is_set e.slot && nat_le t.floor upto) unknown),
+            );
             first = before_unknown (before_earlier first_two (λ x. absent x.0 x.1 x.2)) (λ x. absent x.0 x.1 x.2);
           })
           (λ allowed.

@@ -1,16 +1,13 @@
 -- What is true of a log's writes is neither foreign nor missing.
-use Rattle.std.proofs.Common.{◌≡◌, ℕ, zero, suc, ◌+◌, ◌-◌, ◌<◌, ◌≤◌, Bool, true, false, List, [], ◌∷◌, ◌++◌, length, inl, inr, ⊎_elim, ◌⊎◌, refl, sym, ap, ◌∙◌, subst, arith}
-use Rattle.std.proofs.lemmas.Bool.{cases_Bool, cases_order, false≢true}
-use Rattle.sb_types.specs.declared.entry.Slot.{Slot}
-use Rattle.sb_types.specs.declared.entry.Slot.TheVariants.{Removed}
+use Rattle.std.proofs.Common.{◌≡◌, ℕ, zero, suc, ◌+◌, ◌-◌, ◌<◌, ◌≤◌, true, List, [], ◌∷◌, ◌++◌, length, inl, inr, ⊎_elim, ◌⊎◌, refl, sym, ap, ◌∙◌, subst, arith}
+use Rattle.std.proofs.lemmas.Bool.{cases_order, false≢true}
 use Rattle.sb_types.specs.declared.entry.Write.{Write}
 use Rattle.sb_types.specs.Records.{Entry, Table, Block}
-use Rattle.sb_types.specs.Runs.{Stands, IsRun, IsTable, IsBlock, has_key, is_set}
+use Rattle.sb_types.specs.Runs.{Stands, IsRun, IsTable, IsBlock, is_set}
 use Rattle.sb_types.specs.Writes.{Written, Superseded, Gone, Tells, Holds, Honest}
 use Rattle.sb_types.proofs.Standing.{has}
-use Rattle.sb_types.proofs.Texts.{same_text, text_same}
-use Rattle.sb_table.proofs.Order.{run_after, run_upto, run_one}
-use Rattle.sb_holdings.proofs.Telling.{within_writes, one_write, same_parts}
+use Rattle.sb_table.proofs.Order.{run_after, run_one}
+use Rattle.sb_holdings.proofs.Telling.{within_writes, one_write}
 use Rattle.sb_holdings.proofs.Lasting.{tells_later}
 use Rattle.sb_holdings.proofs.Numbered.{superseded_or_last}
 use Rattle.sb_audit.specs.declared.foreign.Reason.{Reason}

@@ -1,9 +1,9 @@
 -- The entry of a version.
-use Rattle.std.proofs.Common.{◌≡◌, ℕ, ◌-◌, ◌<◌, ◌≤◌, Bool, true, false, cond, List, [], ◌∷◌, inl, inr, ⊎_elim, ◌⊎◌, refl, sym, ap, ◌∙◌, slice_get, nat_eq, nat_lt, Option, Some, None, arith, lt-ltb, ltb-true, ltb-false}
+use Rattle.std.proofs.Common.{◌≡◌, ℕ, ◌-◌, ◌≤◌, Bool, true, false, cond, List, [], ◌∷◌, inl, inr, ⊎_elim, ◌⊎◌, refl, sym, ap, ◌∙◌, slice_get, nat_eq, nat_lt, Option, Some, None, arith, ltb-true, ltb-false}
 use Rattle.std.proofs.lemmas.Bool.{and_parts, cases_Bool, cond-true, cond-false, cond_both, false_from_ne_true, eqb-true, eq-eqb}
 use Rattle.sb_types.specs.Records.{Entry}
 use Rattle.sb_types.specs.Runs.{Stands, are_ascending, newer_entries}
-use Rattle.sb_table.proofs.Order.{behind, lower}
+use Rattle.sb_table.proofs.Order.{behind}
 use Rattle.sb_audit.specs.Search.{entry_of}
 
 first_found : (b : Bool) (x : Entry) (o : Option Entry) (e : Entry) → cond b (Some x) o ≡ Some e → ((b ≡ true) × (x ≡ e)) ⊎ (o ≡ Some e)

@@ -1,5 +1,4 @@
-use Rattle.std.proofs.Common.{◌≡◌, ◌∙◌, ap₂, Option}
-use Rattle.std.specs.Option.{option_map}
+use Rattle.std.proofs.Common.{◌∙◌, ap₂}
 use Rattle.sb_audit.specs.declared.foreign.Foreign.{Foreign}
 use Rattle.sb_audit.specs.Search.{first_foreign}
 use Rattle.sb_audit.proofs.Firsts.{found_first, found_reason, found_none}
