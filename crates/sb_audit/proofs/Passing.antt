@@ -35,11 +35,11 @@ shown_no_value version Removed never = refl
 set_removed : (slot : Slot) → is_set slot ≡ true → slot ≡ Removed → ⊥
 set_removed slot set removed = false≢true (sym (ap is_set removed) ∙ set)
 
-module _ (t : Table) (b : Block) (key : List ℕ) (is : IsTable t) (block : IsBlock b) (start : b.after ≡ 0) (reach : t.floor ≤ b.upto)
+module _ (t : Table) (b : Block) (key : List ℕ) (is : IsTable t) (block : IsBlock b)
     (clean : (e : Entry) → Stands b.entries e → IsForeign t b.upto e → ⊥) (whole : (own : Entry) → Stands t.entries own → IsMissing b own → ⊥) where
   -- ---- a key that the own table has
 
-  module _ (own : Entry) (s : Stands t.entries own) (of_key : own.key ≡ key) (within : own.version ≤ b.upto) where
+  module _ (own : Entry) (s : Stands t.entries own) (of_key : own.key ≡ key) (above : b.after < own.version) (within : own.version ≤ b.upto) where
     same_version : (e : Entry) → Stands b.entries e → e.key ≡ key → own.version ≡ e.version
     same_version e there k =
         ⊎_elim (λ same. same)
@@ -61,7 +61,7 @@ module _ (t : Table) (b : Block) (key : List ℕ) (is : IsTable t) (block : IsBl
         let k = key-entry_at key b.entries e found in
         sym (ap (λ (v : ℕ). shown_slot v own.slot) (same_version e there k) ∙ ap (shown_slot e.version) (same_slots e there k))
     known_in None found = sym (shown_no_value own.version own.slot (λ set. whole own s (record {
-      after = omega (arith, start, run_after own is.run s);
+      after = above;
       upto = within;
       lacks = λ there.
           let at : entry_at key b.entries ≡ Some own = subst (λ (k : List ℕ). entry_at k b.entries ≡ Some own) of_key (entry_at-stands b.entries own block.run.distinct there) in
@@ -76,16 +76,16 @@ module _ (t : Table) (b : Block) (key : List ℕ) (is : IsTable t) (block : IsBl
 
   -- ---- a key that it does not have
 
-  unknown_in : has_key key t.entries ≡ false → (o : Option Entry) → entry_at key b.entries ≡ o → shown_by_entry o ≡ None
-  unknown_in lacks None found = refl
-  unknown_in lacks (Some e) found =
+  unknown_in : t.floor ≤ b.upto → has_key key t.entries ≡ false → (o : Option Entry) → entry_at key b.entries ≡ o → shown_by_entry o ≡ None
+  unknown_in reach lacks None found = refl
+  unknown_in reach lacks (Some e) found =
       let k = key-entry_at key b.entries e found in
       let none : has_key e.key t.entries ≡ false = subst (λ (it : List ℕ). has_key it t.entries ≡ false) (sym k) lacks in
       shown_no_value e.version e.slot (λ set. clean e (Stands-entry_at key b.entries e found) (UnknownKey, (none, inr (set, reach))))
 
-  pub passes_shown : ((own : Entry) → Stands t.entries own → own.key ≡ key → own.version ≤ b.upto) → shown_at key b.entries ≡ shown_at key t.entries
-  passes_shown within =
+  pub passes_shown : b.after ≡ 0 → t.floor ≤ b.upto → ((own : Entry) → Stands t.entries own → own.key ≡ key → own.version ≤ b.upto) → shown_at key b.entries ≡ shown_at key t.entries
+  passes_shown start reach within =
       ⊎_elim
-      (λ has. let k = keyed key t.entries has in known_shown k.0 k.1 k.2 (within k.0 k.1 k.2))
-      (λ lacks. unknown_in lacks (entry_at key b.entries) refl ∙ sym (ap shown_by_entry (entry_at-none key t.entries lacks)))
+      (λ has. let k = keyed key t.entries has in known_shown k.0 k.1 k.2 (omega (arith, start, run_after k.0 is.run k.1)) (within k.0 k.1 k.2))
+      (λ lacks. unknown_in reach lacks (entry_at key b.entries) refl ∙ sym (ap shown_by_entry (entry_at-none key t.entries lacks)))
       (cases_Bool (has_key key t.entries))

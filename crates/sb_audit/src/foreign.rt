@@ -41,14 +41,6 @@ pub struct Foreign<'a> {
 /// Returns the first entry of a block that a log never gave, with the first reason that fits. The table has to be the
 /// own table of the log's node, and the block has to be of the node's own name. Returns `None` if the log may have
 /// given each entry. For each entry it looks up a version and a key. It takes no memory.
-///
-/// ```
-/// let block = Block::new(me, 0, 0, 4, vec![in alloc; theirs]?)?;
-/// let found = find_foreign(&table, &block);
-/// assert!(rt; matches!(found, Some(Foreign { reason: Reason::OtherKey, .. })));
-/// ```
-///
-/// The test `example_of_a_foreign_entry` runs these lines.
 pub fn find_foreign<'a>(table: &Table, block: &'a Block) -> Option<Foreign<'a>>
     ensures found { IfSome result (λ foreign. IsFirst (IsForeign table.now block.now.upto) block.now.entries foreign.entry.now) }
     ensures reason { IfSome result (λ foreign. IsReason table.now block.now.upto foreign.entry.now foreign.reason) }

@@ -14,8 +14,8 @@ pub fn own_tables_are_contents()
     ensures { (writes : List Write) (floor : ℕ) → floor ≤ length writes → IsOwn writes (content_table floor writes) }
 {}
 
-/// No entry that the log ever gave is foreign to its table, whatever was purged since: not by itself, not in an honest
-/// block, and not in a table that was true of the log's writes when there were fewer.
+/// No entry that the log ever gave is foreign to its table, whatever was purged since. This is so by itself, and in an
+/// honest block of the log's first writes. It is so too in a table that holds these.
 pub fn own_entries_are_not_foreign()
     ensures written { (writes : List Write) (t : Table) (e : Entry) → IsOwn writes t → Written writes e → IsForeign t e.version e → ⊥ }
     ensures block { (old more : List Write) (t : Table) (b : Block) (e : Entry) →
@@ -39,11 +39,15 @@ pub fn foreign_entries_are_found()
         Honest other b → Stands t.entries own → (Written other own → ⊥) → b.after < own.version → own.version ≤ b.upto → (Gone b.floor own → ⊥) → IsMissing b own }
 {}
 
-/// If a block has all from the first version up to the own table's floor or further, no entry of it is foreign, and no
-/// own entry is missing, then whoever holds the block shows what the own table shows, of each key that was not written
-/// above the block.
+/// Say no entry of a block is foreign, and no own entry is missing. Then whoever holds the block shows the last write of
+/// each key that was last written in the block's range, as the own table does. Say the block also begins after 0, and
+/// reaches up to the own table's floor or further. Then whoever holds it shows a key that the own table does not have as
+/// the own table does: not at all.
 pub fn what_passes_is_shown()
-    ensures { (t : Table) (b : Block) (key : List ℕ) → IsTable t → IsBlock b → b.after ≡ 0 → t.floor ≤ b.upto →
-        ((e : Entry) → Stands b.entries e → IsForeign t b.upto e → ⊥) → ((own : Entry) → Stands t.entries own → IsMissing b own → ⊥) →
-        ((own : Entry) → Stands t.entries own → own.key ≡ key → own.version ≤ b.upto) → shown_at key b.entries ≡ shown_at key t.entries }
+    ensures range { (t : Table) (b : Block) (own : Entry) → IsTable t → IsBlock b →
+        ((e : Entry) → Stands b.entries e → IsForeign t b.upto e → ⊥) → ((x : Entry) → Stands t.entries x → IsMissing b x → ⊥) →
+        Stands t.entries own → b.after < own.version → own.version ≤ b.upto → shown_at own.key b.entries ≡ shown_at own.key t.entries }
+    ensures whole { (t : Table) (b : Block) (key : List ℕ) → IsTable t → IsBlock b →
+        ((e : Entry) → Stands b.entries e → IsForeign t b.upto e → ⊥) → ((x : Entry) → Stands t.entries x → IsMissing b x → ⊥) →
+        b.after ≡ 0 → t.floor ≤ b.upto → ((own : Entry) → Stands t.entries own → own.key ≡ key → own.version ≤ b.upto) → shown_at key b.entries ≡ shown_at key t.entries }
 {}

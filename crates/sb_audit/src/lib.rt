@@ -7,9 +7,11 @@
 //! the peer shows what the log says.
 //!
 //! ```rust
-//! /// Whether a block that a peer made of the node's own name is one that the node's log explains.
-//! fn is_own(table: &Table, block: &Block) -> bool {
-//!     find_foreign(table, block).is_none() && find_missing(table, block).is_none()
+//! /// The versions of the first foreign entry of a block, and of the first own entry that the block lacks.
+//! fn compare(table: &Table, block: &Block) -> (Option<u64>, Option<u64>) {
+//!     let foreign = find_foreign(table, block).map(|found| found.entry.version());
+//!     let missing = find_missing(table, block).map(|own| own.version());
+//!     (foreign, missing)
 //! }
 //! ```
 //!
