@@ -38,9 +38,9 @@ pub struct Foreign<'a> {
     pub reason: Reason,
 }
 
-/// Returns the first entry of a block that a log never gave, with the first reason that fits. The table has to be the
-/// own table of the log's node, and the block has to be of the node's own name. Returns `None` if the log may have
-/// given each entry. For each entry it looks up a version and a key. It takes no memory.
+/// Returns the first foreign entry of a block, and the first reason that fits. Returns `None` if no entry is foreign. The
+/// block has to be of the node's own name, and the table the node's own, of a moment after the block was made. An older
+/// table would lack the latest writes. Each entry takes a look-up by version and one by key. It takes no memory.
 pub fn find_foreign<'a>(table: &Table, block: &'a Block) -> Option<Foreign<'a>>
     ensures found { IfSome result (λ foreign. IsFirst (IsForeign table.now block.now.upto) block.now.entries foreign.entry.now) }
     ensures reason { IfSome result (λ foreign. IsReason table.now block.now.upto foreign.entry.now foreign.reason) }

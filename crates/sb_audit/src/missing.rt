@@ -14,9 +14,10 @@ use crate::same::{entry_among, is_same_slot};
 use sb_table::Table;
 use sb_types::{Block, Entry, Slot};
 
-/// Returns the first entry of the own table that a block of the node's own name lacks. The block reaches from below
-/// the entry's version up to it, so it would have the entry. A tombstone at or below the block's floor may be gone.
-/// Returns `None` if the block lacks none. For each entry that it looks at, it looks up a version. It takes no memory.
+/// Returns the first entry of the own table that a block of the node's own name lacks. Such a block reaches from below
+/// the entry's version up to it, and does not have the entry. A tombstone at or below the block's floor may be gone.
+/// Returns `None` if the block lacks none. Each entry in the block's range takes a look-up in the block. It takes no
+/// memory.
 pub fn find_missing<'a>(table: &'a Table, block: &Block) -> Option<&'a Entry>
     ensures missing { IfSome result (λ own. IsFirst (IsMissing block.now) table.now.entries own.now) }
     ensures none { IfNone result ((own : records.Entry) → Stands table.now.entries own → IsMissing block.now own → ⊥) }

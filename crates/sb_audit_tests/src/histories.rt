@@ -1,6 +1,6 @@
 //! Two logs of one name: a log and its old copy that went on, purged logs, and a log that is behind.
 
-use crate::making::{Findings, block_above, findings, got, log_of, purge, same_at};
+use crate::making::{Findings, block_above, findings, log_of, purge, same_at};
 use sb_audit::{Reason, find_foreign, find_missing};
 use sb_table::Table;
 use sb_types::Block;
@@ -70,13 +70,13 @@ fn own_up_to_8(rt: &impl Abort, alloc: Global) -> Table {
 fn purged_logs(rt: HostRuntime) {
     let alloc = rt.alloc();
     let mut own = log_of(&rt, alloc, b"kKbcC", 0);
-    purge(&rt, &mut own, 2);
+    purge(&mut own, 2);
     let set = log_of(&rt, alloc, b"k", 0);
     assert_found(&rt, alloc, &own, &set, 0, (None, None));
     let removed = log_of(&rt, alloc, b"kKb", 0);
     assert_found(&rt, alloc, &own, &removed, 0, (None, None));
     let mut purged = log_of(&rt, alloc, b"kKbcC", 0);
-    purge(&rt, &mut purged, 5);
+    purge(&mut purged, 5);
     assert_found(&rt, alloc, &own, &purged, 0, (None, None));
     assert_found(&rt, alloc, &purged, &own, 0, (None, None));
     let kept = log_of(&rt, alloc, b"kzb", 0);

@@ -22,14 +22,17 @@ pub(crate) fn same_at<N: Debug, T: PartialEq + Debug>(
     assert_eq!(rt; found, wanted, "{at:?}");
 }
 
-/// A write of at least version 1: it sets the key to a weight, or removes it.
-pub(crate) fn write(rt: &impl Abort, key: &[u8], version: u64, weight: Option<u64>) -> Entry {
+/// A write of at least version 1 that sets the key to a weight.
+pub(crate) fn setting(rt: &impl Abort, key: &[u8], version: u64, weight: u64) -> Entry {
     let key = got(rt, Key::read(key));
-    let slot = match weight {
-        Some(weight) => Slot::Set(got(rt, Value::weight(weight))),
-        None => Slot::Removed,
-    };
-    Entry::new(key, version.max(1), slot)
+    let value = got(rt, Value::weight(weight));
+    Entry::new(key, version.max(1), Slot::Set(value))
+}
+
+/// A write of at least version 1 that removes the key.
+pub(crate) fn removing(rt: &impl Abort, key: &[u8], version: u64) -> Entry {
+    let key = got(rt, Key::read(key));
+    Entry::new(key, version.max(1), Slot::Removed)
 }
 
 /// Enters a write of a later version than all that the table has. Refuses all others as `OutOfTurn`.
@@ -41,37 +44,41 @@ fn enter(table: &mut Table, entry: Entry) -> Result<(), Fault> {
     table.push(entry)
 }
 
-/// The table of a log that gave these writes, one for each letter. A small letter sets the key of this letter to the
-/// write's version plus `more`, as a weight. A capital one removes the key.
+/// The write of a letter. A small letter sets the key of this letter to a weight. A capital one removes the key.
+fn lettered(rt: &impl Abort, letter: u8, version: u64, weight: u64) -> Entry {
+    let key = [letter.to_ascii_lowercase()];
+    if letter.is_ascii_uppercase() {
+        removing(rt, &key, version)
+    } else {
+        setting(rt, &key, version, weight)
+    }
+}
+
+/// The table of a log that gave these writes, one for each letter. Each weight is the version of its write plus `more`.
 pub(crate) fn log_of(rt: &impl Abort, alloc: Global, letters: &[u8], more: u64) -> Table {
     let mut table = Table::new(alloc);
     for letter in letters {
         let version = table.upto().saturating_add(1);
-        let is_removal = letter.is_ascii_uppercase();
-        let weight = if is_removal {
-            None
-        } else {
-            Some(version.saturating_add(more))
-        };
-        let key = [letter.to_ascii_lowercase()];
-        got(rt, enter(&mut table, write(rt, &key, version, weight)));
+        let entry = lettered(rt, *letter, version, version.saturating_add(more));
+        got(rt, enter(&mut table, entry));
     }
     table
 }
 
-/// Purges the table up to a version from its floor to its held version.
-pub(crate) fn purge(rt: &impl Abort, table: &mut Table, floor: u64) {
+/// Purges the table up to a version, if that is from its floor to its held version.
+pub(crate) fn purge(table: &mut Table, floor: u64) {
     let upto = table.upto();
-    let is_allowed = table.floor() <= floor && floor <= upto;
-    assert!(rt; is_allowed, "no purge up to {floor}");
-    table.raise(upto, floor);
+    if table.floor() <= floor && floor <= upto {
+        table.raise(upto, floor);
+    }
 }
 
 /// The block of the entries above a version, as whoever holds the table sends it.
 pub(crate) fn block_above(rt: &impl Abort, alloc: Global, table: &Table, after: u64) -> Block {
     let mut entries = Vec::new(alloc);
     for entry in table.after(after) {
-        got(rt, entries.push(got(rt, entry.copy(alloc))));
+        let copy = got(rt, entry.copy(alloc));
+        got(rt, entries.push(copy));
     }
     let name = got(rt, Name::read(b"a"));
     got(
