@@ -1,5 +1,5 @@
 -- What a block shows in which no entry is foreign, and which lacks no own entry.
-use Rattle.std.proofs.Common.{◌≡◌, ℕ, ◌≤◌, true, false, List, inr, ⊎_elim, refl, sym, ap, ◌∙◌, subst, Option, Some, None, arith, nat_eq}
+use Rattle.std.proofs.Common.{◌≡◌, ℕ, ◌<◌, ◌≤◌, true, false, List, inr, ⊎_elim, refl, sym, ap, ◌∙◌, subst, Option, Some, None, arith, nat_eq}
 use Rattle.std.proofs.lemmas.Bool.{cases_Bool, cases_order, false≢true}
 use Rattle.std.specs.Cmp.Lexicographic.{pointwise}
 use Rattle.sb_types.specs.declared.entry.Slot.{Slot}
