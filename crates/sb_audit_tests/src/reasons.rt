@@ -28,13 +28,7 @@ fn block_of(rt: &impl Abort, entries: Vec<Entry>, bounds: Bounds) -> Block {
 }
 
 /// Asserts that one entry is foreign for this reason, in a block that reaches up to `upto`.
-fn assert_reason(
-    rt: &impl Abort,
-    alloc: Global,
-    entry: Entry,
-    upto: u64,
-    wanted: Option<Reason>,
-) {
+fn assert_reason(rt: &impl Abort, alloc: Global, entry: Entry, upto: u64, wanted: Option<Reason>) {
     let version = entry.version();
     let mut entries = Vec::new(alloc);
     got(rt, entries.push(entry));
@@ -150,7 +144,12 @@ fn own_writes_below_a_block(rt: HostRuntime) {
     let alloc = rt.alloc();
     let table = own_table(&rt, alloc);
     let above = block_of(&rt, Vec::new(alloc), (0, 8, 9));
-    same_at(&rt, &"above", &find_missing(&table, &above).is_none(), &true);
+    same_at(
+        &rt,
+        &"above",
+        &find_missing(&table, &above).is_none(),
+        &true,
+    );
     let at = block_of(&rt, Vec::new(alloc), (0, 7, 9));
     same_at(&rt, &"at", &find_missing(&table, &at).is_none(), &false);
 }
