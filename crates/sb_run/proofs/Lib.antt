@@ -13,3 +13,4 @@ pub mod StatusPages
 pub mod StatusTexts
 pub mod StatusAnswers
 pub mod LeavingOut
+pub mod Deferring

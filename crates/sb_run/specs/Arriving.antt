@@ -4,6 +4,8 @@ use Rattle.std.specs.Io.KnownBytes.{Keeps, Consumes}
 use Rattle.sb_types.specs.declared.fault.Fault.{Fault}
 use Rattle.sb_types.specs.declared.fault.Fault.TheVariants.{ReadFailed}
 use Rattle.sb_codec.specs.declared.message.Message.{Message}
+use Rattle.sb_codec.specs.declared.message.Message.TheVariants as kinds
+use Rattle.sb_codec.specs.declared.message.hello.Hello.{Hello}
 use Rattle.sb_frames.specs.Frames.{Front, short, whole, bad, front_of}
 use Rattle.sb_frames.specs.Receiving.{held_of}
 use Rattle.sb_frames.specs.Streams.{Stream, open_with, shut, Hands}
@@ -49,3 +51,12 @@ without_oldest all = remove all (unwrap_or (position is_silent all) 0)
 -- the list where one more has room
 abbrev pub with_room : ℕ → List Waiting → List Waiting
 with_room most all = if nat_lt (length all) most then all else without_oldest all
+
+-- the bytes begin with the Hello of a node of this name
+abbrev pub IsHelloOf : List ℕ → List ℕ → Type 0
+IsHelloOf came name = (hello : Hello) × (rest : List ℕ) × (front_of came ≡ whole (kinds.Hello hello) rest) × (hello.node ≡ name)
+
+-- the name of the node that says Hello by a message
+abbrev pub hello_name : Message → Option (List ℕ)
+hello_name (kinds.Hello hello) = Some hello.node
+hello_name other = None

@@ -3,6 +3,7 @@ pub mod OwnPurging
 pub mod OneMessage
 pub mod Control
 pub mod Forgetting
+pub mod Deferring
 pub mod Gates
 pub mod Hellos
 pub mod Pools

@@ -7,7 +7,7 @@ ghost use Rattle.sb_run.specs.Arriving.{ReadsPiece, is_silent, has_begun, has_nu
 use crate::arrivals::Handover;
 use crate::counts::Counts;
 use crate::dialer::RoundsTag;
-use crate::first_message::{FIRST_MOST, is_enough};
+use crate::first_message::{FIRST_MOST, is_enough, name_of};
 use crate::sockets::WAKER_TOKEN;
 use crate::threads::NodeContext;
 use mio::net::UnixStream;
@@ -180,7 +180,8 @@ impl Backlog {
     ) -> Result<(), Fault> {
         let begun = self.peers.take_session(node.alloc, registry, number)?;
         if let Some((came, stream)) = begun {
-            let given = self.handover.give_session(node.rt, came, stream);
+            let name = name_of(node.alloc, &came);
+            let given = self.handover.give_session(node.rt, name, came, stream);
             return note_given(node.counts, given);
         }
         let whole = self

@@ -10,7 +10,7 @@ use crate::threads::EndFlag;
 use crossbeam_channel::{Receiver, Sender, bounded};
 use mio::net;
 use sb_codec::{Ask, Message};
-use sb_types::Fault;
+use sb_types::{Fault, Name};
 use std::alloc::Global;
 use std::io::{Chain, Cursor, Read};
 use std::os::unix::net::UnixStream;
@@ -24,8 +24,8 @@ const HANDED_MOST: usize = 1_024;
 /// What a worker is to do next.
 #[derive(Drop)]
 pub(crate) enum Job {
-    /// To serve the session of a peer, of which this has come.
-    Session(Vec<u8>, UnixStream),
+    /// To serve the session of a peer that sent this. The name is known if that is a Hello.
+    Session(Option<Name>, Vec<u8>, UnixStream),
     /// To answer a caller's question.
     Question(Ask, UnixStream),
 }
@@ -144,17 +144,19 @@ impl Handover {
         self.to_owner.give(rt, Request { message, stream })
     }
 
-    /// Hands the session of a peer to the workers, with what has come of it. `ReadFailed` if too many wait for one, or if the connection can't be used.
+    /// Hands the session of a peer to the workers, with its name if that is known, and with what has come of it. `ReadFailed` if
+    /// too many wait for one, or if the connection can't be used.
     pub(crate) fn give_session<R: Wait>(
         &mut self,
         rt: &R,
+        name: Option<Name>,
         came: Vec<u8>,
         stream: net::UnixStream,
     ) -> Result<(), Fault> {
         let Ok(stream) = blocking_stream(stream) else {
             return Err(Fault::ReadFailed);
         };
-        if self.give(rt, Job::Session(came, stream)) {
+        if self.give(rt, Job::Session(name, came, stream)) {
             Ok(())
         } else {
             Err(Fault::ReadFailed)
@@ -252,7 +254,7 @@ impl<'a, R: Clock> Arrivals<'a, R> {
     {
         let pace = &self.pace;
         match job {
-            Job::Session(came, stream) => {
+            Job::Session(name, came, stream) => {
                 let Ok(input) = stream.try_clone() else {
                     return Err(Fault::ReadFailed);
                 };
@@ -263,7 +265,7 @@ impl<'a, R: Clock> Arrivals<'a, R> {
                 let input = Cursor::new(came).chain(rest);
                 let output = Timed::new(self.rt, stream, pace.idle, pace.session);
                 let before = self.sessions.fetch_add(1, Ordering::SeqCst);
-                Ok(Taken::Session(before.saturating_add(1), input, output))
+                Ok(Taken::Session(before.saturating_add(1), name, input, output))
             }
             Job::Question(ask, stream) => {
                 if limit(&stream, pace.idle).is_err() {

@@ -210,7 +210,7 @@ impl<'a, O: Observer> Dialing<'a, O> {
         self.begin_round(node, index);
         let path = self.schedule.lock(node.rt).path(index);
         let start = SessionStart::now(node.rt, node.pace.dial_idle);
-        let (seat, state) = dial_peer(node, path, seat, digests.count);
+        let (seat, state) = dial_peer(node, index, path, seat, digests.count);
         self.end_round(node, index, cause, start.ended(node.rt, state));
         self.look_at_log(node);
         node.bell.wake();

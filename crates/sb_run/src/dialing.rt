@@ -10,6 +10,7 @@ use crate::peers::{DownReason, PeerState};
 use crate::pool::session_of;
 use crate::sockets::{connect, limit};
 use crate::threads::NodeContext;
+use crate::vain_offers::{Asker, DeferringHandler};
 use sb_directory::{ReaderSeat, SeatHandler};
 use sb_frames::{Connection, Steps};
 use sb_session::{Ended, dial};
@@ -58,12 +59,13 @@ pub(crate) fn digests_of_all<S: RoundsTag, H: Wait + Drop, Q: Wait>(
 }
 
 impl<S: RoundsTag, H: Wait + Drop, Q: Wait> NodeContext<'_, S, H, Q> {
-    /// A session over a connection, of so many exchanges of digests and deltas, and how it ended. It makes at most the node's
+    /// A session over a connection to the peer at this index, of so many exchanges of digests and deltas, and how it ended. It makes at most the node's
     /// `max_reads` reads. What it enters is news.
     fn talk<I: Read, O: Write, K: Ledger>(
         &self,
         connection: &mut Connection<I, O, K>,
         seat: ReaderSeat<S>,
+        index: usize,
         exchanges: u64,
     ) -> (ReaderSeat<S>, Result<Ended, Fault>)
         requires limit { connection.old.left ≤ self.now.pace.max_reads }
@@ -71,13 +73,16 @@ impl<S: RoundsTag, H: Wait + Drop, Q: Wait> NodeContext<'_, S, H, Q> {
         ensures greets { Greets S.settings.cluster S.opening.held.me connection.old.output connection.new.output }
         ensures reads { connection.new.steps ≤ connection.old.steps + self.now.pace.max_reads }
     {
+        let asker = Some(Asker::Dialed(index));
         let served = SeatHandler::new(self.rt, self.directory, seat);
-        let gated = GatedHandler::new(served, self.bell, 0);
+        let deferring = DeferringHandler::new(served, self.rt, self.vain_offers, asker);
+        let gated = GatedHandler::new(deferring, self.bell, 0);
         let mut handler = ForgettingHandler::new(gated, self.alloc, self.forgotten);
         let session = session_of(self.directory);
         let ended = dial(connection, session, &mut handler, exchanges);
         let gated = handler.into_inner();
-        (gated.into_inner().into_seat(), ended)
+        let served = gated.into_inner().into_inner(self.rt);
+        (served.into_seat(), ended)
     }
 }
 
@@ -87,6 +92,7 @@ fn dial_stream<S: RoundsTag, H: Wait + Drop, Q: Wait, K: Ledger>(
     node: &NodeContext<S, H, Q>,
     stream: &UnixStream,
     seat: ReaderSeat<S>,
+    index: usize,
     exchanges: u64,
     blank: Blank,
 ) -> (ReaderSeat<S>, PeerState)
@@ -99,7 +105,7 @@ fn dial_stream<S: RoundsTag, H: Wait + Drop, Q: Wait, K: Ledger>(
     let steps = Steps::<K>::new(blank);
     let reader = PeerReader::new(stream);
     let mut connection = Connection::new(node.alloc, reader, stream, max_reads, steps);
-    let (seat, ended) = node.talk(&mut connection, seat, exchanges);
+    let (seat, ended) = node.talk(&mut connection, seat, index, exchanges);
     let (reader, _) = connection.into_parts();
     let state = PeerState::of(&ended, reader.was_heard(), reader.was_silent());
     (seat, state)
@@ -115,9 +121,10 @@ pub(crate) fn reach<S: RoundsTag, H: Wait + Drop, Q: Net>(
     Ok(stream)
 }
 
-/// Dials the peer at a path, for so many exchanges, and how the peer is by this round.
+/// Dials the peer at this index and this path, for so many exchanges, and how the peer is by this round.
 pub(crate) fn dial_peer<S: RoundsTag, H: Wait + Drop, Q: Wait + Net>(
     node: &NodeContext<S, H, Q>,
+    index: usize,
     path: &str,
     seat: ReaderSeat<S>,
     exchanges: u64,
@@ -126,7 +133,7 @@ pub(crate) fn dial_peer<S: RoundsTag, H: Wait + Drop, Q: Wait + Net>(
 {
     match reach(node, path) {
         Ok(stream) => {
-            dial_stream::<S, H, Q, Brand>(node, &stream, seat, exchanges, Blank::new(1))
+            dial_stream::<S, H, Q, Brand>(node, &stream, seat, index, exchanges, Blank::new(1))
         }
         Err(_) => (seat, PeerState::Down(DownReason::Unreachable)),
     }

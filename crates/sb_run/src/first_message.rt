@@ -1,10 +1,11 @@
 //! The first bytes of a peer, which come before a worker takes it.
-ghost use Rattle.std.specs.Prelude.{◌≡◌, IfOk, IfErr};
+ghost use Rattle.std.specs.Prelude.{◌≡◌, IfOk, IfErr, IfSome};
 ghost use Rattle.sb_run.specs.declared.first_message.TheConstants.{FIRST_MOST};
-ghost use Rattle.sb_run.specs.Arriving.{has_begun};
+ghost use Rattle.sb_run.specs.Arriving.{has_begun, hello_name, IsHelloOf};
 
+use sb_codec::Message;
 use sb_frames::{Frames, faults_are_of_the_bytes};
-use sb_types::Fault;
+use sb_types::{Fault, Name};
 use std::alloc::Global;
 
 /// How many bytes of a peer are read before a worker takes it. Each Hello has fewer.
@@ -28,4 +29,29 @@ pub(crate) fn is_enough(alloc: Global, came: &[u8]) -> Result<bool, Fault>
         Err(Fault::NoMemory) => Err(Fault::NoMemory),
         Err(_) => Ok(true),
     }
+}
+
+/// The name of the node that says Hello by a message. None if the message is another.
+fn name_in(message: &Message) -> Option<Name>
+    ensures { result ≡ hello_name message.now }
+{
+    match message {
+        Message::Hello(hello) => Some(hello.node),
+        _ => None,
+    }
+}
+
+/// The name in the Hello that a peer begins with. None if it begins otherwise, or if memory is missing.
+pub(crate) fn name_of(alloc: Global, came: &[u8]) -> Option<Name>
+    ensures { IfSome result (IsHelloOf came.now) }
+{
+    faults_are_of_the_bytes();
+    let mut frames = Frames::new(alloc);
+    if frames.feed(came).is_err() {
+        return None;
+    }
+    let Ok(Some(message)) = frames.next() else {
+        return None;
+    };
+    name_in(&message)
 }

@@ -101,6 +101,8 @@
 //!   cover its version, its keys, its conflict, and whether it is caught up. Tests and `tools/check-node` refuse it.
 //! - A session takes blocks of an owner that the node is to forget, since it has no `ForgettingHandler`. Or the observer
 //!   learns of another owner, or never. The tests of `sb_run` and `tools/check-node` refuse it.
+//! - A session begins without what the peer was offered in vain in the one before, or with what another peer was. Or a
+//!   node keeps it longer than it may. The tests of `sb_run` and `tools/check-node` refuse it.
 //! - `OwnWrites::put`, `serve_control`, `ask_control`, `serve_pool` or `run_node` never returns. Tests end.
 #![tactic(auto)]
 
@@ -130,6 +132,7 @@ mod sockets;
 mod status_reply;
 mod status_texts;
 mod threads;
+mod vain_offers;
 
 pub use control::ask_control;
 pub use forgetting::ForgottenOwners;
@@ -140,3 +143,4 @@ pub use observer::{LogCause, LogLoss, Nobody, Observer, PushCounts, Status, Trou
 pub use own_writes::{OwnWrites, Stored};
 pub use peers::{DownReason, Peer, PeerState};
 pub use pool::{Pooled, Serving, Source, Taken};
+pub use vain_offers::VainOffers;

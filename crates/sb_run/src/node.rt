@@ -16,6 +16,7 @@ use crate::sockets::BoundSockets;
 use crate::threads::{
     EndFlag, Links, NodeContext, ThreadSeats, ThreadsEnd, gather_seats, part_seats,
 };
+use crate::vain_offers::VainOffers;
 use sb_directory::Directory;
 use sb_log::WriteLog;
 use sb_node::NodeCore;
@@ -436,6 +437,7 @@ pub(crate) fn run_tagged<
     };
     let (workers, forgotten) = (directory.settings().workers(), start.forgotten);
     let (ending, counts, asked) = (EndFlag::new(), Counts::new(rt, workers), Asked::new());
+    let vain_offers = VainOffers::new(alloc);
     let node = NodeContext {
         rt,
         alloc,
@@ -446,6 +448,7 @@ pub(crate) fn run_tagged<
         counts: &counts,
         asked: &asked,
         forgotten: &forgotten,
+        vain_offers: &vain_offers,
         pace,
     };
     let finished = dialing.run_threads(&node, start.writes, thread_seats, links);

@@ -10,12 +10,13 @@ ghost use Rattle.sb_session.specs.Sessions.{new_session};
 
 use crate::forgetting::{ForgettingHandler, ForgottenOwners};
 use crate::gate::{Gate, GatedHandler};
+use crate::vain_offers::{Asker, DeferringHandler, VainOffers};
 use core::mem::replace_with;
 use sb_codec::Ask;
 use sb_directory::{Directory, DirectoryTag, ReaderSeat, SeatHandler};
 use sb_frames::{Connection, Steps};
 use sb_session::{Session, serve};
-use sb_types::Fault;
+use sb_types::{Fault, Name};
 use std::alloc::Global;
 use std::io::{Read, Write};
 use std::marker::Brand;
@@ -28,8 +29,9 @@ use std::thread::Threads;
 /// What a worker takes from a source.
 #[derive(Drop)]
 pub enum Taken<I, O> {
-    /// The connection of a peer, as a reader and a writer, with the number of its session, from 1.
-    Session(u64, I, O),
+    /// The connection of a peer, as a reader and a writer. It has the number of its session, from 1, and the peer's name if that
+    /// is known.
+    Session(u64, Option<Name>, I, O),
     /// The question of a caller, and the writer that gets its answer.
     Question(Ask, O),
 }
@@ -80,6 +82,7 @@ impl<S: DirectoryTag, H: Wait + Drop, Q: Wait> Serving<'_, S, H, Q> {
         &self,
         gate: &G,
         number: u64,
+        name: Option<Name>,
         connection: &mut Connection<I, O, K>,
         seat: ReaderSeat<S>,
     ) -> (ReaderSeat<S>, bool)
@@ -88,14 +91,17 @@ impl<S: DirectoryTag, H: Wait + Drop, Q: Wait> Serving<'_, S, H, Q> {
         ensures greets { Greets S.settings.cluster S.opening.held.me connection.old.output connection.new.output }
         ensures reads { connection.new.steps ≤ connection.old.steps + self.now.max_reads }
     {
+        let asker = name.map(Asker::Named);
         let served = SeatHandler::new(self.rt, self.directory, seat);
-        let gated = GatedHandler::new(served, gate, number);
+        let deferring = DeferringHandler::new(served, self.rt, self.vain_offers, asker);
+        let gated = GatedHandler::new(deferring, gate, number);
         let mut handler = ForgettingHandler::new(gated, self.alloc, self.forgotten);
         let session = session_of(self.directory);
         let ended = serve(connection, session, &mut handler);
         gate.ended(number, &ended);
         let gated = handler.into_inner();
-        (gated.into_inner().into_seat(), ended.is_err())
+        let served = gated.into_inner().into_inner(self.rt);
+        (served.into_seat(), ended.is_err())
     }
 
     /// Serves the session of this number, and counts it, and whether it ended with a fault. Its reads are the first of a ledger.
@@ -103,7 +109,7 @@ impl<S: DirectoryTag, H: Wait + Drop, Q: Wait> Serving<'_, S, H, Q> {
         &self,
         gate: &G,
         tally: &Tally,
-        session: (u64, I, O),
+        session: (u64, Option<Name>, I, O),
         seat: ReaderSeat<S>,
         blank: Blank,
     ) -> ReaderSeat<S>
@@ -113,11 +119,11 @@ impl<S: DirectoryTag, H: Wait + Drop, Q: Wait> Serving<'_, S, H, Q> {
         ensures { IsKept (IsShut (G.lets gate.now session.0)) seat result }
     {
         tally.sessions.fetch_add(1, Ordering::SeqCst);
-        let (number, input, output) = session;
+        let (number, name, input, output) = session;
         let max_reads = self.max_reads;
         let steps = Steps::<K>::new(blank);
         let mut connection = Connection::new(self.alloc, input, output, max_reads, steps);
-        let (seat, failed) = self.serve_session(gate, number, &mut connection, seat);
+        let (seat, failed) = self.serve_session(gate, number, name, &mut connection, seat);
         if failed {
             tally.faults.fetch_add(1, Ordering::SeqCst);
         }
@@ -155,11 +161,11 @@ impl<S: DirectoryTag, H: Wait + Drop, Q: Wait> Serving<'_, S, H, Q> {
         ensures { IsKept (AreShut (G.lets gate.now) × (X.asks source.now → ⊥)) seat result }
     {
         match taken {
-            Taken::Session(number, input, output) => {
+            Taken::Session(number, name, input, output) => {
                 self.serve_counted::<X::In, X::Out, G, Brand>(
                     gate,
                     tally,
-                    (number, input, output),
+                    (number, name, input, output),
                     seat,
                     Blank::new(1),
                 )
@@ -291,6 +297,8 @@ pub struct Serving<'a, S: DirectoryTag, H: Wait + Drop, Q> {
     pub directory: &'a Directory<S, H>,
     /// Of which owners its sessions take no block.
     pub forgotten: &'a ForgottenOwners,
+    /// What its sessions offered in vain.
+    pub vain_offers: &'a VainOffers,
     /// How many reads one connection may take.
     pub max_reads: u64,
 }

@@ -17,6 +17,7 @@ use crate::observer::{LogCause, Observer};
 use crate::own_writes::{ClosableLog, OwnWrites};
 use crate::pool::{Pooled, Serving};
 use crate::sockets::BoundSockets;
+use crate::vain_offers::VainOffers;
 use sb_directory::{Directory, DirectoryTag, ReaderSeat};
 use sb_log::{StoreCause, WriteLog};
 use sb_session::Ended;
@@ -443,6 +444,7 @@ pub(crate) struct NodeContext<'a, S: RoundsTag, H: Wait + Drop, Q> {
     pub(crate) counts: &'a Counts,
     pub(crate) asked: &'a Asked,
     pub(crate) forgotten: &'a ForgottenOwners,
+    pub(crate) vain_offers: &'a VainOffers,
     pub(crate) pace: Pace,
     ghost paced: { pace.rounds ≡ S.rounds },
 }
@@ -457,6 +459,7 @@ impl<S: RoundsTag, H: Wait + Drop, Q> NodeContext<'_, S, H, Q> {
             alloc: self.alloc,
             directory: self.directory,
             forgotten: self.forgotten,
+            vain_offers: self.vain_offers,
             max_reads: self.pace.max_reads,
         }
     }

@@ -7,7 +7,7 @@ use sb_directory::{Directory, DirectoryTag, EnteredSeat, ReaderSeat};
 use sb_frames::{Connection, Steps};
 use sb_log::PlainLog;
 use sb_node::NodeCore;
-use sb_run::{ForgottenOwners, OwnWrites, Serving, Stored};
+use sb_run::{ForgottenOwners, OwnWrites, Serving, Stored, VainOffers};
 use sb_types::{Delta, Fault, Slot};
 use sb_views::NewHistory;
 use std::alloc::Global;
@@ -127,12 +127,13 @@ impl<S: DirectoryTag, H: Wait + Drop> Desk<S, H> {
         max_reads: u64,
     ) -> Result<(), Fault> {
         let seat = there(rt, self.seat.take());
-        let none = ForgottenOwners::none(alloc);
+        let (none, vain_offers) = (ForgottenOwners::none(alloc), VainOffers::new(alloc));
         let serving = Serving {
             rt,
             alloc,
             directory: &self.directory,
             forgotten: &none,
+            vain_offers: &vain_offers,
             max_reads,
         };
         let (seat, ended) = serve_from::<S, H, Q, R, W, Brand>(

@@ -9,6 +9,8 @@ mod causes;
 #[cfg(test)]
 mod closing;
 #[cfg(test)]
+mod deferring;
+#[cfg(test)]
 mod desk;
 #[cfg(test)]
 mod examples;

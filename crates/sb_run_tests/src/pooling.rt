@@ -5,7 +5,7 @@ use crate::making::new_node;
 use crate::{got, same};
 use sb_directory::{Directory, DirectoryTag, ReaderSeat};
 use sb_node::NodeCore;
-use sb_run::{ForgottenOwners, Gate, GatePoint, Pooled, Serving, Source, Taken};
+use sb_run::{ForgottenOwners, Gate, GatePoint, Pooled, Serving, Source, Taken, VainOffers};
 use sb_types::Fault;
 use sb_views::NewHistory;
 use std::alloc::Global;
@@ -55,8 +55,8 @@ impl Source for Peers {
             return Some(Err(Fault::ReadFailed));
         }
         match asked - self.lost {
-            0 => Some(Ok(Taken::Session(1, TELLING, writer))),
-            1 => Some(Ok(Taken::Session(2, ASKING, writer))),
+            0 => Some(Ok(Taken::Session(1, None, TELLING, writer))),
+            1 => Some(Ok(Taken::Session(2, None, ASKING, writer))),
             _ => None,
         }
     }
@@ -124,12 +124,13 @@ fn serve_from<S: DirectoryTag + Send + Sync, R: Threads + Wait + Clock + Abort +
         has_answered: AtomicBool::new(false),
         turns: course.turns,
     };
-    let none = ForgottenOwners::none(alloc);
+    let (none, vain_offers) = (ForgottenOwners::none(alloc), VainOffers::new(alloc));
     let serving = Serving {
         rt,
         alloc,
         directory,
         forgotten: &none,
+        vain_offers: &vain_offers,
         max_reads: 99,
     };
     match serving.serve_pool(seats, &peers, &gate) {
