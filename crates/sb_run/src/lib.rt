@@ -120,6 +120,7 @@ mod first_message;
 mod forgetting;
 mod gate;
 mod laws;
+mod log_watch;
 mod node;
 mod observer;
 mod own_writes;
