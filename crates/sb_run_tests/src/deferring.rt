@@ -33,11 +33,11 @@ const ANSWER: usize = 12 + 9 + 28 + 13 + TEXT;
 /// Where an answer has the owner's name.
 const OWNER_AT: usize = 22;
 
-/// The peers that ask, one after another, each with a name or without.
+/// The peers that ask, one after another. Each has a letter as its name, and a space for none.
 #[derive(Drop)]
 struct Askers<'a, R> {
     rt: &'a R,
-    names: &'a [Option<Name>],
+    names: &'a [u8],
     asked: AtomicUsize,
     heard: &'a Mutex<Vec<u8>>,
 }
@@ -71,12 +71,12 @@ impl<'a, R: Wait + Sync> Source for Askers<'a, R> {
 
     fn next(&self) -> Option<Result<Taken<&'static [u8], Ear<'a, R>>, Fault>> {
         let place = self.asked.fetch_add(1, Ordering::SeqCst);
-        let name = self.names.get(place)?;
+        let name = *self.names.get(place)?;
         let ear = Ear {
             rt: self.rt,
             heard: self.heard,
         };
-        Some(Ok(Taken::Session(1, *name, ASKING, ear)))
+        Some(Ok(Taken::Session(1, Name::read(&[name]).ok(), ASKING, ear)))
     }
 }
 
@@ -140,7 +140,7 @@ fn serve_from<S: DirectoryTag + Send + Sync, R: Threads + Wait + Abort + Send + 
 fn offered<R: Threads + Wait + Abort + Send + Sync>(
     rt: &R,
     alloc: Global,
-    names: &[Option<Name>],
+    names: &[u8],
 ) -> Vec<u8> {
     let heard = Mutex::new(Vec::new(alloc));
     let askers = Askers {
@@ -162,21 +162,19 @@ fn offered<R: Threads + Wait + Abort + Send + Sync>(
 // c asks again and again, and never holds more.
 #[test]
 fn an_offer_in_vain_is_deferred(rt: HostRuntime) {
-    let c = Some(name(&rt, b"c"));
-    let owners = offered(&rt, rt.alloc(), &[c, c, c, c, c, c]);
+    let owners = offered(&rt, rt.alloc(), b"cccccc");
     same(&rt, &owners.as_slice(), &b"bdbdbd".as_slice());
 }
 
 // Two peers ask in turn. Neither is offered less for what the other was offered.
 #[test]
 fn peers_that_ask_in_turn_are_offered_the_same(rt: HostRuntime) {
-    let (c, e) = (Some(name(&rt, b"c")), Some(name(&rt, b"e")));
-    let owners = offered(&rt, rt.alloc(), &[c, e, c, e, c, e, c, e]);
+    let owners = offered(&rt, rt.alloc(), b"cececece");
     same(&rt, &owners.as_slice(), &b"bbddbbdd".as_slice());
 }
 
 #[test]
 fn an_unknown_peer_is_offered_the_same_again(rt: HostRuntime) {
-    let owners = offered(&rt, rt.alloc(), &[None, None, None]);
+    let owners = offered(&rt, rt.alloc(), b"   ");
     same(&rt, &owners.as_slice(), &b"bbb".as_slice());
 }
