@@ -308,25 +308,25 @@ def earlier_versions(check):
     try:
         watch.awaits(["set p x 1 weight 10", "set p y 2 weight 20", "set p z 3 weight 30", "set q x 1 weight 10"])
         with connect(node.sock) as stream:
-            stream.sendall(hello("teller") + delta("q", 1, [("y", 3, REMOVED), ("x", 4, REMOVED)]) + BYE)
+            stream.sendall(hello("teller") + delta("q", 1, [("x", 3, REMOVED), ("z", 4, weight(40))]) + BYE)
             while read_frame(stream):
                 pass
-        watch.awaits(["gone q x"])
+        watch.awaits(["gone q x", "set q z 4 weight 40"])
         node.kill()
         node.start()
-        # p is another machine with a new log; of q the node hears what was so before the row was gone
-        tell(node, "p", 0, ("new", 1, 7))
+        # of p the node hears less than was printed, and of q what was so before the row was gone
+        tell(node, "p", 0, ("x", 1, 10))
         tell(node, "q", 0, ("x", 1, 10), ("y", 2, 20))
         node.put("own", 1)
         watch.awaits(["set a own 1 weight 1"])
         time.sleep(11)
         node.put("own", 2)
         watch.awaits(["set a own 2 weight 2"])
-        tell(node, "p", 1, ("v", 4, 40))
-        watch.awaits(["set p v 4 weight 40", "set p new 1 weight 7", "gone p x", "gone p y", "gone p z"])
-        tell(node, "q", 2, ("x", 5, 50), ("y", 6, 60))
+        tell(node, "p", 1, ("y", 2, 20), ("z", 3, 30), ("v", 4, 40))
+        watch.awaits(["set p v 4 weight 40"])
+        tell(node, "q", 2, ("z", 4, 40), ("x", 5, 50), ("y", 6, 60))
         watch.awaits(["set q x 5 weight 50", "set q y 6 weight 60"])
-        want("the rows", node.get("--owner", "p"), ["p new 1 weight 7", "p v 4 weight 40"])
+        want("the rows", node.get("--owner", "p"), ["p v 4 weight 40", "p x 1 weight 10", "p y 2 weight 20", "p z 3 weight 30"])
         time.sleep(0.2)
         want("that it runs", watch.ran.poll(), None)
     finally:
