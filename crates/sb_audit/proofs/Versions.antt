@@ -1,8 +1,12 @@
 -- The entry of a version.
-use Rattle.std.proofs.Common.{◌≡◌, ℕ, ◌-◌, ◌≤◌, Bool, true, false, cond, List, [], ◌∷◌, inl, inr, ⊎_elim, ◌⊎◌, refl, sym, ap, ◌∙◌, slice_get, nat_eq, nat_lt, Option, Some, None, arith, ltb-true, ltb-false}
+use Rattle.std.proofs.Common.{◌≡◌, ℕ, ◌-◌, ◌≤◌, Bool, true, false, cond, List, [], ◌∷◌, inl, inr, ⊎_elim, ◌⊎◌, refl, sym, ap, subst, ◌∙◌, slice_get, nat_eq, nat_lt, Option, Some, None, arith, ltb-true, ltb-false}
 use Rattle.std.proofs.lemmas.Bool.{and_parts, cases_Bool, cond-true, cond-false, cond_both, false_from_ne_true, eqb-true, eq-eqb}
+use Rattle.std.specs.Option.{option_map}
+use Rattle.sb_types.specs.declared.entry.Slot.{Slot}
 use Rattle.sb_types.specs.Records.{Entry}
-use Rattle.sb_types.specs.Runs.{Stands, are_ascending, newer_entries}
+use Rattle.sb_types.specs.Runs.{Stands, are_ascending, newer_entries, entry_at}
+use Rattle.sb_table.specs.Plain.{version_and_slot}
+use Rattle.sb_table.proofs.Lookup.{Stands-entry_at}
 use Rattle.sb_table.proofs.Order.{behind}
 use Rattle.sb_audit.specs.Search.{entry_of}
 
@@ -84,3 +88,29 @@ front_apart v [] e first apart = absurd (cc)
 front_apart v (x ∷ xs) e first apart =
     let is : x ≡ e = (let some : Some x ≡ Some e = first in cc) in
     cond-false _ (Some x) None (ap (λ (y : Entry). nat_eq y.version v) is ∙ apart)
+
+abbrev version_in : Option (ℕ × Slot) → ℕ
+version_in None = 0
+version_in (Some p) = p.0
+
+-- the entry of a key is that of its version
+module _ (key : List ℕ) (es : List Entry) (up : are_ascending 0 es ≡ true) where
+  kept_at : (v : ℕ) (slot : Slot) (o : Option Entry) → entry_at key es ≡ o → Some (v, slot) ≡ option_map version_and_slot o → (1 ≤ v) × (entry_of v es ≡ o)
+  kept_at v slot None found is = absurd (cc)
+  kept_at v slot (Some e) found is =
+      let same : v ≡ e.version = ap version_in is in
+      let stands = Stands-entry_at key es e found in
+      (omega (arith, behind 0 es e up stands, same), subst (λ (n : ℕ). entry_of n es ≡ Some e) (sym same) (stands_found 0 es e up stands))
+
+  pub kept_version : (v : ℕ) (slot : Slot) → Some (v, slot) ≡ option_map version_and_slot (entry_at key es) → 1 ≤ v
+  kept_version v slot is = (kept_at v slot (entry_at key es) refl is).0
+
+  pub kept_entry : (v : ℕ) (slot : Slot) → Some (v, slot) ≡ option_map version_and_slot (entry_at key es) → entry_of v es ≡ entry_at key es
+  kept_entry v slot is = (kept_at v slot (entry_at key es) refl is).1
+
+pub none_kept : (key : List ℕ) (es : List Entry) → ◌≡◌ {A = Option (ℕ × Slot)} None (option_map version_and_slot (entry_at key es)) → ◌≡◌ {A = Option Entry} None (entry_at key es)
+none_kept key es is = none_of (entry_at key es) is
+  where
+    none_of : (o : Option Entry) → ◌≡◌ {A = Option (ℕ × Slot)} None (option_map version_and_slot o) → ◌≡◌ {A = Option Entry} None o
+    none_of None is = refl
+    none_of (Some e) is = absurd (cc)

@@ -20,6 +20,14 @@ is_same_slot (Set value) Removed = false
 is_same_slot Removed (Set other) = false
 is_same_slot Removed Removed = true
 
+abbrev pub or_other : Option Entry → Option Entry → Option Entry
+or_other (Some e) other = Some e
+or_other None other = other
+
+-- the own entry that an entry differs from: that of its version, or else that of its key
+abbrev pub own_beside : Table → Entry → Option Entry
+own_beside t e = or_other (entry_of e.version t.entries) (entry_at e.key t.entries)
+
 -- the reason, if the own table has this entry of the same version
 abbrev pub reason_beside : Entry → Entry → Option Reason
 reason_beside own e =

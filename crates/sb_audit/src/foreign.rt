@@ -1,14 +1,14 @@
 //! The entries of a block that its owner's log never gave.
 
 ghost use Rattle.std.specs.Prelude.{◌≡◌, None, IfSome, IfNone};
-ghost use Rattle.std.specs.Option.{option_map};
+ghost use Rattle.std.specs.Option.{option_copied, option_map};
 ghost use Rattle.sb_types.specs.Records as records;
 ghost use Rattle.sb_types.specs.Runs.{Stands, entry_at};
 ghost use Rattle.sb_table.specs.Floors.{IsKeptTable};
 ghost use Rattle.sb_audit.specs.Foreign.{IsForeign, IsReason, IsFirst};
-ghost use Rattle.sb_audit.specs.Search.{reason_beside, reason_by_key, reason_of, first_foreign};
+ghost use Rattle.sb_audit.specs.Search.{own_beside, reason_beside, reason_by_key, reason_of, first_foreign};
 
-use crate::same::{entry_of, is_same_slot};
+use crate::same::{entry_at, entry_of, is_same_slot};
 use sb_table::Table;
 use sb_types::{Block, Entry, Slot};
 
@@ -47,6 +47,17 @@ pub fn find_foreign<'a>(table: &Table, block: &'a Block) -> Option<Foreign<'a>>
     ensures none { IfNone result ((e : records.Entry) → Stands block.now.entries e → IsForeign table.now block.now.upto e → ⊥) }
 {
     first_foreign(table, block.upto(), block.entries())
+}
+
+/// Returns the own entry that an entry differs from: that of the same version, or else that of the same key. Returns
+/// `None` if the table has neither. It takes at most three look-ups, and no memory.
+pub fn find_own<'a>(table: &'a Table, entry: &Entry) -> Option<&'a Entry>
+    ensures { option_copied result ≡ own_beside table.now entry.now }
+{
+    match entry_of(table, entry.version()) {
+        Some(own) => Some(own),
+        None => entry_at(table, entry.key()),
+    }
 }
 
 /// Returns the first of these entries that has a reason, with that reason.

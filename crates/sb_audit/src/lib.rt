@@ -27,7 +27,7 @@ mod laws;
 mod missing;
 mod same;
 
-pub use foreign::{Foreign, Reason, find_foreign};
+pub use foreign::{Foreign, Reason, find_foreign, find_own};
 pub use laws::{
     foreign_entries_are_found, own_entries_are_not_foreign, own_entries_are_not_missing,
     own_tables_are_contents, what_passes_is_shown,

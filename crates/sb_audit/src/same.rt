@@ -2,11 +2,11 @@
 
 ghost use Rattle.std.specs.Prelude.{◌≡◌, ◌≤◌, true};
 ghost use Rattle.std.specs.Option.{option_copied};
-ghost use Rattle.sb_types.specs.Runs.{are_ascending};
+ghost use Rattle.sb_types.specs.Runs.{are_ascending, entry_at};
 ghost use Rattle.sb_audit.specs.Search.{entry_of, is_same_slot};
 
 use sb_table::{Table, entries_above};
-use sb_types::{Entry, Slot};
+use sb_types::{Entry, Key, Slot};
 
 /// Returns whether two slots are equal.
 pub(crate) fn is_same_slot(slot: &Slot, other: &Slot) -> bool
@@ -43,4 +43,13 @@ pub(crate) fn entry_among(entries: &[Entry], version: u64) -> Option<&Entry>
         Some(entry) if entry.version() == version => Some(entry),
         _ => None,
     }
+}
+
+/// Returns the entry of a key in a table, by two look-ups.
+#[tactic(auto, using(crate::proofs::Versions::kept_version, crate::proofs::Versions::kept_entry, crate::proofs::Versions::none_kept))]
+pub(crate) fn entry_at<'a>(table: &'a Table, key: &Key) -> Option<&'a Entry>
+    ensures { option_copied result ≡ entry_at key.now table.now.entries }
+{
+    let (version, _) = table.get(key)?;
+    entry_of(table, version)
 }
