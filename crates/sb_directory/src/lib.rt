@@ -74,6 +74,7 @@
 //! - A call that takes the lock never returns. The clauses hold if it returns, and tests end.
 #![tactic(auto)]
 
+mod difference;
 mod directory;
 mod lacked;
 mod lacking_owners;
@@ -87,6 +88,7 @@ mod shares;
 mod tag;
 mod viewed_node;
 
+pub use difference::{Difference, ForeignEntry};
 pub use directory::Directory;
 pub use laws::held_never_falls;
 pub use receipt::{Applied, Closing, Purge, Receipt};
