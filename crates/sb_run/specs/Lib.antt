@@ -18,3 +18,4 @@ pub mod Closing
 pub mod LogCauses
 pub mod Facts
 pub mod StatusReplies
+pub mod Auditing

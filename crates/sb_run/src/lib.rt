@@ -108,6 +108,8 @@
 
 mod accepting;
 mod arrivals;
+mod audit_turns;
+mod auditing;
 mod backlogs;
 mod bell;
 mod control;
