@@ -56,18 +56,12 @@ fn copy_foreign(alloc: Global, table: &Table, found: &Foreign<'_>) -> Result<For
 }
 
 /// The first difference between the node's own table and a block of the node's own name. None if there is none. `NoMemory`.
-fn difference_in(
-    alloc: Global,
-    table: &Table,
-    block: &Block,
-) -> Result<Option<Difference>, Fault>
+fn difference_in(alloc: Global, table: &Table, block: &Block) -> Result<Option<Difference>, Fault>
     ensures finds { IfOk result (spec.FindsIn table.now block.now) }
     ensures memory { IfErr result (λ fault. fault ≡ Fault.NoMemory) }
 {
     if let Some(found) = find_foreign(table, block) {
-        return Ok(Some(Difference::Foreign(copy_foreign(
-            alloc, table, &found,
-        )?)));
+        return Ok(Some(Difference::Foreign(copy_foreign(alloc, table, &found)?)));
     }
     match find_missing(table, block) {
         Some(own) => Ok(Some(Difference::Missing(own.copy(alloc)?))),

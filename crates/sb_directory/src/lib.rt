@@ -71,6 +71,7 @@
 //! - `refresh` returns true before all that others' calls made is published. No clause can state it across the
 //!   lock.
 //! - Two threads do not take turns. No clause can state it.
+//! - `Directory::audit` answers for a past moment, as above, or marks the name twice. Private clauses and tests refuse it.
 //! - A call that takes the lock never returns. The clauses hold if it returns, and tests end.
 #![tactic(auto)]
 

@@ -103,6 +103,8 @@
 //!   learns of another owner, or never. The tests of `sb_run` and `tools/check-node` refuse it.
 //! - A session begins without what the peer was offered in vain in the one before, or with what another peer was. Or a
 //!   node keeps it longer than it may. The tests of `sb_run` and `tools/check-node` refuse it.
+//! - A node audits nobody, another peer, too seldom or too often, or does not report what it found. Or an audit asks for too
+//!   much, stops too soon, or goes on too long. The tests of `sb_run` and `tools/check-node` refuse it.
 //! - `OwnWrites::put`, `serve_control`, `ask_control`, `serve_pool` or `run_node` never returns. Tests end.
 #![tactic(auto)]
 
