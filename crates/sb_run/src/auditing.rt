@@ -1,6 +1,6 @@
 //! An audit: the node asks a peer for the rows of its own name, and compares them with its own table.
-ghost use Rattle.std.specs.Prelude.{◌≡◌, ◌+◌, ◌<◌, ◌≤◌, IfOk};
-ghost use Rattle.sb_directory.specs.Serving.{IsStill, IsLater};
+ghost use Rattle.std.specs.Prelude.{◌≡◌, ◌+◌, ◌<◌, ◌≤◌, IfErr};
+ghost use Rattle.sb_directory.specs.Serving.{IsLater};
 ghost use Rattle.sb_run.specs.Auditing as spec;
 ghost use Rattle.sb_run.specs.Hellos.{Greets};
 
@@ -39,8 +39,10 @@ fn next_byte(byte: u8) -> Option<u8>
     }
 }
 
-/// The least name after this one; none after the last of all.
-fn next_name(alloc: Global, name: &Name) -> Result<Option<Name>, Fault> {
+/// The least name after this one; none after the last of all. `NoMemory`.
+fn next_name(alloc: Global, name: &Name) -> Result<Option<Name>, Fault>
+    ensures { IfErr result (λ fault. fault ≡ Fault.NoMemory) }
+{
     let bytes = name.bytes();
     let mut text = Vec::with_capacity(alloc, NAME_MOST)?;
     text.extend_from_slice(bytes)?;
@@ -48,7 +50,10 @@ fn next_name(alloc: Global, name: &Name) -> Result<Option<Name>, Fault> {
         text.push(b'-')?;
         return Ok(Name::read(&text).ok());
     }
-    while let Some(last) = text.pop() {
+    for _ in bytes {
+        let Some(last) = text.pop() else {
+            return Ok(None);
+        };
         if let Some(next) = next_byte(last) {
             text.push(next)?;
             return Ok(Name::read(&text).ok());
@@ -201,11 +206,15 @@ impl<'a, S: DirectoryTag, R: Wait + Drop, Q: Wait> AuditHandler<'a, S, R, Q> {
         }
     }
 
-    /// Compares a block of the own name with the own table.
+    /// Compares a block of the own name with the own table, unless a difference was found before.
+    #[tactic(auto, using(crate::proofs::Auditing::audit_later))]
     fn compare(&mut self, block: &Block) -> Result<(), Fault>
         ensures later { IsLater self.old.seat self.new.seat }
         ensures fault { spec.IsRefusedOnly result }
     {
+        if self.end.found.is_some() {
+            return Ok(());
+        }
         let found = self.directory.audit(self.rt, &mut self.seat, block)?;
         self.progress.note(block.floor(), block.upto());
         if found.is_some() || self.progress.upto >= self.goal {
