@@ -14,4 +14,4 @@ pub mod StatusTexts
 pub mod StatusAnswers
 pub mod LeavingOut
 pub mod Deferring
-pub mod Auditing
+pub mod AuditedSeats

@@ -206,8 +206,19 @@ impl<'a, S: DirectoryTag, R: Wait + Drop, Q: Wait> AuditHandler<'a, S, R, Q> {
         }
     }
 
+    /// The first difference between a block and the own table.
+    #[tactic(auto, using(crate::proofs::AuditedSeats::audit_later))]
+    fn audit(&mut self, block: &Block) -> Result<Option<Difference>, Fault>
+        ensures later { IsLater self.old.seat self.new.seat }
+        ensures fault { spec.IsRefusedOnly result }
+    {
+        match self.directory.audit(self.rt, &mut self.seat, block) {
+            Ok(found) => Ok(found),
+            Err(fault) => Err(fault),
+        }
+    }
+
     /// Compares a block of the own name with the own table, unless a difference was found before.
-    #[tactic(auto, using(crate::proofs::Auditing::audit_later))]
     fn compare(&mut self, block: &Block) -> Result<(), Fault>
         ensures later { IsLater self.old.seat self.new.seat }
         ensures fault { spec.IsRefusedOnly result }
@@ -215,12 +226,11 @@ impl<'a, S: DirectoryTag, R: Wait + Drop, Q: Wait> AuditHandler<'a, S, R, Q> {
         if self.end.found.is_some() {
             return Ok(());
         }
-        let found = self.directory.audit(self.rt, &mut self.seat, block)?;
+        let found = self.audit(block)?;
         self.progress.note(block.floor(), block.upto());
-        if found.is_some() || self.progress.upto >= self.goal {
-            self.goes_on = false;
-            self.end.is_complete = true;
-        }
+        let is_over = found.is_some() || self.progress.upto >= self.goal;
+        self.goes_on = self.goes_on && !is_over;
+        self.end.is_complete = self.end.is_complete || is_over;
         self.end.found = found;
         Ok(())
     }
