@@ -10,6 +10,7 @@ import time
 from types import SimpleNamespace
 
 from check_asking import MadeUp, rows
+from check_purging import REMOVED
 from check_watch import Watching
 from nodes import BYE, SECONDS, Difference, connect, delta, frame, hello, number, pair, read_frame, run, text, want, weight
 
@@ -215,7 +216,8 @@ def pages_apart(check):
         node.control.unlink()
         whole = rows(("a", "b1", 5, 1), ("a", "c1", 1, 1), ("a", "z", 100, 1))
         MadeUp(node.control, [rows(("a", "c1", 1, 1), more=1), rows(("a", "z", 100, 1)), whole])
-        want("its end", watch.ended()[:2], (0, ["set a c1 1 weight 1", "set a z 100 weight 1"]))
+        # (the first page was as early as c1, which a later write may have removed: it is printed once the node has shown a as far as before)
+        want("its end", watch.ended()[:2], (0, ["set a z 100 weight 1", "set a c1 1 weight 1"]))
     finally:
         watch.stop()
 
@@ -254,6 +256,87 @@ def outlasting(check):
     said = watch.ran.stderr.read().splitlines()
     want("what it said", set(said) - set(away_and_back(node.control)), set())
     want("without --retry", node.command("watch", "--count", "1"), (0, "set p x 6 weight 60\n", ""))
+
+
+def removed_rows(check):
+    """A watch that goes on does not print a removed row again where its node, started again, hears of the owner from a node that was away."""
+    folder = check.folder()
+    away = check.node("c", folder=folder).start()
+    owner = check.node("a", "--pause", "20", folder=folder, peers=[away.sock]).start()
+    owner.put("k", 1)
+    away.awaits("the first version", lambda rows: rows == ["a k 1 weight 1"])
+    owner.kill()
+    node = check.node("b", "--pause", "20", folder=folder).start()
+    owner.peers = [node.sock]
+    owner.start()
+    watch = Watching(node, "--retry", "--every", "20")
+    try:
+        watch.awaits(["set a k 1 weight 1"])
+        owner.put("k", 2)
+        watch.awaits(["set a k 2 weight 2"])
+        want("del", owner.command("del", "k"), (0, "version 3\n", ""))
+        watch.awaits(["gone a k"])
+        owner.put("j", 4)
+        watch.awaits(["set a j 4 weight 4"])
+        owner.kill()
+        node.kill()
+        node.peers = [away.sock]
+        node.start()
+        node.awaits("what the peer held", lambda rows: rows == ["a k 1 weight 1"])
+        node.put("own", 1)
+        watch.awaits(["set b own 1 weight 1"])
+        owner.start()
+        node.awaits("what the owner holds", lambda rows: rows == ["a j 4 weight 4", "b own 1 weight 1"])
+        owner.put("m", 5)
+        watch.awaits(["set a m 5 weight 5"])
+        owner.put("k", 6)
+        watch.awaits(["set a k 6 weight 6"])
+        want("del", owner.command("del", "j"), (0, "version 7\n", ""))
+        watch.awaits(["gone a j"])
+        want("that it runs", watch.ran.poll(), None)
+    finally:
+        watch.stop()
+    want("what it said", set(watch.ran.stderr.read().splitlines()) - set(away_and_back(node.control)), set())
+
+
+def earlier_versions(check):
+    """A watch that goes on says that its node, started again, shows less of an owner than was printed, and prints the rest once it shows as much."""
+    node = check.node("a").start()
+    tell(node, "p", 0, ("x", 1, 10), ("y", 2, 20), ("z", 3, 30))
+    tell(node, "q", 0, ("x", 1, 10))
+    watch = Watching(node, "--retry", "--every", "20")
+    try:
+        watch.awaits(["set p x 1 weight 10", "set p y 2 weight 20", "set p z 3 weight 30", "set q x 1 weight 10"])
+        with connect(node.sock) as stream:
+            stream.sendall(hello("teller") + delta("q", 1, [("y", 3, REMOVED), ("x", 4, REMOVED)]) + BYE)
+            while read_frame(stream):
+                pass
+        watch.awaits(["gone q x"])
+        node.kill()
+        node.start()
+        # p is another machine with a new log; of q the node hears what was so before the row was gone
+        tell(node, "p", 0, ("new", 1, 7))
+        tell(node, "q", 0, ("x", 1, 10), ("y", 2, 20))
+        node.put("own", 1)
+        watch.awaits(["set a own 1 weight 1"])
+        time.sleep(11)
+        node.put("own", 2)
+        watch.awaits(["set a own 2 weight 2"])
+        tell(node, "p", 1, ("v", 4, 40))
+        watch.awaits(["set p v 4 weight 40", "set p new 1 weight 7", "gone p x", "gone p y", "gone p z"])
+        tell(node, "q", 2, ("x", 5, 50), ("y", 6, 60))
+        watch.awaits(["set q x 5 weight 50", "set q y 6 weight 60"])
+        want("the rows", node.get("--owner", "p"), ["p new 1 weight 7", "p v 4 weight 40"])
+        time.sleep(0.2)
+        want("that it runs", watch.ran.poll(), None)
+    finally:
+        watch.stop()
+    said = [it for it in watch.ran.stderr.read().splitlines() if it not in away_and_back(node.control)]
+    front = f"control socket {node.control}: "
+    want("what it said", said, [
+        f"attrdir: warning {front}since its start the node has shown less of 2 owners than was printed, the first is p; their printed rows stay",
+        f"attrdir: info {front}the node shows again what was printed",
+    ])
 
 
 def waiting(check):
@@ -361,4 +444,4 @@ def made_up_digests(check):
         want(f"its first messages at {what}", made.messages[:2], begins)
 
 
-PARTS = (one_row, texts_of_scripts, lines_of_input, environment, marks, outlasting, pages_apart, waiting, owners, whole_sessions, made_up_digests)
+PARTS = (one_row, texts_of_scripts, lines_of_input, environment, marks, outlasting, removed_rows, earlier_versions, pages_apart, waiting, owners, whole_sessions, made_up_digests)

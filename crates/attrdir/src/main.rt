@@ -19,8 +19,8 @@
 //! - The file of `serve --metrics` has other numbers, is read half written, replaces another file, or outlives the
 //!   node. The tests of `sb_run` and `tools/check-node` refuse it.
 //! - `serve` prints nothing when keys or owners run out. The tests of `sb_run` and `tools/check-node` refuse it.
-//! - `watch --retry` counts wrongly what a node has shown (`enter_all`). It then prints a row as gone, or keeps it.
-//!   `tools/check-node` refuses it.
+//! - `watch --retry` enters wrongly what a node has shown and what it printed (`enter_shown`, `enter_printed`). It then
+//!   prints a row as gone, keeps it or holds it back. `tools/check-node` refuses it.
 //! - `--help` prints another text. `tools/check-help` compares options and defaults. Nothing refuses other words.
 #![tactic(auto)]
 
@@ -37,6 +37,7 @@ mod environment;
 mod failure;
 mod help;
 mod keeping;
+mod lagging;
 mod log_file;
 mod log_watch;
 mod metrics;
@@ -46,6 +47,7 @@ mod output;
 mod owners;
 mod part;
 mod pausing;
+mod reaches;
 mod release;
 mod restoring;
 mod serving;

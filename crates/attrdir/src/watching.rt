@@ -1,11 +1,12 @@
 //! What changes at a running node, which a watch asks again and again.
 use crate::asking::{page_of, take_all};
 use crate::failure::{Failure, FaultPlace};
-use crate::keeping::{copy_of, enter_all, kept_rows};
+use crate::keeping::{copy_of, kept_rows};
+use crate::lagging::{Lag, differing_owners};
 use crate::pausing::Pauses;
+use crate::reaches::{OwnerReach, enter_printed, enter_shown, forget_shown};
 use sb_codec::{Ask, Row, Rows};
-use sb_digest::Pair;
-use sb_listing::{changes, print_changes};
+use sb_listing::{RowChange, changes, print_changes};
 use sb_query::Pager;
 use sb_types::{Fault, Key, Name};
 use std::alloc::Global;
@@ -71,12 +72,10 @@ pub(crate) fn listing<'a>(
 /// is true. `NoMemory`; `WriteFailed`.
 fn print_difference(
     rt: &HostRuntime,
-    earlier: &[Row],
-    later: &[Row],
+    told: &[RowChange<'_>],
     prints_asked: bool,
 ) -> Result<(), Fault> {
-    let told = changes(rt.alloc(), earlier, later)?;
-    let (printed, _) = print_changes(rt.alloc(), &mut rt.stdout(), &told);
+    let (printed, _) = print_changes(rt.alloc(), &mut rt.stdout(), told);
     printed?;
     if prints_asked && println!(rt; "asked").is_err() {
         return Err(Fault::WriteFailed(0));
@@ -111,7 +110,7 @@ pub(crate) fn watch<'a>(
             wait(rt, &mut pauses)?;
         }
         let rows = listing(rt, control, &query.asked)?;
-        print_difference(rt, &last, &rows, query.prints_asked)?;
+        print_difference(rt, &changes(rt.alloc(), &last, &rows)?, query.prints_asked)?;
         last = rows;
     }
     Ok(())
@@ -143,8 +142,8 @@ struct PrintedRows {
     rows: Vec<Row>,
     /// The socket of the last asking.
     stamp: Option<SocketStamp>,
-    /// For each owner, the last version that was shown since the node was started.
-    shown: Vec<Pair>,
+    reaches: Vec<OwnerReach>,
+    lag: Lag,
     /// Whether the last line about the node was that it does not answer.
     is_away: bool,
     /// How many askings were answered.
@@ -156,7 +155,8 @@ impl PrintedRows {
         PrintedRows {
             rows: Vec::new(alloc),
             stamp: None,
-            shown: Vec::new(alloc),
+            reaches: Vec::new(alloc),
+            lag: Lag::new(),
             is_away: false,
             count: 0,
         }
@@ -171,13 +171,17 @@ impl PrintedRows {
         prints_asked: bool,
     ) -> Result<(), Fault> {
         if stamp.is_none() || stamp != self.stamp {
-            self.shown.clear();
+            forget_shown(&mut self.reaches);
+            self.lag = Lag::new();
         }
         self.stamp = stamp;
         // The pages of a listing are not from one moment. Only what was shown before its first page is known on each.
-        let rows = kept_rows(rt.alloc(), &self.rows, found, &self.shown)?;
-        enter_all(&mut self.shown, found)?;
-        print_difference(rt, &self.rows, &rows, prints_asked)?;
+        let rows = kept_rows(rt.alloc(), &self.rows, found, &self.reaches)?;
+        enter_shown(&mut self.reaches, found)?;
+        let told = changes(rt.alloc(), &self.rows, &rows)?;
+        print_difference(rt, &told, prints_asked)?;
+        enter_printed(&mut self.reaches, &told)?;
+        drop(told);
         self.rows = rows;
         self.count = self.count.saturating_add(1);
         Ok(())
@@ -208,6 +212,13 @@ impl PrintedRows {
                 if stamp == stamp_of(rt, control) {
                     self.tell(rt, control, false);
                     self.take(rt, stamp, &found, query.prints_asked)?;
+                    let differing = differing_owners(
+                        rt.alloc(),
+                        &self.rows,
+                        &found,
+                        &self.reaches,
+                    )?;
+                    self.lag.tell(rt, control, differing);
                 }
                 Ok(())
             }

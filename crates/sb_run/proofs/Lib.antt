@@ -15,3 +15,4 @@ pub mod StatusAnswers
 pub mod LeavingOut
 pub mod Deferring
 pub mod AuditedSeats
+pub mod KeptOffers

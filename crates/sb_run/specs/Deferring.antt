@@ -94,6 +94,13 @@ open_offers digest offers = filter (is_open digest) offers
 abbrev pub IsNoted : List Offer → Digest → List Block → List Offer → Type 0
 IsNoted offers digest blocks new = (new ≡ offers_after (open_offers digest offers) digest blocks) ⊎ (new ≡ [])
 
+-- an answer is noted, and nothing else is
+abbrev pub Notes : List Offer → Act → List Offer → Type 0
+Notes old (tells from want answer) new = new ≡ old
+Notes old (gives digest (Ok blocks)) new = IsNoted old digest blocks new
+Notes old (gives digest (Err fault)) new = new ≡ old
+Notes old (applies blocks answer) new = new ≡ old
+
 -- the delta, if it has a block
 abbrev pub unless_empty : List Block → Option (List Block)
 unless_empty [] = None

@@ -4,6 +4,7 @@ pub mod OneMessage
 pub mod Control
 pub mod Forgetting
 pub mod Deferring
+pub mod KeptOffers
 pub mod Gates
 pub mod Hellos
 pub mod Pools

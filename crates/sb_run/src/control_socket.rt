@@ -11,6 +11,7 @@ ghost use Rattle.sb_run.specs.Running.{IsOpenedFrom};
 
 use crate::arrivals::{Request, Requests};
 use crate::dialer::{Dialing, RoundsTag};
+use crate::log_watch::AskObserver;
 use crate::node::OnLogFault;
 use crate::observer::{LogCause, Observer, Status};
 use crate::own_writes::{ClosableLog, OwnWrites};
@@ -197,7 +198,7 @@ impl<S: RoundsTag, H: Wait + Drop, Q: Wait + Clock> NodeContext<'_, S, H, Q> {
                     has_left: self.ends_by_log(),
                 };
             };
-            self.close_lost_log(&mut writes, observer);
+            self.close_lost_log(&mut writes, &AskObserver { observer }, observer);
             turns.note(&request.message);
             let (seat, failed) = self.answer_one(dialing, &mut writes, request, current);
             current = seat;

@@ -101,10 +101,13 @@
 //!   cover its version, its keys, its conflict, and whether it is caught up. Tests and `tools/check-node` refuse it.
 //! - A session takes blocks of an owner that the node is to forget, since it has no `ForgettingHandler`. Or the observer
 //!   learns of another owner, or never. The tests of `sb_run` and `tools/check-node` refuse it.
-//! - A session begins without what the peer was offered in vain in the one before, or with what another peer was. Or a
-//!   node keeps it longer than it may. The tests of `sb_run` and `tools/check-node` refuse it.
 //! - A node audits nobody, another peer, too seldom or too often, or does not report what it found. Or an audit asks for too
 //!   much, stops too soon, or goes on too long. The tests of `sb_run` and `tools/check-node` refuse it.
+//! - A session begins without what its peer was offered in vain in the one before, or with what another peer was. The
+//!   tests of `sb_run` and `tools/check-node` refuse it.
+//! - A node forgets what it offered, or defers nothing, as if memory were missing. The tests of `sb_run` and
+//!   `tools/check-node` refuse it.
+//! - A peer that dials counts as one that is not known, although its Hello has its name. `tools/check-node` refuses it.
 //! - `OwnWrites::put`, `serve_control`, `ask_control`, `serve_pool` or `run_node` never returns. Tests end.
 #![tactic(auto)]
 
@@ -124,6 +127,7 @@ mod first_message;
 mod forgetting;
 mod gate;
 mod laws;
+mod log_watch;
 mod node;
 mod observer;
 mod own_writes;

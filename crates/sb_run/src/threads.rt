@@ -1,7 +1,7 @@
 //! The threads of a running node.
-ghost use Rattle.std.specs.Prelude.{◌≡◌, true, false, vec_len, vec_capacity, Ok, Err, IfOk, IfErr, IsErr, ◌+◌, ◌≤◌, length};
+ghost use Rattle.std.specs.Prelude.{◌≡◌, ◌⊎◌, true, false, IsSome, vec_len, vec_capacity, Ok, Err, IfOk, IfErr, IsErr, ◌+◌, ◌≤◌, length};
 ghost use Rattle.std.specs.Thread.{IsSend, IsSync};
-ghost use Rattle.sb_run.specs.Closing.{seen_by};
+ghost use Rattle.sb_run.specs.Closing.{seen_by, why_of};
 ghost use Rattle.sb_run.specs.Running.{IsEndFault, IsOpenedFrom};
 
 use crate::accepting::Acceptor;
@@ -12,6 +12,7 @@ use crate::counts::Counts;
 use crate::dialer::{Dialing, Rounds, RoundsReceiver, RoundsSender, RoundsTag, Turns};
 use crate::forgetting::ForgottenOwners;
 use crate::gate::{Gate, GatePoint};
+use crate::log_watch::LogWatch;
 use crate::node::{OnLogFault, Pace, Runtime};
 use crate::observer::{LogCause, Observer};
 use crate::own_writes::{ClosableLog, OwnWrites};
@@ -517,20 +518,35 @@ impl<S: RoundsTag, H: Wait + Drop, Q> NodeContext<'_, S, H, Q> {
         }
     }
 
-    /// Looks at the file of the log, and closes a log whose file is lost: what it took from then on would be lost too.
-    pub(crate) fn close_lost_log<L: WriteLog, O: Observer>(
+    /// Whether the file of the log was found lost.
+    fn has_lost_log(&self) -> bool {
+        matches!(self.counts.log_cause(), Some(LogCause::Lost(_)))
+    }
+
+    /// Closes the log if its file is lost: what the log took from then on would be lost too. Unless the log is closed, it looks at
+    /// the file first, and notes the loss.
+    pub(crate) fn close_lost_log<L: WriteLog, W: LogWatch, O: Observer>(
         &self,
         writes: &mut OwnWrites<ClosableLog<L>>,
+        watch: &W,
         observer: &O,
     )
         ensures log { writes.new.log.log ≡ writes.old.log.log }
         ensures owed { writes.new.owed ≡ writes.old.owed }
         ensures failed { writes.new.has_failed ≡ writes.old.has_failed }
+        // The log is closed then, or its file is there.
+        ensures closes { IsSome (why_of (L.why writes.new.log.log) writes.new.log.closed_by) ⊎ W.finds_file watch.now }
     {
-        self.look_at_log(observer);
-        if let Some(LogCause::Lost(_)) = self.counts.log_cause() {
-            writes.close_log(StoreCause::CannotOpen);
+        if writes.cause().is_some() {
+            return;
         }
+        if !self.has_lost_log() {
+            let Some(loss) = watch.loss() else {
+                return;
+            };
+            self.note_log_cause(LogCause::Lost(loss), observer);
+        }
+        writes.close_log(StoreCause::CannotOpen);
     }
 
     /// Whether the node is to end because its log takes no more writes.

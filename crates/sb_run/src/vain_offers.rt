@@ -1,7 +1,8 @@
 //! What a node offered in vain: a peer that asks again is first offered what else it lacks.
-ghost use Rattle.std.specs.Prelude.{◌≡◌, [], IfOk, IfErr, IfSome};
+ghost use Rattle.std.specs.Prelude.{◌≡◌, [], take, IfOk, IfErr, IfSome};
 ghost use Rattle.sb_session.specs.Handlers.{IsRefusal};
 ghost use Rattle.sb_run.specs.Deferring as spec;
+ghost use Rattle.sb_run.specs.KeptOffers as kept_spec;
 
 use sb_digest::{Digest, Pair};
 use sb_holdings::Report;
@@ -9,6 +10,9 @@ use sb_session::Handler;
 use sb_types::{Block, Delta, Fault, Name, OWNERS_MOST};
 use std::alloc::Global;
 use std::sync::{Mutex, Wait};
+
+/// How many offers a node keeps in all between sessions.
+const OFFERS_MOST: usize = 65_536;
 
 /// How far a peer holds an owner, as its digest says.
 #[derive(Clone, Copy, PartialEq, Eq)]
@@ -260,19 +264,84 @@ struct AskerOffers {
     offers: PeerOffers,
 }
 
+/// How many askers from the first on were offered no more than so much.
+fn count_fitting(room: usize, kept: &[AskerOffers]) -> usize
+    ensures { take result kept.now ≡ kept_spec.fitting room kept.now }
+{
+    let mut left = room;
+    let mut count: usize = 0;
+    for one in kept {
+        let Some(rest) = left.checked_sub(one.offers.all.len()) else {
+            return count;
+        };
+        left = rest;
+        count += 1;
+    }
+    count
+}
+
+/// Forgets the oldest if there are more askers or offers than a node keeps.
+fn forget_oldest(kept: &mut Vec<AskerOffers>)
+    ensures { kept.new.items ≡ kept_spec.youngest kept.old.items }
+{
+    kept.truncate(OWNERS_MOST);
+    let count = count_fitting(OFFERS_MOST, kept);
+    kept.truncate(count);
+}
+
+/// The place of what this asker was offered.
+fn place_of(kept: &[AskerOffers], asker: &Asker) -> Option<usize>
+    ensures { result ≡ kept_spec.place_of kept.now asker.now }
+{
+    kept.iter().position(|one| one.asker == *asker)
+}
+
+/// What the askers were offered in their last sessions, the youngest first.
+#[derive(Drop)]
+struct KeptOffers {
+    all: Vec<AskerOffers>,
+    ghost bounded: { kept_spec.AreFew all.items },
+}
+
+impl KeptOffers {
+    /// Nobody was offered anything. It takes no memory.
+    fn new(alloc: Global) -> KeptOffers
+        ensures { result.all.items ≡ [] }
+    {
+        KeptOffers {
+            all: Vec::new(alloc),
+        }
+    }
+
+    /// Takes what the asker was offered, if that is kept.
+    fn take(&mut self, asker: &Asker) -> Option<PeerOffers>
+        ensures taken { kept_spec.IsTaken self.old.all.items asker.now result }
+        ensures left { self.new.all.items ≡ kept_spec.without self.old.all.items asker.now }
+    {
+        let place = place_of(&self.all, asker)?;
+        let AskerOffers { asker: _, offers } = self.all.remove(place);
+        Some(offers)
+    }
+
+    /// Keeps what the asker was offered, and forgets what was kept of it. It is forgotten too if memory is missing.
+    fn keep(&mut self, asker: Asker, offers: PeerOffers)
+        ensures { kept_spec.IsKept self.old.all.items asker offers self.new.all.items }
+    {
+        drop(self.take(&asker));
+        if offers.all.is_empty() {
+            return;
+        }
+        if self.all.insert(0, AskerOffers { asker, offers }).is_ok() {
+            forget_oldest(&mut self.all);
+        }
+    }
+}
+
 /// What each peer was offered in vain in its last session.
 #[derive(Drop)]
 pub struct VainOffers {
     alloc: Global,
-    /// At most as many as there may be owners. The oldest is the first.
-    kept: Mutex<Vec<AskerOffers>>,
-}
-
-/// Removes what the asker was offered.
-fn remove_of(kept: &mut Vec<AskerOffers>, asker: &Asker) -> Option<PeerOffers> {
-    let place = kept.iter().position(|one| one.asker == *asker)?;
-    let AskerOffers { asker: _, offers } = kept.remove(place);
-    Some(offers)
+    kept: Mutex<KeptOffers>,
 }
 
 impl VainOffers {
@@ -280,7 +349,7 @@ impl VainOffers {
     pub fn new(alloc: Global) -> VainOffers {
         VainOffers {
             alloc,
-            kept: Mutex::new(Vec::new(alloc)),
+            kept: Mutex::new(KeptOffers::new(alloc)),
         }
     }
 
@@ -289,26 +358,17 @@ impl VainOffers {
         let Some(asker) = asker else {
             return PeerOffers::new(self.alloc);
         };
-        match remove_of(&mut self.kept.lock(rt), asker) {
+        match self.kept.lock(rt).take(asker) {
             Some(offers) => offers,
             None => PeerOffers::new(self.alloc),
         }
     }
 
-    /// Keeps what this peer was offered, for its next session. It is forgotten if memory is missing.
+    /// Keeps what this peer was offered, for its next session. Nothing if it is not known who asked.
     fn keep<R: Wait>(&self, rt: &R, asker: Option<Asker>, offers: PeerOffers) {
-        let Some(asker) = asker else {
-            return;
-        };
-        let mut kept = self.kept.lock(rt);
-        drop(remove_of(&mut kept, &asker));
-        if offers.all.is_empty() {
-            return;
+        if let Some(asker) = asker {
+            self.kept.lock(rt).keep(asker, offers);
         }
-        if kept.len() >= OWNERS_MOST {
-            kept.remove(0);
-        }
-        drop(kept.push(AskerOffers { asker, offers }));
     }
 }
 
@@ -416,9 +476,10 @@ impl<'a, H: Handler> DeferringHandler<'a, H> {
 }
 
 impl<H: Handler> Handler for DeferringHandler<'_, H> {
-    ghost use Rattle.sb_run.specs.Deferring.{DeferringStep, deferring-nothing, deferring-later};
+    ghost use Rattle.sb_run.specs.Deferring.{DeferringStep, Notes, deferring-nothing, deferring-later};
 
-    ghost step = { λ old act new. DeferringStep old.offers.all.items H.step old.inner act new.inner };
+    ghost step = { λ old act new.
+        DeferringStep old.offers.all.items H.step old.inner act new.inner × Notes old.offers.all.items act new.offers.all.items };
 
     ghost stays = { λ old new. H.stays old.inner new.inner };
 
@@ -444,14 +505,14 @@ impl<H: Handler> Handler for DeferringHandler<'_, H> {
     }
 
     ghost enters_nothing = { λ old new act none step.
-        deferring-nothing old.offers.all.items H.step H.stays H.enters_nothing H.stays_still H.stays_on old.inner new.inner act none step };
+        deferring-nothing old.offers.all.items H.step H.stays H.enters_nothing H.stays_still H.stays_on old.inner new.inner act none step.0 };
 
     ghost stays_still = { λ state. H.stays_still state.inner };
 
     ghost stays_on = { λ old mid new first then. H.stays_on old.inner mid.inner new.inner first then };
 
     ghost step_grows = { λ old new act step.
-        deferring-later old.offers.all.items H.step H.grows H.step_grows H.grows_still H.grows_on old.inner new.inner act step };
+        deferring-later old.offers.all.items H.step H.grows H.step_grows H.grows_still H.grows_on old.inner new.inner act step.0 };
 
     ghost grows_still = { λ state. H.grows_still state.inner };
 

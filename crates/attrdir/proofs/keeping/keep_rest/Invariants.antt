@@ -3,4 +3,4 @@ use Rattle.attrdir.specs.Keeping.{unknown_rows}
 use Rattle.attrdir.proofs.keeping.keep_rest.Given as goal
 
 abbrev pub invariant-loop-row : goal.invariant-loop-row
-invariant-loop-row l = l.kept.items ++ unknown_rows l.shown (drop l.row-index l.rows) ≡ l.fn.kept.items ++ unknown_rows l.shown l.rows
+invariant-loop-row l = l.kept.items ++ unknown_rows l.reaches (drop l.row-index l.rows) ≡ l.fn.kept.items ++ unknown_rows l.reaches l.rows
