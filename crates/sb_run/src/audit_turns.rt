@@ -23,7 +23,7 @@ pub(crate) struct AuditTurns {
 }
 
 impl AuditTurns {
-    /// So many peers, none of which was audited, and one in turn after each interval; 0 for no audits. `NoMemory`.
+    /// So many peers, before the first audit. One comes in turn after each interval; 0 for no audits. `NoMemory`.
     pub(crate) fn new(alloc: Global, count: usize, interval: u64) -> Result<AuditTurns, Fault>
         ensures tries { IfOk result (λ turns. turns.tries.items ≡ replicate count TRIES_MOST) }
         ensures interval { IfOk result (λ turns. turns.interval ≡ interval) }

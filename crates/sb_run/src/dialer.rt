@@ -422,7 +422,7 @@ pub(crate) struct Turns<'a> {
     peers: Vec<Peer<'a>>,
     /// How many rounds had ended then.
     reported: u64,
-    /// When the observer is to get the status of the node again; at once if this is none.
+    /// When the observer is to get the status of the node again; at once if there is no time.
     status_due: Option<Instant>,
     /// Whether the observer knows that another node writes under this node's name.
     is_conflict_reported: bool,
@@ -485,8 +485,8 @@ impl<'a> Turns<'a> {
         node.report_status(observer, counts, self.peers.as_slice(), seat)
     }
 
-    /// Publishes what there was no memory to publish before. It reports to the observer, once each, that a peer has rows of an
-    /// owner to forget, and that another node writes under this node's name, unless an audit reported that.
+    /// Publishes what there was no memory to publish before. It reports to the observer, once each, that peers have rows of an
+    /// owner to forget, and that another node writes under this node's name. It leaves the second out if an audit reported it.
     fn refresh_and_report<S: RoundsTag, H: Wait + Drop, Q: Wait, O: Observer>(
         &mut self,
         node: &NodeContext<S, H, Q>,
