@@ -1,8 +1,8 @@
 -- Audits: the digest that asks for the own name alone, and how far its blocks came.
-use Rattle.std.specs.Prelude.{ℕ, ◌+◌, max, nat_le, nat_eq, if◌then◌else◌, List, Option, Some, None, Result, IfErr}
+use Rattle.std.specs.Prelude.{◌≡◌, ℕ, ◌+◌, Bool, max, nat_le, nat_eq, if◌then◌else◌, List, [], ◌∷◌, Option, Some, None, Result, Ok, Err, IfErr}
 use Rattle.sb_types.specs.declared.fault.Fault.{Fault}
-use Rattle.sb_digest.specs.Digests.{Pair}
-use Rattle.sb_session.specs.Handlers.{IsRefusal}
+use Rattle.sb_digest.specs.Digests.{Digest, Pair}
+use Rattle.sb_session.specs.Handlers.{Act, tells, gives, applies, IsRefusal}
 use Rattle.sb_run.specs.declared.auditing.Progress.{Progress}
 
 -- the bytes of names are a dash, the digits and the letters, in the order of their numbers
@@ -26,3 +26,16 @@ pair_of me p = record { owner = me; held = p.upto; floor = p.floor; progress = p
 -- a fault is one of a handler
 abbrev pub IsRefusedOnly : {X : Type 0} → Result X Fault → Type 0
 IsRefusedOnly result = IfErr result IsRefusal
+
+-- the digest of an audit: from the own name on, with one pair that says how far the blocks of the audit came
+abbrev pub IsAuditDigest : List ℕ → Progress → Bool → Digest → Type 0
+IsAuditDigest me p want digest = (digest.want ≡ want) × (digest.from ≡ Some me) × (digest.pairs ≡ pair_of me p ∷ [])
+
+-- what an audit answers: it asks for the own name alone, and offers nothing
+abbrev pub AuditAnswers : List ℕ → Progress → Act → Type 0
+AuditAnswers me p (tells from want (Ok digest)) = IsAuditDigest me p want digest
+AuditAnswers me p (tells from want (Err fault)) = IsRefusal fault
+AuditAnswers me p (gives theirs (Ok blocks)) = blocks ≡ []
+AuditAnswers me p (gives theirs (Err fault)) = IsRefusal fault
+AuditAnswers me p (applies blocks (Ok ends)) = ends ≡ []
+AuditAnswers me p (applies blocks (Err fault)) = IsRefusal fault

@@ -1,5 +1,8 @@
 //! An audit: the node asks a peer for the rows of its own name, and compares them with its own table.
-ghost use Rattle.std.specs.Prelude.{◌≡◌, ◌+◌, ◌<◌, ◌≤◌, IfErr};
+ghost use Rattle.std.specs.Prelude.{◌≡◌, ◌+◌, ◌<◌, ◌≤◌, true, false, nat_eq, None, IfErr, IfOk, OnOk, IfSome};
+ghost use Rattle.std.specs.Option.{option_copied};
+ghost use Rattle.std.specs.Cmp.Lexicographic.{pointwise};
+ghost use Rattle.sb_directory.specs.Audits.{Audits};
 ghost use Rattle.sb_directory.specs.Serving.{IsLater};
 ghost use Rattle.sb_run.specs.Auditing as spec;
 ghost use Rattle.sb_run.specs.Hellos.{Greets};
@@ -134,7 +137,9 @@ struct AuditHandler<'a, S: DirectoryTag, R: Wait + Drop, Q: Wait> {
 }
 
 /// The block of an owner, if there is one.
-fn block_of<'a>(blocks: &'a [Block], owner: &Name) -> Option<&'a Block> {
+fn block_of<'a>(blocks: &'a [Block], owner: &Name) -> Option<&'a Block>
+    ensures { IfSome (option_copied result) (λ block. pointwise nat_eq block.owner owner.now ≡ true) }
+{
     for block in blocks {
         if block.owner() == owner {
             return Some(block);
@@ -194,7 +199,8 @@ impl<'a, S: DirectoryTag, R: Wait + Drop, Q: Wait> AuditHandler<'a, S, R, Q> {
 
     /// The digest of the own name alone. `NoMemory`; `TurnsSpent` if a limit of digests is broken.
     fn own_digest(&self, want: bool) -> Result<Digest, Fault>
-        ensures { spec.IsRefusedOnly result }
+        ensures digest { IfOk result (spec.IsAuditDigest S.opening.held.me self.now.progress want) }
+        ensures fault { spec.IsRefusedOnly result }
     {
         let me = *self.directory.name();
         let until = next_name(self.alloc, &me)?;
@@ -209,6 +215,7 @@ impl<'a, S: DirectoryTag, R: Wait + Drop, Q: Wait> AuditHandler<'a, S, R, Q> {
     /// The first difference between a block and the own table.
     #[tactic(auto, using(crate::proofs::AuditedSeats::audit_later))]
     fn audit(&mut self, block: &Block) -> Result<Option<Difference>, Fault>
+        ensures audits { IfOk result (λ found. Audits S.opening block.now self.old.seat found self.new.seat) }
         ensures later { IsLater self.old.seat self.new.seat }
         ensures fault { spec.IsRefusedOnly result }
     {
@@ -220,6 +227,8 @@ impl<'a, S: DirectoryTag, R: Wait + Drop, Q: Wait> AuditHandler<'a, S, R, Q> {
 
     /// Compares a block of the own name with the own table, unless a difference was found before.
     fn compare(&mut self, block: &Block) -> Result<(), Fault>
+        ensures audits { self.old.end.found ≡ None → OnOk result (Audits S.opening block.now self.old.seat self.new.end.found self.new.seat) }
+        ensures over { self.old.end.found ≡ None → OnOk result (IfSome self.new.end.found (λ _. self.new.goes_on ≡ false)) }
         ensures later { IsLater self.old.seat self.new.seat }
         ensures fault { spec.IsRefusedOnly result }
     {
@@ -239,9 +248,10 @@ impl<'a, S: DirectoryTag, R: Wait + Drop, Q: Wait> AuditHandler<'a, S, R, Q> {
 impl<S: DirectoryTag, R: Wait + Drop, Q: Wait> Handler for AuditHandler<'_, S, R, Q> {
     ghost use Rattle.sb_directory.specs.Serving.{IsLater};
     ghost use Rattle.sb_directory.specs.Handling.{later-same, later-on};
+    ghost use Rattle.sb_run.specs.Auditing.{AuditAnswers};
 
-    // It answers as it likes, and the seat only moves on.
-    ghost step = { λ old act new. IsLater old.seat new.seat };
+    // It asks for the own name alone, offers nothing, and the seat only moves on.
+    ghost step = { λ old act new. IsLater old.seat new.seat × AuditAnswers S.opening.held.me old.progress act };
 
     ghost stays = { λ old new. IsLater old.seat new.seat };
 
@@ -272,13 +282,13 @@ impl<S: DirectoryTag, R: Wait + Drop, Q: Wait> Handler for AuditHandler<'_, S, R
         Ok(Report::new(Vec::new(self.alloc)))
     }
 
-    ghost enters_nothing = { λ old new act none step. step };
+    ghost enters_nothing = { λ old new act none step. step.0 };
 
     ghost stays_still = { λ state. later-same state.seat };
 
     ghost stays_on = { λ old mid new first then. later-on old.seat mid.seat new.seat first then };
 
-    ghost step_grows = { λ old new act step. step };
+    ghost step_grows = { λ old new act step. step.0 };
 
     ghost grows_still = { λ state. later-same state.seat };
 
