@@ -6,9 +6,9 @@ ghost use Rattle.sb_run.specs.Arriving.{ReadsPiece, is_silent, has_begun, has_nu
 
 use crate::arrivals::Handover;
 use crate::counts::Counts;
-use crate::dialer::RoundsTag;
+use crate::dialer::{RoundsTag, earlier};
 use crate::first_message::{FIRST_MOST, is_enough, name_of};
-use crate::sockets::WAKER_TOKEN;
+use crate::sockets::{CONTROL_TOKEN, SOCK_TOKEN, WAKER_TOKEN};
 use crate::threads::NodeContext;
 use mio::net::UnixStream;
 use mio::{Events, Interest, Poll, Registry, Token};
@@ -84,25 +84,18 @@ impl Backlog {
         self.note_fault();
     }
 
-    /// Lets a connection wait at this socket until it has something to say. `ReadFailed`, `NoMemory`; both close it.
+    /// Lets a connection wait at this socket until it has something to say. It returns its number. `ReadFailed`, `NoMemory`; both
+    /// close it.
     fn admit<S: RoundsTag, H: Wait + Drop, Q: Clock>(
         &mut self,
         node: &NodeContext<S, H, Q>,
-        registry: &Registry,
         at: At,
         stream: UnixStream,
-    ) -> Result<(), Fault> {
+    ) -> Result<usize, Fault> {
         let Some(number) = self.last_number.checked_add(1) else {
             return Err(Fault::ReadFailed);
         };
         self.last_number = number;
-        let mut stream = stream;
-        if registry
-            .register(&mut stream, Token(number), Interest::READABLE)
-            .is_err()
-        {
-            return Err(Fault::ReadFailed);
-        }
         let pace = &node.pace;
         let patience = match at {
             At::Control if pace.request != 0 => pace.request,
@@ -117,11 +110,12 @@ impl Backlog {
         if list.push(waiting)? {
             self.turn_away(node.counts);
         }
-        Ok(())
+        Ok(number)
     }
 
-    /// Accepts what waits at a socket, but not more than a few, and says what is left there.
-    fn accept_at<S: RoundsTag, H: Wait + Drop, Q: Clock>(
+    /// Accepts what waits at a socket, but not more than a few, and says what is left there. It reads each connection once, since
+    /// most have said something by then.
+    fn accept_at<S: RoundsTag, H: Wait + Drop, Q: Wait + Clock>(
         &mut self,
         node: &NodeContext<S, H, Q>,
         registry: &Registry,
@@ -137,8 +131,9 @@ impl Backlog {
                     if at == At::Sock {
                         node.counts.add_session();
                     }
-                    if self.admit(node, registry, at, stream).is_err() {
-                        self.turn_away(node.counts);
+                    match self.admit(node, at, stream) {
+                        Ok(number) => self.take_up_counted(node, registry, number),
+                        Err(_) => self.turn_away(node.counts),
                     }
                 }
                 Err(error) if error.kind() == io::ErrorKind::WouldBlock => return Left::Nothing,
@@ -150,6 +145,20 @@ impl Backlog {
             }
         }
         Left::More
+    }
+
+    /// Does the same if there may be something left at the socket.
+    fn accept_left<S: RoundsTag, H: Wait + Drop, Q: Wait + Clock>(
+        &mut self,
+        node: &NodeContext<S, H, Q>,
+        registry: &Registry,
+        at: At,
+        left: Left,
+    ) -> Left {
+        match left {
+            Left::Nothing => Left::Nothing,
+            Left::More | Left::Failed => self.accept_at(node, registry, at),
+        }
     }
 
     /// Closes the oldest connection of the longer list. Says whether there was one.
@@ -198,6 +207,19 @@ impl Backlog {
         }
     }
 
+    /// Does the same, and counts a fault of the connection.
+    fn take_up_counted<S: RoundsTag, H: Wait + Drop, Q: Wait>(
+        &mut self,
+        node: &NodeContext<S, H, Q>,
+        registry: &Registry,
+        number: usize,
+    ) {
+        if let Err(fault) = self.take_up(node, registry, number) {
+            node.counts.note_version(&fault);
+            self.note_fault();
+        }
+    }
+
     /// Closes those whose time is over.
     fn close_late<Q: Clock>(&mut self, clock: &Q) {
         let Ok(now) = Instant::now(clock) else {
@@ -212,11 +234,7 @@ impl Backlog {
 
     /// How long it is until the time of a connection is over; none if no connection has one.
     fn time_left<Q: Clock>(&self, clock: &Q) -> Option<Duration> {
-        let first = match (self.peers.first_until(), self.callers.first_until()) {
-            (Some(one), Some(other)) => Some(one.min(other)),
-            (one, other) => one.or(other),
-        };
-        let until = first?;
+        let until = earlier(self.peers.first_until(), self.callers.first_until())?;
         match Instant::now(clock) {
             Ok(now) => Some(until.saturating_duration_since(now)),
             Err(_) => Some(Duration::from_millis(ACCEPT_PAUSE)),
@@ -278,24 +296,25 @@ impl Acceptor {
             mut events,
             mut backlog,
         } = self;
+        let (mut peers, mut callers) = (Left::More, Left::More);
         for _ in node.rt.forever() {
             let registry = poll.registry();
-            let left = [
-                backlog.accept_at(node, registry, At::Sock),
-                backlog.accept_at(node, registry, At::Control),
-            ];
-            let patience = patience(left, backlog.time_left(node.rt));
+            peers = backlog.accept_left(node, registry, At::Sock, peers);
+            callers = backlog.accept_left(node, registry, At::Control, callers);
+            let patience = patience([peers, callers], backlog.time_left(node.rt));
             if poll.poll(&mut events, patience).is_err() {
                 thread::sleep(node.rt, Duration::from_millis(ACCEPT_PAUSE));
+                peers = Left::More;
+                callers = Left::More;
             }
             if node.ending.is_raised() {
                 return backlog.faults;
             }
             for event in &events {
-                let number = event.token().0;
-                if let Err(fault) = backlog.take_up(node, poll.registry(), number) {
-                    node.counts.note_version(&fault);
-                    backlog.note_fault();
+                match event.token().0 {
+                    SOCK_TOKEN => peers = Left::More,
+                    CONTROL_TOKEN => callers = Left::More,
+                    number => backlog.take_up_counted(node, poll.registry(), number),
                 }
             }
             backlog.close_late(node.rt);
@@ -312,6 +331,8 @@ pub(crate) const WAITING_MOST: usize = 1_024;
 pub(crate) struct Waiting {
     number: usize,
     stream: UnixStream,
+    /// Whether the poll reports it.
+    is_registered: bool,
     /// When it is closed; never if it has no moment.
     until: Option<Instant>,
     /// What has come of its request, if it is a caller.
@@ -395,6 +416,7 @@ impl Waiting {
         Waiting {
             number,
             stream,
+            is_registered: false,
             until,
             frames: Frames::new(alloc),
             left: max_reads,
@@ -407,6 +429,49 @@ impl Waiting {
         ensures { result ≡ is_silent self.now }
     {
         self.frames.held() == 0 && self.came.is_empty()
+    }
+
+    /// Has the registry report it for the first time. The read before that does not count if nothing had come. Says whether it
+    /// could be done.
+    fn register(&mut self, registry: &Registry) -> bool
+        ensures number { self.new.number ≡ self.old.number }
+    {
+        if self.is_silent() {
+            self.left = self.left.saturating_add(1);
+        }
+        self.is_registered = registry
+            .register(&mut self.stream, Token(self.number), Interest::READABLE)
+            .is_ok();
+        self.is_registered
+    }
+
+    /// Has the registry report it once there is more to read. Says whether that could be done.
+    fn report_on(&mut self, registry: &Registry) -> bool
+        ensures number { self.new.number ≡ self.old.number }
+    {
+        if !self.is_registered {
+            return self.register(registry);
+        }
+        registry
+            .reregister(&mut self.stream, Token(self.number), Interest::READABLE)
+            .is_ok()
+    }
+
+    /// Its connection, which no registry reports any more, and what has come of a peer.
+    fn into_parts(self, registry: &Registry) -> (UnixStream, Vec<u8>)
+        ensures came { result.1 ≡ self.came }
+    {
+        let Waiting {
+            mut stream,
+            is_registered,
+            came,
+            ..
+        } = self;
+        if is_registered {
+            // One that is reported all the same wakes the thread that accepts for nothing.
+            let _ = registry.deregister(&mut stream);
+        }
+        (stream, came)
     }
 
     /// Makes one read of a peer, if one is left, without waiting. Says whether a worker is to take it. `Truncated` at an end
@@ -533,11 +598,11 @@ impl WaitingList {
         };
         match self.all[place].hear(alloc) {
             Ok(false) => {
-                self.wait_on(registry, place, number)?;
+                self.wait_on(registry, place)?;
                 Ok(None)
             }
             Ok(true) => {
-                let Waiting { stream, came, .. } = self.all.remove(place);
+                let (stream, came) = self.all.remove(place).into_parts(registry);
                 Ok(Some((came, stream)))
             }
             Err(fault) => {
@@ -565,11 +630,11 @@ impl WaitingList {
         let mut steps = Steps::<K>::new(blank);
         match self.all[place].read(&mut steps) {
             Ok(None) => {
-                self.wait_on(registry, place, number)?;
+                self.wait_on(registry, place)?;
                 Ok(None)
             }
             Ok(Some(request)) => {
-                let Waiting { stream, .. } = self.all.remove(place);
+                let (stream, _) = self.all.remove(place).into_parts(registry);
                 Ok(Some((request, stream)))
             }
             Err(fault) => {
@@ -579,15 +644,11 @@ impl WaitingList {
         }
     }
 
-    /// Has the registry report the one at this place again. `ReadFailed`, which closes it.
-    fn wait_on(&mut self, registry: &Registry, place: usize, number: usize) -> Result<(), Fault>
+    /// Has the registry report the one at this place, or report it again. `ReadFailed`, which closes it.
+    fn wait_on(&mut self, registry: &Registry, place: usize) -> Result<(), Fault>
         requires { place < vec_len self.old.all }
     {
-        let stream = &mut self.all[place].stream;
-        if registry
-            .reregister(stream, Token(number), Interest::READABLE)
-            .is_ok()
-        {
+        if self.all[place].report_on(registry) {
             return Ok(());
         }
         self.all.remove(place);

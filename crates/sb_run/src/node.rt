@@ -417,11 +417,11 @@ pub(crate) fn run_tagged<
     ensures failed { start.writes.has_failed ≡ true → pace.on_log_fault ≡ OnLogFault.Exit → IsErr result }
 {
     let (rounds_sender, rounds_receiver) = rounds_channel::<S>(alloc)?;
-    let (bell, parkers) = Bell::new(alloc)?;
     let (handover, jobs, requests) = new_handover(alloc)?;
     let events = Acceptor::events(alloc)?;
     let (directory, thread_seats) = seat_all::<S, R>(rt, alloc, start.directory)?;
     let threads = thread_seats.news.len();
+    let (bell, parkers) = Bell::new(alloc, threads == 0)?;
     let (dialing, turns) = Dialing::new(alloc, paths.peers, &pace, threads, observer, parkers)?;
     let Ok((sockets, poll)) = BoundSockets::bind(rt, paths.sock, paths.control, observer) else {
         return Err(Fault::ReadFailed);

@@ -253,6 +253,20 @@ impl<'a> Schedule<'a> {
         self.counts
     }
 
+    /// Whether there is news for a peer that no session has begun to bring.
+    pub(crate) fn is_news_due(&self) -> bool
+        ensures { result ≡ spec.is_any_due self.now.deliveries.all.items }
+    {
+        self.deliveries.is_any_due()
+    }
+
+    /// Whether a peer was otherwise than before since `take_change` was last called.
+    pub(crate) fn has_changed(&self) -> bool
+        ensures { result ≡ self.now.has_changed }
+    {
+        self.has_changed
+    }
+
     /// Whether a peer was otherwise than before since this was last asked.
     pub(crate) fn take_change(&mut self) -> bool {
         let has_changed = self.has_changed;
@@ -381,6 +395,13 @@ impl Deliveries {
             }
         }
         self.most < 2 || slow < self.most - 1
+    }
+
+    /// Whether there is news for a peer that no session has begun to bring.
+    fn is_any_due(&self) -> bool
+        ensures { result ≡ spec.is_any_due self.now.all.items }
+    {
+        self.all.iter().any(|delivery| delivery.is_due)
     }
 
     /// Notes that there is news for the peer at this index.

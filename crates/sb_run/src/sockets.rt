@@ -20,10 +20,10 @@ use std::time::{Clock, Duration, Instant};
 pub(crate) const WAKER_TOKEN: usize = 2;
 
 /// The token of the socket for peers.
-const SOCK_TOKEN: usize = 0;
+pub(crate) const SOCK_TOKEN: usize = 0;
 
 /// The token of the socket for clients.
-const CONTROL_TOKEN: usize = 1;
+pub(crate) const CONTROL_TOKEN: usize = 1;
 
 /// A socket that is bound at a path. Its accept does not wait.
 #[derive(Drop)]
