@@ -29,6 +29,15 @@ pub(crate) struct Parkers {
     pub(crate) news: Parker,
 }
 
+/// Wakes the thread that waits for news. The thread of the turns may be alone, and then it does.
+fn waits_for_news(parkers: &Parkers, is_alone: bool) -> &Unparker {
+    if is_alone {
+        parkers.turns.unparker()
+    } else {
+        parkers.news.unparker()
+    }
+}
+
 impl Bell {
     /// A bell, and what the threads that it wakes wait at. The thread of the turns may be alone, with none for news beside it.
     /// `NoMemory`.
@@ -39,14 +48,9 @@ impl Bell {
             turns: Parker::new(alloc)?,
             news: Parker::new(alloc)?,
         };
-        let waits_for_news = if is_alone {
-            parkers.turns.unparker()
-        } else {
-            parkers.news.unparker()
-        };
         let bell = Bell {
             turns: parkers.turns.unparker().clone()?,
-            news: waits_for_news.clone()?,
+            news: waits_for_news(&parkers, is_alone).clone()?,
             has_news: AtomicBool::new(false),
             has_new_owner: AtomicBool::new(false),
             has_gap: AtomicBool::new(false),
