@@ -27,6 +27,7 @@ METRICS = {
     "attrdir_workers_busy": ("gauge", ()),
     "attrdir_all_workers_busy_total": ("counter", ()),
     "attrdir_purges_total": ("counter", ()),
+    "attrdir_audits_total": ("counter", ()),
     "attrdir_log_open": ("gauge", ()),
     "attrdir_log_fault": ("gauge", ("cause",)),
     "attrdir_name_conflict": ("gauge", ()),

@@ -466,6 +466,16 @@ const PURGE_REMOVALS: Part = Part {
     help: "With N tombstones or more the node drops them, all when it starts and the older half while it runs, 0 for never",
 };
 
+/// A node also audits each peer once, after the first round in which the peer answers. See [Audits](#audits).
+/// Greater: Two nodes under one name, or an older copy of a log, show later.
+/// Smaller: They show sooner. Each audit costs about as much as the rows of the name.
+const AUDIT: Part = Part {
+    name: "audit",
+    kind: Kind::NumberOr(Range::Any, "60000"),
+    value: "MS",
+    help: "After how many milliseconds the node compares again what a peer holds of its name with its log, 0 for never",
+};
+
 /// It can be given 64 times, once for each name. The node shows no row of it, and nobody hears of one from this node. See [Owners
 /// used up](RUNBOOK.md#owners-used-up).
 const FORGET: Part = Part {
@@ -579,6 +589,7 @@ fn pace_of(given: &ArgMatches<'_>) -> Pace {
         max_reads: MAX_READS.number_if_any(given).unwrap_or(u64::MAX),
         on_log_fault,
         purge_removals: PURGE_REMOVALS.number(given),
+        audit: AUDIT.number(given),
     }
 }
 
@@ -608,6 +619,7 @@ const SERVE_TASK: Task = Task {
         MAX_READS,
         ON_LOG_FAULT,
         PURGE_REMOVALS,
+        AUDIT,
         FORGET,
         LOG_TIME,
         METRICS,

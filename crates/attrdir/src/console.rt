@@ -1,5 +1,6 @@
 //! What a node that runs says on standard error.
 use crate::advice::{ABOUT_LOSS, about_cause};
+use crate::differences::DifferenceWords;
 use crate::log_file::DroppedRemovals;
 use crate::log_watch::LogWatch;
 use crate::metrics::{Metrics, Series};
@@ -7,6 +8,7 @@ use crate::metrics_file::MetricsFile;
 use crate::release::RELEASE;
 use crate::troubles::TroubleLines;
 use jiff::Timestamp;
+use sb_directory::Difference;
 use sb_run::{LogCause, LogLoss, Observer, PeerState, Status};
 use sb_types::{Fault, KEYS_MOST, Name, OWNERS_MOST};
 use std::fmt;
@@ -286,6 +288,15 @@ impl Observer for Console<'_, '_> {
             "{head} node {}: fault {}: {fault}; no more writes are taken; where there is no other node of this name, its log is new, an older copy, or began too low: see `attrdir begin --help`",
             self.name,
             fault.number()
+        );
+    }
+
+    fn difference_found(&self, peer: &str, difference: &Difference) {
+        let (rt, head) = (self.rt, self.head(Level::Error));
+        let _ = eprintln!(rt;
+            "{head} node {}: fault 21: another node, or an older copy of the log, writes under this name: peer {peer} {}; no more writes are taken: see RUNBOOK, An older copy of a log",
+            self.name,
+            DifferenceWords(difference)
         );
     }
 

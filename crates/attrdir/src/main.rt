@@ -32,6 +32,7 @@ mod beginning;
 mod command_line;
 mod commands;
 mod console;
+mod differences;
 mod environment;
 mod failure;
 mod help;

@@ -134,6 +134,12 @@ const PURGES: Metric = Metric {
     help: "Times that it purged its own table while it runs.",
 };
 
+const AUDITS: Metric = Metric {
+    name: "attrdir_audits_total",
+    kind: "counter",
+    help: "Times that it compared all that a peer holds of its own name with its log.",
+};
+
 const LOG_OPEN: Metric = Metric {
     name: "attrdir_log_open",
     kind: "gauge",
@@ -392,6 +398,7 @@ impl Metrics<'_, '_> {
         self.write_one(f, &WORKERS_BUSY, status.busy_workers)?;
         self.write_one(f, &BUSY_TIMES, troubles.busy_times)?;
         self.write_one(f, &PURGES, status.purges)?;
+        self.write_one(f, &AUDITS, status.audits)?;
         self.write_one(f, &LOG_OPEN, u64::from(status.log_cause.is_none()))?;
         self.write_log_fault(f)?;
         self.write_one(f, &NAME_CONFLICT, u64::from(status.conflict.is_some()))?;

@@ -8,3 +8,4 @@ pub mod Polling
 pub mod Sharing
 pub mod Entering
 pub mod Purging
+pub mod Marking

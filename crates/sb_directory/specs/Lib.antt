@@ -6,3 +6,4 @@ pub mod Serving
 pub mod Handling
 pub mod Risen
 pub mod Purging
+pub mod Audits

@@ -15,10 +15,12 @@ ghost use Rattle.sb_watch.specs.declared.note.Polled.TheVariants as answers;
 ghost use Rattle.sb_watch.specs.declared.note.Note.{Note};
 ghost use Rattle.sb_watch.specs.Records.{Hub};
 ghost use Rattle.sb_watch.specs.Hubs.{new_hub, next_id, has_watch, answer_at};
+ghost use Rattle.sb_directory.specs.Audits.{Audits};
 ghost use Rattle.sb_directory.specs.Purging as purging;
 ghost use Rattle.sb_directory.specs.Seats as spec;
 ghost use Rattle.sb_directory.specs.Serving.{AnswersAfter};
 
+use crate::difference::Difference;
 use crate::receipt::{Applied, Closing, Purge, Receipt};
 use crate::seat::ReaderSeat;
 use crate::shares::seat_all;
@@ -28,7 +30,7 @@ use sb_budget::Backlog;
 use sb_digest::Digest;
 use sb_log::Committed;
 use sb_node::NodeCore;
-use sb_types::{Delta, Fault, Name, SEATS_MOST, Settings};
+use sb_types::{Block, Delta, Fault, Name, SEATS_MOST, Settings};
 use sb_views::{NewHistory, views};
 use sb_watch::{Filter, Polled, WatchId};
 use std::alloc::Global;
@@ -209,6 +211,38 @@ impl<S: DirectoryTag, R: Wait + Drop> Directory<S, R> {
         ensures grows { IsPrefix seat.old.seen seat.new.seen }
     {
         self.node.lock(rt).purge(seat, least)
+    }
+
+    /// Compares a block of the own name, which a peer holds, with the node's own table, and returns the first difference. If there is
+    /// one, another node or an older copy of the log writes under this name. So the name is in conflict from then on, as after a
+    /// block with a version that the node never gave. `None` if there is no difference, or if the block is of another owner.
+    ///
+    /// The block has to be made before the call, by a node that holds no later writes of this name than this one. Then no write of the
+    /// node's own log is a difference, whatever was purged since: see the laws of `sb_audit`.
+    ///
+    /// A name that is not in conflict is marked by an event: the node applies a delta of its own. It has one block without entries,
+    /// from the own held version to the next. This enters nothing, and the version of the conflict is that next one. Its faults, which
+    /// change nothing but the seat's last call:
+    ///
+    /// - `TurnsSpent` after 2^64 - 1 events, or if the own held version is 2^64 - 1.
+    /// - `NoMemory`.
+    ///
+    /// Each entry of the block takes two look-ups, and so does each own entry in its range.
+    pub fn audit<Q: Wait>(
+        &self,
+        rt: &Q,
+        seat: &mut ReaderSeat<S>,
+        block: &Block,
+    ) -> Result<Option<Difference>, Fault>
+        ensures audits { IfOk result (λ found. Audits S.opening block.now seat.old found seat.new) }
+        ensures disputed { IfOk result (λ found. IfSome found (λ _. IsSome (node_after S.opening seat.new.last_call).conflict)) }
+        ensures fault { IfErr result IsRefusal }
+        ensures still { result ≡ Ok None → seat.new ≡ spec.with_last_call seat.old seat.new.last_call }
+        ensures begins { OnErr result (spec.Begins seat.new.last_call seat.old) }
+        ensures seat { OnErr result (seat.new ≡ spec.with_last_call seat.old seat.new.last_call) }
+        ensures grows { IsPrefix seat.old.seen seat.new.seen }
+    {
+        self.node.lock(rt).audit(seat, block)
     }
 
     /// The digest of the owners from a name on, or of all, as of the node. `want` says whether a digest is wanted in answer.

@@ -71,9 +71,11 @@
 //! - `refresh` returns true before all that others' calls made is published. No clause can state it across the
 //!   lock.
 //! - Two threads do not take turns. No clause can state it.
+//! - `Directory::audit` answers for a past moment, as above, or marks the name twice. Private clauses and tests refuse it.
 //! - A call that takes the lock never returns. The clauses hold if it returns, and tests end.
 #![tactic(auto)]
 
+mod difference;
 mod directory;
 mod lacked;
 mod lacking_owners;
@@ -87,6 +89,7 @@ mod shares;
 mod tag;
 mod viewed_node;
 
+pub use difference::{Difference, ForeignEntry};
 pub use directory::Directory;
 pub use laws::held_never_falls;
 pub use receipt::{Applied, Closing, Purge, Receipt};

@@ -14,9 +14,11 @@ ghost use Rattle.sb_views.specs.declared.event.Event.TheVariants as events;
 ghost use Rattle.sb_views.specs.Histories.{node_after};
 ghost use Rattle.sb_directory.specs.ViewedNodes as nodes;
 ghost use Rattle.sb_node.specs.Purging.{purge_answer};
+ghost use Rattle.sb_directory.specs.Audits as audits;
 ghost use Rattle.sb_directory.specs.Purging as purging;
 ghost use Rattle.sb_directory.specs.Seats as spec;
 
+use crate::difference::{Difference, difference_of, mark_of};
 use crate::lacked::catch_up;
 use crate::lacking_owners::LackingOwners;
 use crate::notes::{push_note, push_notes_since, versions_of};
@@ -28,7 +30,7 @@ use crate::tag::DirectoryTag;
 use sb_budget::Backlog;
 use sb_log::Committed;
 use sb_node::NodeCore;
-use sb_types::{Delta, Fault};
+use sb_types::{Block, Delta, Fault};
 use sb_views::{EventRef, History, ViewWriter};
 use sb_watch::{Filter, Hub, Polled, WatchId};
 use std::alloc::Global;
@@ -251,6 +253,59 @@ impl<S: DirectoryTag, R: Wait + Drop> ViewedNode<S, R> {
             floor,
             shown: is_shown,
         })
+    }
+
+    /// Compares a block of the own name with the own table for a seat, and marks the name as that of another node too if something is
+    /// found. Its faults are those of `Directory::audit`.
+    pub(crate) fn audit(
+        &mut self,
+        seat: &mut ReaderSeat<S>,
+        block: &Block,
+    ) -> Result<Option<Difference>, Fault>
+        ensures finds { IfOk result (audits.Finds (node_after S.opening self.old.history) block.now) }
+        ensures last_call { IfOk result (λ found. seat.new.last_call ≡ self.old.history ++ audits.audit_events (node_after S.opening self.old.history) found) }
+        ensures count { IfOk result (λ found. seat.new.events ≡ seat.old.events + length (audits.audit_events (node_after S.opening self.old.history) found)) }
+        ensures disputed { IfOk result (λ found. IfSome found (λ _. IsSome (node_after S.opening seat.new.last_call).conflict)) }
+        ensures none { result ≡ Ok None → self.new ≡ self.old }
+        ensures err { OnErr result (self.new ≡ self.old) }
+        ensures fault { IfErr result IsRefusal }
+        ensures still { result ≡ Ok None → seat.new ≡ spec.with_last_call seat.old self.old.history }
+        ensures seat { OnErr result (seat.new ≡ spec.with_last_call seat.old self.old.history) }
+        ensures begins { spec.Begins self.old.history seat.old }
+        ensures grows { IsPrefix seat.old.seen seat.new.seen }
+    {
+        self.note_call(seat);
+        match difference_of(self.alloc, &self.core, block) {
+            Ok(Some(found)) => {
+                self.mark(seat)?;
+                Ok(Some(found))
+            }
+            Ok(None) => Ok(None),
+            Err(fault) => Err(fault),
+        }
+    }
+
+    /// Marks the own name as that of another node too, for a seat, unless it is in conflict already. `TurnsSpent` after 2^64 - 1
+    /// events, or if no version is left; `NoMemory`.
+    fn mark(&mut self, seat: &mut ReaderSeat<S>) -> Result<(), Fault>
+        ensures last_call { OnOk result (seat.new.last_call ≡ self.old.history ++ audits.marking_unless (node_after S.opening self.old.history) (node_after S.opening self.old.history).conflict) }
+        ensures count { OnOk result (seat.new.events ≡ seat.old.events + length (audits.marking_unless (node_after S.opening self.old.history) (node_after S.opening self.old.history).conflict)) }
+        ensures disputed { OnOk result (IsSome (node_after S.opening seat.new.last_call).conflict) }
+        ensures err { OnErr result (self.new ≡ self.old) }
+        ensures fault { IfErr result IsRefusal }
+        ensures seat { OnErr result (seat.new ≡ spec.with_last_call seat.old self.old.history) }
+        ensures begins { spec.Begins self.old.history seat.old }
+        ensures grows { IsPrefix seat.old.seen seat.new.seen }
+    {
+        self.note_call(seat);
+        if self.core.conflict().is_some() {
+            return Ok(());
+        }
+        let mark = mark_of(self.alloc, &self.core)?;
+        match self.apply(seat, &mark) {
+            Ok(_) => Ok(()),
+            Err(fault) => Err(fault),
+        }
     }
 
     /// Notes a call of a seat, which changes nothing else.

@@ -134,6 +134,81 @@ fn another_writes_under_the_name(rt: HostRuntime) {
     answers(&rt, rt.alloc(), &cases);
 }
 
+/// A block with another write of a version leaves the name in conflict, once. The own rows, and what a reader sees, stay.
+#[test]
+fn a_version_that_was_given_twice(rt: HostRuntime) {
+    let cases = [
+        (Call::Write(b"x"), Answer::Shown),
+        (Call::Write(b"y"), Answer::Shown),
+        (Call::Audit(b"b", 0, b"xy"), Answer::Audited(None, None)),
+        (Call::AuditOwn, Answer::Audited(None, None)),
+        (Call::Conflict, Answer::Conflict(None)),
+        (Call::Read, Answer::Read(2, 2, 0)),
+        (
+            Call::Audit(b"a", 1, b"z"),
+            Answer::Audited(Some(2), Some(2)),
+        ),
+        (Call::Conflict, Answer::Conflict(Some(3))),
+        (Call::Write(b"z"), refused(Fault::OwnerConflict(3))),
+        (Call::Read, Answer::Read(3, 2, 0)),
+        (Call::OwnRows, Answer::Rows(2)),
+        (
+            Call::Audit(b"a", 0, b"x"),
+            Answer::Audited(Some(1), Some(1)),
+        ),
+        (Call::Conflict, Answer::Conflict(Some(3))),
+        (Call::Read, Answer::Read(3, 2, 0)),
+    ];
+    answers(&rt, rt.alloc(), &cases);
+}
+
+/// What a node told before it removed, purged and wrote on is its own still.
+#[test]
+fn own_blocks_are_no_difference(rt: HostRuntime) {
+    let cases = [
+        (Call::Write(b"x"), Answer::Shown),
+        (Call::AuditOwn, Answer::Audited(None, None)),
+        (Call::Write(b"y"), Answer::Shown),
+        (Call::Remove(b"x"), Answer::Shown),
+        (Call::AuditOwn, Answer::Audited(None, None)),
+        (Call::Purge(1), Answer::Purged(Some(3))),
+        (Call::AuditOwn, Answer::Audited(None, None)),
+        (Call::Write(b"x"), Answer::Shown),
+        (Call::AuditOwn, Answer::Audited(None, None)),
+        (Call::Write(b"z"), Answer::Shown),
+        (Call::Conflict, Answer::Conflict(None)),
+    ];
+    answers(&rt, rt.alloc(), &cases);
+}
+
+/// An entry above the own held version, an unknown key, a key that was written later, and an own entry that is missing.
+#[test]
+fn other_differences(rt: HostRuntime) {
+    let ahead = [
+        (Call::Audit(b"a", 0, b"x"), Answer::Audited(Some(1), None)),
+        (Call::Write(b"x"), refused(Fault::OwnerConflict(1))),
+    ];
+    answers(&rt, rt.alloc(), &ahead);
+    let unknown = [
+        (Call::Write(b"x"), Answer::Shown),
+        (Call::Write(b"x"), Answer::Shown),
+        (Call::Audit(b"a", 0, b"z"), Answer::Audited(Some(1), None)),
+        (Call::Conflict, Answer::Conflict(Some(3))),
+    ];
+    answers(&rt, rt.alloc(), &unknown);
+    let later = [
+        (Call::Write(b"x"), Answer::Shown),
+        (Call::Write(b"y"), Answer::Shown),
+        (Call::Write(b"y"), Answer::Shown),
+        (
+            Call::Audit(b"a", 1, b"x"),
+            Answer::Audited(Some(2), Some(1)),
+        ),
+        (Call::Conflict, Answer::Conflict(Some(4))),
+    ];
+    answers(&rt, rt.alloc(), &later);
+}
+
 #[test]
 fn writes_of_others_are_shown(rt: HostRuntime) {
     let cases = [

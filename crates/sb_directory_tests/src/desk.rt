@@ -7,7 +7,7 @@ use crate::reached::Seated;
 use crate::{got, same_at, there};
 use sb_budget::Backlog;
 use sb_digest::Digest;
-use sb_directory::DirectoryTag;
+use sb_directory::{Difference, DirectoryTag};
 use sb_holdings::{BlockEnd, Report};
 use sb_log::{Committed, PlainLog};
 use sb_table::Table;
@@ -57,6 +57,10 @@ pub(crate) enum Call {
     OwnRows,
     /// The own table is purged if it has so many removed keys.
     Purge(u64),
+    /// A block is audited: what an owner wrote under these letters, from the version after the number on.
+    Audit(&'static [u8], u64, &'static [u8]),
+    /// The node's own block for a peer that holds nothing is audited.
+    AuditOwn,
     /// A digest of all owners is made, and the delta for a peer that holds nothing.
     Tell,
     /// The news is taken, and the delta for a peer with that backlog is made.
@@ -81,6 +85,8 @@ pub(crate) enum Answer {
     Rows(usize),
     /// The new floor, if a purge was due. It is shown.
     Purged(Option<u64>),
+    /// The version of the peer's entry that an audit found, and that of the own one, if there is one.
+    Audited(Option<u64>, Option<u64>),
     /// How far the digest reports that a and b are held, and how many blocks the delta has.
     Told(u64, u64, usize),
     /// Up to which versions the news says that a and b were held, if it has them. Then how many owners it has, and how many
@@ -126,6 +132,21 @@ fn ended(rt: &impl Abort, ends: &Report) -> Answer {
     match ends.ends() {
         [end] => Answer::Ended(*end),
         _ => panic!(rt; "error: not one block"),
+    }
+}
+
+/// The versions of what an audit found.
+fn audited(found: &Option<Difference>) -> Answer {
+    match found {
+        None => Answer::Audited(None, None),
+        Some(Difference::Foreign(foreign)) => {
+            let own = match &foreign.own {
+                Some(own) => Some(own.version()),
+                None => None,
+            };
+            Answer::Audited(Some(foreign.theirs.version()), own)
+        }
+        Some(Difference::Missing(own)) => Answer::Audited(None, Some(own.version())),
     }
 }
 
@@ -189,6 +210,8 @@ impl<S: DirectoryTag, H: Wait + Drop> Desk<S, H> {
             Call::Rows => Answer::Rows(self.node.read(rt).2[1]),
             Call::OwnRows => Answer::Rows(self.node.read(rt).2[0]),
             Call::Purge(least) => self.purge(rt, least),
+            Call::Audit(owner, after, letters) => self.audit(rt, owner, after, letters),
+            Call::AuditOwn => self.audit_own(rt),
             Call::Tell => self.tell(rt),
             Call::News => self.news(rt),
         }
@@ -220,6 +243,31 @@ impl<S: DirectoryTag, H: Wait + Drop> Desk<S, H> {
         match self.node.purge(rt, least) {
             Ok(Some((floor, is_shown))) => shown(is_shown, Answer::Purged(Some(floor))),
             Ok(None) => Answer::Purged(None),
+            Err(fault) => Answer::Refused(fault),
+        }
+    }
+
+    fn audit<Q: Wait + Abort>(
+        &mut self,
+        rt: &Q,
+        owner: &[u8],
+        after: u64,
+        letters: &[u8],
+    ) -> Answer {
+        let delta = delta_of(rt, self.alloc, owner, after, letters);
+        self.audit_delta(rt, &delta)
+    }
+
+    fn audit_own<Q: Wait + Abort>(&mut self, rt: &Q) -> Answer {
+        let delta = got(rt, self.node.deltas(rt, &nothing(rt, self.alloc)));
+        self.audit_delta(rt, &delta)
+    }
+
+    /// Audits the first block of a delta.
+    fn audit_delta<Q: Wait + Abort>(&mut self, rt: &Q, delta: &Delta) -> Answer {
+        let block = there(rt, delta.blocks().first());
+        match self.node.audit(rt, block) {
+            Ok(found) => audited(&found),
             Err(fault) => Answer::Refused(fault),
         }
     }

@@ -5,11 +5,11 @@ use crate::making::{name, prefix};
 use crate::{got, same, there};
 use sb_budget::Backlog;
 use sb_digest::Digest;
-use sb_directory::{Directory, DirectoryTag, ReaderSeat};
+use sb_directory::{Difference, Directory, DirectoryTag, ReaderSeat};
 use sb_holdings::Report;
 use sb_log::Committed;
 use sb_node::NodeCore;
-use sb_types::{Delta, Fault, Name};
+use sb_types::{Block, Delta, Fault, Name};
 use sb_views::{NewHistory, NodeTag, Snapshot};
 use sb_watch::{Filter, Polled, WatchId};
 use std::alloc::Global;
@@ -140,6 +140,16 @@ impl<S: DirectoryTag, H: Wait + Drop> Seated<S, H> {
             Some(purge) => Ok(Some((purge.floor, purge.shown))),
             None => Ok(None),
         }
+    }
+
+    /// The first difference that an audit of this block finds.
+    pub(crate) fn audit<Q: Wait + Abort>(
+        &mut self,
+        rt: &Q,
+        block: &Block,
+    ) -> Result<Option<Difference>, Fault> {
+        let seat = there(rt, self.seat.as_mut());
+        self.directory.audit(rt, seat, block)
     }
 
     pub(crate) fn conflict<Q: Wait + Abort>(&mut self, rt: &Q) -> Option<u64> {

@@ -14,4 +14,5 @@ pub mod StatusTexts
 pub mod StatusAnswers
 pub mod LeavingOut
 pub mod Deferring
+pub mod AuditedSeats
 pub mod KeptOffers

@@ -19,3 +19,4 @@ pub mod Closing
 pub mod LogCauses
 pub mod Facts
 pub mod StatusReplies
+pub mod Auditing

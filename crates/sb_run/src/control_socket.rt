@@ -271,6 +271,7 @@ impl<S: RoundsTag, H: Wait + Drop, Q: Wait + Clock> NodeContext<'_, S, H, Q> {
                     busy_workers: self.counts.busy_workers(),
                     troubles: self.counts.troubles(uptime),
                     purges: self.counts.purges(),
+                    audits: self.counts.audits(),
                     keys,
                     log_cause: self.counts.log_cause(),
                     conflict,

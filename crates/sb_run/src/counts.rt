@@ -4,7 +4,7 @@ use crate::observer::{LogCause, PushCounts, Troubles};
 use crate::peers::PeerState;
 use sb_session::Ended;
 use sb_types::Fault;
-use std::sync::atomic::{AtomicU64, Ordering};
+use std::sync::atomic::{AtomicBool, AtomicU64, Ordering};
 use std::time::{Clock, Instant};
 
 /// What is counted of a node since it started.
@@ -14,6 +14,9 @@ pub(crate) struct Counts {
     started: Option<Instant>,
     sessions: AtomicU64,
     purges: AtomicU64,
+    audits: AtomicU64,
+    /// Whether an audit found a difference.
+    has_difference: AtomicBool,
     /// The number of the cause by which the log takes no more writes, 0 if it takes them.
     log_cause: AtomicU64,
     /// How many sessions that others dialed ended with a fault.
@@ -44,6 +47,8 @@ impl Counts {
             started: Instant::now(clock).ok(),
             sessions: AtomicU64::new(0),
             purges: AtomicU64::new(0),
+            audits: AtomicU64::new(0),
+            has_difference: AtomicBool::new(false),
             log_cause: AtomicU64::new(0),
             session_faults: AtomicU64::new(0),
             last_session_fault: AtomicU64::new(0),
@@ -88,6 +93,26 @@ impl Counts {
     /// How many times that was.
     pub(crate) fn purges(&self) -> u64 {
         self.purges.load(Ordering::SeqCst)
+    }
+
+    /// An audit came to its end.
+    pub(crate) fn add_audit(&self) {
+        self.audits.fetch_add(1, Ordering::SeqCst);
+    }
+
+    /// How many audits came to their end.
+    pub(crate) fn audits(&self) -> u64 {
+        self.audits.load(Ordering::SeqCst)
+    }
+
+    /// An audit found a difference. Returns whether it is the first.
+    pub(crate) fn note_difference(&self) -> bool {
+        !self.has_difference.swap(true, Ordering::SeqCst)
+    }
+
+    /// Whether an audit found a difference.
+    pub(crate) fn has_difference(&self) -> bool {
+        self.has_difference.load(Ordering::SeqCst)
     }
 
     /// A worker is free, and waits for something to do.

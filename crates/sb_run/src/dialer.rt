@@ -3,6 +3,7 @@ ghost use Rattle.std.specs.Prelude.{◌≡◌, vec_len, vec_capacity, IfErr};
 ghost use Rattle.crossbeam_channel.specs.Claims.{IsSeatAt};
 ghost use Rattle.crossbeam_channel.specs.Ends.{sends_on, receives_on};
 
+use crate::audit_turns::AuditTurns;
 use crate::backlogs::{Backlogs, Lack};
 use crate::bell::Parkers;
 use crate::dialing::{OwnDigests, dial_peer, digests_of_all};
@@ -41,6 +42,8 @@ pub(crate) struct Dialing<'a, O> {
     digests: Mutex<Option<OwnDigests>>,
     /// What the peers may lack.
     backlogs: Mutex<Backlogs>,
+    /// Which peer is audited next.
+    audits: Mutex<AuditTurns>,
 }
 
 /// What is done for a peer for which there is news.
@@ -102,6 +105,7 @@ impl<'a, O: Observer> Dialing<'a, O> {
         let Parkers { turns, news } = parkers;
         let schedule = Schedule::new(alloc, paths, pace.rounds, threads)?;
         let backlogs = Backlogs::new(alloc, paths.len())?;
+        let audits = AuditTurns::new(alloc, paths.len(), pace.audit)?;
         let turns = Turns::new(alloc, &schedule, threads == 0, turns)?;
         let dialing = Dialing {
             observer,
@@ -109,6 +113,7 @@ impl<'a, O: Observer> Dialing<'a, O> {
             parker: Mutex::new(news),
             digests: Mutex::new(None),
             backlogs: Mutex::new(backlogs),
+            audits: Mutex::new(audits),
         };
         Ok((dialing, turns))
     }
@@ -121,6 +126,11 @@ impl<'a, O: Observer> Dialing<'a, O> {
     /// The schedule of the peers, which other threads wait for meanwhile.
     pub(crate) fn schedule(&self) -> &Mutex<Schedule<'a>> {
         &self.schedule
+    }
+
+    /// Which peer is audited next, for which other threads wait meanwhile.
+    pub(crate) fn audits(&self) -> &Mutex<AuditTurns> {
+        &self.audits
     }
 
     /// The digests of all owners that the node holds; one without length if memory is missing to make them.
@@ -197,7 +207,7 @@ impl<'a, O: Observer> Dialing<'a, O> {
         }
     }
 
-    /// Makes one round with the peer at this index, which has begun.
+    /// Makes one round with the peer at this index, which has begun. A peer that answers is then audited, once in a run.
     pub(crate) fn round<S: RoundsTag, H: Wait + Drop, Q: Wait + Net + Clock>(
         &self,
         node: &NodeContext<S, H, Q>,
@@ -214,7 +224,11 @@ impl<'a, O: Observer> Dialing<'a, O> {
         self.end_round(node, index, cause, start.ended(node.rt, state));
         self.look_at_log(node);
         node.bell.wake();
-        seat
+        if state.is_answer() {
+            self.audit_first(node, seat, index)
+        } else {
+            seat
+        }
     }
 
     /// What is to be done for the peer at this index, for which there is news.
@@ -408,7 +422,7 @@ pub(crate) struct Turns<'a> {
     peers: Vec<Peer<'a>>,
     /// How many rounds had ended then.
     reported: u64,
-    /// When the observer is to get the status of the node again; at once if this is none.
+    /// When the observer is to get the status of the node again; at once if there is no time.
     status_due: Option<Instant>,
     /// Whether the observer knows that another node writes under this node's name.
     is_conflict_reported: bool,
@@ -471,8 +485,8 @@ impl<'a> Turns<'a> {
         node.report_status(observer, counts, self.peers.as_slice(), seat)
     }
 
-    /// Publishes what there was no memory to publish before. It reports to the observer, once each, that a peer has rows of an
-    /// owner to forget, and that another node writes under this node's name.
+    /// Publishes what there was no memory to publish before. It reports to the observer, once each, that peers have rows of an
+    /// owner to forget, and that another node writes under this node's name. It leaves the second out if an audit reported it.
     fn refresh_and_report<S: RoundsTag, H: Wait + Drop, Q: Wait, O: Observer>(
         &mut self,
         node: &NodeContext<S, H, Q>,
@@ -481,7 +495,7 @@ impl<'a> Turns<'a> {
     ) {
         let _ = node.directory.refresh(node.rt, seat);
         node.forgotten.report(observer);
-        if self.is_conflict_reported {
+        if self.is_conflict_reported || node.counts.has_difference() {
             return;
         }
         if let Some(version) = node.directory.conflict(node.rt, seat) {
@@ -502,7 +516,10 @@ impl<'a> Turns<'a> {
         // What is missing by now this round may bring.
         let _ = node.bell.take_gap();
         match next {
-            Some(index) => current = dialing.round(node, current, index, Cause::Turn),
+            Some(index) => {
+                current = dialing.round(node, current, index, Cause::Turn);
+                current = dialing.audit_in_turn(node, current);
+            }
             None => {
                 dialing.schedule().lock(node.rt).count_round(false);
                 dialing.look_at_log(node);

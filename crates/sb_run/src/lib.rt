@@ -101,6 +101,8 @@
 //!   cover its version, its keys, its conflict, and whether it is caught up. Tests and `tools/check-node` refuse it.
 //! - A session takes blocks of an owner that the node is to forget, since it has no `ForgettingHandler`. Or the observer
 //!   learns of another owner, or never. The tests of `sb_run` and `tools/check-node` refuse it.
+//! - A node audits nobody, another peer, too seldom or too often, or does not report what it found. Or an audit asks for too
+//!   much, stops too soon, or goes on too long. The tests of `sb_run` and `tools/check-node` refuse it.
 //! - A session begins without what its peer was offered in vain in the one before, or with what another peer was. The
 //!   tests of `sb_run` and `tools/check-node` refuse it.
 //! - A node forgets what it offered, or defers nothing, as if memory were missing. The tests of `sb_run` and
@@ -111,6 +113,8 @@
 
 mod accepting;
 mod arrivals;
+mod audit_turns;
+mod auditing;
 mod backlogs;
 mod bell;
 mod control;

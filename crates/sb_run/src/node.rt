@@ -76,6 +76,8 @@ pub struct Pace {
     pub on_log_fault: OnLogFault,
     /// With how many removed keys it purges its own table while it runs, 64 if this is fewer; 0 for never.
     pub purge_removals: u64,
+    /// After how many milliseconds it compares again what a peer holds of its own name with its own table; 0 for never.
+    pub audit: u64,
 }
 
 /// What a node is to do: its settings, its sockets and its pace, and which owners it forgets.
@@ -141,6 +143,12 @@ fn start_refusal<L: WriteLog>(settings: &Settings, log: &L) -> Option<Fault>
 /// A push is not a round. It counts as taken only if the peer greeted and ended the connection itself. If not, the next push to
 /// this peer has the same again. If a peer's delta has writes after ones that the node lacks, the next round in turn is made at
 /// once, at most once a pause.
+///
+/// The node audits each peer once, after the first round with it that was made to its end. Then it audits one after another,
+/// one each `audit` milliseconds. It asks the peer for the rows of its own name in a session of its own, and compares them with
+/// its own table. Say the peer has a row that the log never gave, or lacks one that it should have. Then another node or an
+/// older copy of the log writes under this name. The node refuses writes by `OwnerConflict`, and reports to the observer what
+/// it found.
 ///
 /// A connection takes a worker or the calling thread only once it has something to say: a peer's whole Hello, or a client's
 /// whole request. Until then it waits, for `idle` milliseconds at `sock` and for `request` at `control`, or `idle` if that is

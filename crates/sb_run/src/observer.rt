@@ -3,6 +3,7 @@ ghost use Rattle.std.specs.Prelude.{◌≡◌};
 ghost use Rattle.sb_run.specs.LogCauses as spec;
 
 use crate::peers::{Peer, PeerState};
+use sb_directory::Difference;
 use sb_log::StoreCause;
 use sb_types::Name;
 use sb_views::Snapshot;
@@ -76,6 +77,11 @@ pub trait Observer {
 
     /// The node's own table and its log were purged up to this version while the node runs.
     fn table_purged(&self, _floor: u64) {}
+
+    /// The peer at this path holds something of the node's own name otherwise than the node's log gave it. So another node or an older
+    /// copy of the log writes under this name, and the node takes no more writes. It is called once, with the first difference.
+    /// Then `conflict` is not called, unless it was called before.
+    fn difference_found(&self, _peer: &str, _difference: &Difference) {}
 
     /// A peer had rows of this owner, which the node forgets. It is called once for each such owner, after a round.
     fn forgotten_met(&self, _owner: &Name) {}
@@ -188,6 +194,8 @@ pub struct Status<'a> {
     pub troubles: Troubles,
     /// How many times it purged its own table.
     pub purges: u64,
+    /// How many audits came to their end.
+    pub audits: u64,
     /// How many keys its own table has, removed ones counted.
     pub keys: usize,
     /// Why its log takes no writes; none if it takes them.

@@ -273,6 +273,31 @@ impl<'a> Peers<'a> {
         }
     }
 
+    /// Whether the last round with the peer at this index was made to its end; false if there is no such peer.
+    fn is_answering(&self, index: usize) -> bool
+        ensures { IfSome (slice_get self.now.all.items index) (λ peer. result ≡ spec.is_answer peer.state) }
+    {
+        match self.all.get(index) {
+            Some(peer) => peer.state.is_answer(),
+            None => false,
+        }
+    }
+
+    /// The index of the next peer, from this one on, whose last round was made to its end; after the last comes the first.
+    pub(crate) fn next_answering(&self, from: usize) -> Option<usize>
+        ensures { IfSome result (λ index. IfSome (slice_get self.now.all.items index) (λ peer. spec.is_answer peer.state ≡ true)) }
+    {
+        let mut turn = from;
+        for _ in 0..self.all.len() {
+            let index = turn_of(self.all.len(), turn);
+            if self.is_answering(index) {
+                return Some(index);
+            }
+            turn = index.saturating_add(1);
+        }
+        None
+    }
+
     /// How each of them is, as the status of a node has it. `NoMemory`.
     pub(crate) fn statuses(&self, alloc: Global) -> Result<Vec<PeerStatus>, Fault>
         ensures statuses { IfOk result (λ all. all.items ≡ map replies.peer_status self.now.all.items) }

@@ -265,6 +265,11 @@ impl<'a> Schedule<'a> {
         self.peers.path(index)
     }
 
+    /// The index of the next peer, from this one on, whose last round was made to its end; after the last comes the first.
+    pub(crate) fn next_answering(&self, from: usize) -> Option<usize> {
+        self.peers.next_answering(from)
+    }
+
     /// A copy of the peers, in the order of their paths. `NoMemory`.
     pub(crate) fn peers(&self, alloc: Global) -> Result<Vec<Peer<'a>>, Fault>
         ensures { IfErr result (λ fault. fault ≡ Fault.NoMemory) }

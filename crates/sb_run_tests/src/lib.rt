@@ -5,6 +5,8 @@
 #[cfg(test)]
 mod asking;
 #[cfg(test)]
+mod auditing;
+#[cfg(test)]
 mod causes;
 #[cfg(test)]
 mod closing;

@@ -49,6 +49,7 @@ pub(crate) fn pace(rounds: u64, idle: u64) -> Pace {
         max_reads: 99,
         on_log_fault: OnLogFault::Serve,
         purge_removals: 0,
+        audit: 0,
     }
 }
 
