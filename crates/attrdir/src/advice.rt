@@ -229,7 +229,7 @@ fn about_fault(fault: &Fault, place: FaultPlace<'_>) -> &'static str {
         Fault::BadValue => about_value(place),
         Fault::BadSetting => about_setting(place),
         Fault::TableFull => {
-            "a removed key counts until its tombstone is purged: start the node again with --purge-removals 1, or write under a key that it has"
+            "a running node purges 64 removed keys or more: if it has fewer, stop it, give `attrdir purge --all`, and start it again; or write under a key that it has"
         }
         Fault::OwnersFull => "start the node again, so that it forgets owners that are gone",
         Fault::VersionsSpent => {

@@ -218,8 +218,11 @@ Each line on standard error is `attrdir: LEVEL WHAT: ..`. LEVEL is info, warning
   - that it listens, or ended after its last round
   - how its first round with each peer ended, and then each round that ended differently from the one before
   - that it removed a socket which a killed node left, or purged tombstones
-  - that its log cannot be written, or that another node writes under its name
-  - that nine tenths of its keys or owners are used
+  - that its log cannot be written, or that its file was removed or replaced
+  - that another node writes under its name, or an older copy of its log
+  - that peers have rows of an owner which it is to forget
+  - that nine tenths of its keys or owners are used, or all, and that it refuses writes for that
+  - that all its workers are busy, that it turns callers away, and that sessions which others dialed fail: at most once a minute each
   - that its file of metrics cannot be written
 
 Without --rounds it runs until it is killed. Each write that was answered by a version is in the log. With --rounds it ends after the last round, and

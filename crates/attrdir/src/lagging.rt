@@ -68,7 +68,7 @@ pub(crate) fn differing_owners(
 #[derive(Clone, Copy)]
 pub(crate) struct Lag {
     since: Option<Instant>,
-    is_told: bool,
+    is_reported: bool,
 }
 
 impl Lag {
@@ -76,12 +76,12 @@ impl Lag {
     pub(crate) fn new() -> Lag {
         Lag {
             since: None,
-            is_told: false,
+            is_reported: false,
         }
     }
 
     /// Prints that the node shows other rows than were printed, once that has been so for long, and that it no longer does.
-    pub(crate) fn tell(
+    pub(crate) fn report(
         &mut self,
         rt: &HostRuntime,
         control: &str,
@@ -95,8 +95,8 @@ impl Lag {
             return;
         };
         let since = *self.since.get_or_insert(now);
-        if !self.is_told && is_over(since, now) {
-            self.is_told = true;
+        if !self.is_reported && is_over(since, now) {
+            self.is_reported = true;
             let first = str::from_utf8(differing.first.bytes()).unwrap_or("");
             let _ = eprintln!(rt;
                 "attrdir: warning control socket {control}: since its start the node has shown less of {} owners than was printed, the first is {first}; their printed rows stay",
@@ -107,7 +107,7 @@ impl Lag {
 
     /// The node shows the rows that were printed.
     fn end(&mut self, rt: &HostRuntime, control: &str) {
-        if self.is_told {
+        if self.is_reported {
             let _ = eprintln!(rt;
                 "attrdir: info control socket {control}: the node shows again what was printed"
             );

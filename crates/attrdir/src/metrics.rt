@@ -77,7 +77,7 @@ const PUSHED_BYTES: Metric = Metric {
 const GAPS: Metric = Metric {
     name: "attrdir_gaps_total",
     kind: "counter",
-    help: "Deltas of others with writes after ones that it lacks.",
+    help: "Deltas with writes after ones that it lacks, in sessions that other nodes dialed.",
 };
 
 const HASTENED_ROUNDS: Metric = Metric {

@@ -218,7 +218,7 @@ impl PrintedRows {
                         &found,
                         &self.reaches,
                     )?;
-                    self.lag.tell(rt, control, differing);
+                    self.lag.report(rt, control, differing);
                 }
                 Ok(())
             }
