@@ -41,12 +41,18 @@ def until(what, test):
 
 def steady_news(check):
     """News is pushed to one peer all the time. A peer that was down is dialed again in its turn, rounds and metrics go on, and so does the look at the
-    file of the log."""
+    file of the log. That is so too where one thread makes all of it."""
+    look_under_steady_news(check)
+    check.stop()
+    look_under_steady_news(check, "--workers", "2", "--seats", "4")
+
+
+def look_under_steady_news(check, *options):
     folder = check.folder()
     path = folder / "a.prom"
     other = check.node("b", "--pause", "100", folder=folder).start()
     late = check.node("d", "--pause", "100", folder=folder)
-    node = check.node("a", "--pause", "100", "--metrics", str(path), folder=folder, peers=[other.sock, late.sock]).start()
+    node = check.node("a", "--pause", "100", "--metrics", str(path), *options, folder=folder, peers=[other.sock, late.sock]).start()
     with steady_writes(node) as versions:
         until("a peer that does not answer", lambda: any(f"peer {late.sock}: does not answer" in it for it in node.lines()))
         first = awaits(path, "a", {("attrdir_peer_up", str(late.sock)): 0}, lambda found: found["attrdir_pushes_total",] > 10)
