@@ -14,5 +14,6 @@ pub mod StatusTexts
 pub mod StatusAnswers
 pub mod LeavingOut
 pub mod Deferring
+pub mod AskedDigests
 pub mod AuditedSeats
 pub mod KeptOffers

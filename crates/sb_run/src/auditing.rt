@@ -1,5 +1,5 @@
 //! An audit: the node asks a peer for the rows of its own name, and compares them with its own table.
-ghost use Rattle.std.specs.Prelude.{◌≡◌, ◌+◌, ◌<◌, ◌≤◌, true, false, nat_eq, None, IfErr, IfOk, OnOk, IfSome};
+ghost use Rattle.std.specs.Prelude.{◌≡◌, ◌+◌, ◌<◌, ◌≤◌, ◌∷◌, [], true, false, nat_eq, None, Some, IfErr, IfOk, OnOk, IfSome};
 ghost use Rattle.std.specs.Option.{option_copied};
 ghost use Rattle.std.specs.Cmp.Lexicographic.{pointwise};
 ghost use Rattle.sb_directory.specs.Audits.{Audits};
@@ -136,6 +136,21 @@ struct AuditHandler<'a, S: DirectoryTag, R: Wait + Drop, Q: Wait> {
     end: AuditEnd,
 }
 
+/// The digest of one name alone, with this pair of it. `NoMemory`; `TurnsSpent` if a limit of digests is broken.
+#[tactic(auto, using(crate::proofs::AskedDigests::made_of))]
+fn digest_of_one(alloc: Global, want: bool, name: Name, pair: Pair) -> Result<Digest, Fault>
+    ensures digest { IfOk result (λ digest. (digest.want ≡ want) × (digest.from ≡ Some name) × (digest.pairs ≡ pair ∷ [])) }
+    ensures fault { spec.IsRefusedOnly result }
+{
+    let until = next_name(alloc, &name)?;
+    let mut pairs = Vec::with_capacity(alloc, 1)?;
+    pairs.push(pair)?;
+    match Digest::new(want, Some(name), until, pairs) {
+        Ok(digest) => Ok(digest),
+        Err(_) => Err(Fault::TurnsSpent),
+    }
+}
+
 /// The block of an owner, if there is one.
 fn block_of<'a>(blocks: &'a [Block], owner: &Name) -> Option<&'a Block>
     ensures { IfSome (option_copied result) (λ block. pointwise nat_eq block.owner owner.now ≡ true) }
@@ -203,13 +218,7 @@ impl<'a, S: DirectoryTag, R: Wait + Drop, Q: Wait> AuditHandler<'a, S, R, Q> {
         ensures fault { spec.IsRefusedOnly result }
     {
         let me = *self.directory.name();
-        let until = next_name(self.alloc, &me)?;
-        let mut pairs = Vec::with_capacity(self.alloc, 1)?;
-        pairs.push(self.progress.pair(me))?;
-        match Digest::new(want, Some(me), until, pairs) {
-            Ok(digest) => Ok(digest),
-            Err(_) => Err(Fault::TurnsSpent),
-        }
+        digest_of_one(self.alloc, want, me, self.progress.pair(me))
     }
 
     /// The first difference between a block and the own table.
