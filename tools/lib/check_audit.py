@@ -172,7 +172,7 @@ def asks_for_its_name_alone(check):
     with socket.socket(socket.AF_UNIX, socket.SOCK_STREAM) as listener:
         listener.bind(str(folder / "b.sock"))
         listener.listen()
-        node = check.node("a", *OFTEN, folder=folder, peers=[folder / "b.sock"]).start()
+        node = check.node("a", *OFTEN, "--no-wait", folder=folder, peers=[folder / "b.sock"]).start()
         want("a write", node.put("x", 1), 1)
         end = time.monotonic() + SECONDS
         while time.monotonic() < end:

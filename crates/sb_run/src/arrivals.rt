@@ -248,7 +248,10 @@ impl Requests {
     /// Waits for the arrival of a request, only for a while if writes wait. Whether one arrived; none if no more can.
     fn await_arrival<R: Wait + Clock>(&self, rt: &R) -> Option<bool> {
         if self.held == 0 {
-            return self.arrivals.recv(rt).ok().map(|_| true);
+            return match self.arrivals.recv(rt) {
+                Ok(()) => Some(true),
+                Err(_) => None,
+            };
         }
         match self
             .arrivals
