@@ -202,7 +202,7 @@ def late_peers(check):
     """A peer that accepts late is told, and once."""
     folder = check.folder()
     peer = LatePeer(folder / "b.sock", 0.7)
-    node = check.node("a", "--pause", "8000", "--audit", "0", folder=folder, peers=[peer.path]).start()
+    node = check.node("a", "--pause", "8000", "--audit", "0", "--no-wait", folder=folder, peers=[peer.path]).start()
     answers(node, peer.path)
     node.put("k", 5)
     until("the push", lambda: len(peer.heard) == 2 and len(peer.heard[1]) == 3)
@@ -216,7 +216,7 @@ def endless_peers(check):
     folder, path = check.folder(), None
     peer = LatePeer(folder / "b.sock", 0)
     path = folder / "a.prom"
-    node = check.node("a", "--pause", "4000", "--dial-idle", "300", "--audit", "0", "--metrics", str(path), folder=folder, peers=[peer.path]).start()
+    node = check.node("a", "--pause", "4000", "--dial-idle", "300", "--audit", "0", "--no-wait", "--metrics", str(path), folder=folder, peers=[peer.path]).start()
     answers(node, peer.path)
     peer.ends = False
     for at in (1, 2, 3):
@@ -239,7 +239,7 @@ def pushes_beside_releases(check):
         conversation = turns(release, "peer")
         # (the Hello of its node b, by which a session begins)
         peer = LatePeer(folder / "b.sock", 0, greeting=conversation[0][1])
-        node = check.node("a", "--pause", "60000", folder=folder, peers=[peer.path]).start()
+        node = check.node("a", "--pause", "60000", "--no-wait", folder=folder, peers=[peer.path]).start()
         answers(node, peer.path)
         node.put("k", 5)
         until("a push", lambda: len(peer.pushed()) == 1)

@@ -476,6 +476,18 @@ const AUDIT: Part = Part {
     help: "After how many milliseconds the node compares again what a peer holds of its name with its log, 0 for never",
 };
 
+/// For how long the first write of a node waits for its peers, in milliseconds.
+const HEARING_MOST: u64 = 2_000;
+
+/// Without it the first write waits until the node has heard each peer, for two seconds at most. See [The first
+/// write](#the-first-write).
+const NO_WAIT: Part = Part {
+    name: "no-wait",
+    kind: Kind::Flag,
+    value: "",
+    help: "Takes writes at once, before the node has heard its peers",
+};
+
 /// It can be given 64 times, once for each name. The node shows no row of it, and nobody hears of one from this node. See [Owners
 /// used up](RUNBOOK.md#owners-used-up).
 const FORGET: Part = Part {
@@ -590,6 +602,11 @@ fn pace_of(given: &ArgMatches<'_>) -> Pace {
         on_log_fault,
         purge_removals: PURGE_REMOVALS.number(given),
         audit: AUDIT.number(given),
+        hearing: if NO_WAIT.is_given(given) {
+            0
+        } else {
+            HEARING_MOST
+        },
     }
 }
 
@@ -620,6 +637,7 @@ const SERVE_TASK: Task = Task {
         ON_LOG_FAULT,
         PURGE_REMOVALS,
         AUDIT,
+        NO_WAIT,
         FORGET,
         LOG_TIME,
         METRICS,

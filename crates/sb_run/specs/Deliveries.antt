@@ -2,9 +2,9 @@
 use Rattle.std.specs.Prelude.{◌≡◌, ◌≢◌, ℕ, ◌-◌, Bool, true, false, not, ◌&&◌, ◌||◌, nat_lt, List, count_by, Some, slice_get, IfSome}
 use Rattle.sb_run.specs.declared.schedule.Delivery.{Delivery}
 
--- no session with the peer was short yet, and there is no news for it
+-- the peer was not dialed yet: it is due, and no session with it was short
 abbrev pub at_first : Delivery
-at_first = record { is_due = false; is_open = false; is_slow = true }
+at_first = record { is_due = true; is_open = false; is_slow = true }
 
 -- a session with a slow peer is under way
 abbrev pub takes_slow_room : Delivery → Bool

@@ -207,7 +207,8 @@ impl<'a, O: Observer> Dialing<'a, O> {
         }
     }
 
-    /// Makes one round with the peer at this index, which has begun. A peer that answers is then audited, once in a run.
+    /// Makes one round with the peer at this index, which has begun. A peer that answers is then audited, once in a run. After
+    /// that the peer was heard.
     pub(crate) fn round<S: RoundsTag, H: Wait + Drop, Q: Wait + Net + Clock>(
         &self,
         node: &NodeContext<S, H, Q>,
@@ -224,11 +225,13 @@ impl<'a, O: Observer> Dialing<'a, O> {
         self.end_round(node, index, cause, start.ended(node.rt, state));
         self.look_at_log(node);
         node.bell.wake();
-        if state.is_answer() {
+        let seat = if state.is_answer() {
             self.audit_first(node, seat, index)
         } else {
             seat
-        }
+        };
+        node.hearing.lock(node.rt).note_heard(index);
+        seat
     }
 
     /// What is to be done for the peer at this index, for which there is news.
@@ -515,6 +518,10 @@ impl<'a> Turns<'a> {
         let mut current = seat;
         // What is missing by now this round may bring.
         let _ = node.bell.take_gap();
+        if self.due.is_none() {
+            // The other threads begin with the other peers.
+            node.bell.wake();
+        }
         match next {
             Some(index) => {
                 current = dialing.round(node, current, index, Cause::Turn);

@@ -113,15 +113,31 @@ impl<'a> Schedule<'a> {
     }
 
     /// Begins a round in turn, if another round may begin, and gives the index of the peer whose turn it is, if there are peers.
+    /// The first round leaves each other peer due.
     pub(crate) fn begin_turn(&mut self) -> Option<Option<usize>>
         ensures none { result ≡ None → spec.has_round_left self.old.most self.old.begun ≡ false }
         ensures some { IfSome result (λ _. spec.has_round_left self.old.most self.old.begun ≡ true) }
+        ensures first { self.old.begun ≡ 0 → IfSome result (λ next. IfSome next (λ index. spec.Changes index spec.without_news self.old.deliveries.all.items self.new.deliveries.all.items)) }
     {
         if !self.has_round_left() {
             return None;
         }
+        let is_first = self.begun == 0;
         self.begun = self.begun.saturating_add(1);
-        Some(self.peers.next_in_turn())
+        let next = self.peers.next_in_turn();
+        if is_first {
+            self.leave_to_turn(next);
+        }
+        Some(next)
+    }
+
+    /// Notes that the peer at this index, if there is one, is not dialed for news: its first round is in turn.
+    fn leave_to_turn(&mut self, next: Option<usize>)
+        ensures left { IfSome next (λ index. spec.Changes index spec.without_news self.old.deliveries.all.items self.new.deliveries.all.items) }
+    {
+        if let Some(index) = next {
+            self.deliveries.forget(index);
+        }
     }
 
     /// Begins a session for news with the next peer for which there is any and with which one can begin.
@@ -146,14 +162,15 @@ impl<'a> Schedule<'a> {
         }
     }
 
-    /// What a thread that dials for news is to do next. A burst begins if there is news and no earlier news can be
-    /// brought. News that comes soon after a burst began is gathered first.
+    /// What a thread that dials for news is to do next. Once the first round in turn has begun, it dials the peers that were not
+    /// dialed yet. A burst begins if there is news and no earlier news can be brought. News that comes soon after a burst began
+    /// is gathered first.
     pub(crate) fn next_news<Q: Clock>(&mut self, clock: &Q, bell: &Bell, pace: &Pace) -> NewsStep {
-        if pace.pause == 0 || pace.fanout == 0 {
+        if pace.pause == 0 || self.begun == 0 {
             return NewsStep::Wait(None);
         }
         let mut next = self.begin_delivery();
-        if next.is_none() && bell.has_news() {
+        if next.is_none() && pace.fanout != 0 && bell.has_news() {
             if self.gathers_until.is_some() && !has_come(clock, self.gathers_until) {
                 return NewsStep::Wait(self.gathers_until);
             }
@@ -306,7 +323,7 @@ impl<'a> Schedule<'a> {
 /// How news is on its way to one peer.
 #[derive(Clone, Copy, Drop)]
 pub(crate) struct Delivery {
-    /// There is news for it, which no session has begun to bring.
+    /// There is news for it, which no session has begun to bring, or it was never dialed.
     is_due: bool,
     /// A session for news with it is under way.
     is_open: bool,
@@ -343,15 +360,15 @@ pub(crate) struct Deliveries {
 }
 
 impl Deliveries {
-    /// Nothing is due to so many peers. So many of them can be brought news at a time. Each counts as slow until a session with
-    /// it was short. `NoMemory`.
+    /// Each of so many peers is due to be dialed, since it was not yet. So many of them can be brought news at a time. Each counts
+    /// as slow until a session with it was short. `NoMemory`.
     pub(crate) fn new(alloc: Global, count: usize, most: usize) -> Result<Deliveries, Fault>
         ensures all { IfOk result (λ deliveries. deliveries.all.items ≡ replicate count spec.at_first) }
         ensures first { IfOk result (λ deliveries. (deliveries.most ≡ most) × (deliveries.turn ≡ 0)) }
         ensures memory { IfErr result (λ fault. fault ≡ Fault.NoMemory) }
     {
         let at_first = Delivery {
-            is_due: false,
+            is_due: true,
             is_open: false,
             is_slow: true,
         };
