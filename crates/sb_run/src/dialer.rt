@@ -306,8 +306,8 @@ impl<'a, O: Observer> Dialing<'a, O> {
         seat
     }
 
-    /// Wakes the threads that have something to do now that a session for news is over: the one that waits for news if some is
-    /// due, and also the one that dials in turn if a peer is otherwise than before.
+    /// Wakes the threads that have something to do after a session for news. That is the one that waits for news if news is due,
+    /// and both if a peer is otherwise than before.
     fn wake_after_news<S: RoundsTag, H: Wait + Drop, Q: Wait>(&self, node: &NodeContext<S, H, Q>) {
         if self.schedule.lock(node.rt).has_changed() {
             node.bell.wake();
