@@ -1,6 +1,6 @@
 -- How news is on its way to peers.
 use Rattle.std.specs.List.{list_any}
-use Rattle.std.specs.Prelude.{◌≡◌, ◌≢◌, ℕ, ◌-◌, Bool, true, false, not, ◌&&◌, ◌||◌, nat_lt, List, count_by, Some, slice_get, IfSome}
+use Rattle.std.specs.Prelude.{◌≡◌, ◌≢◌, ℕ, ◌-◌, Bool, true, false, not, ◌&&◌, ◌||◌, if◌then◌else◌, nat_lt, List, count_by, Some, slice_get, IfSome}
 use Rattle.sb_run.specs.declared.schedule.Delivery.{Delivery}
 
 -- no session with the peer was short yet, and there is no news for it
