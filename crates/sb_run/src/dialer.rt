@@ -646,7 +646,7 @@ impl<'a> Turns<'a> {
 }
 
 /// The earlier of two moments, if both are moments, and else the one that is.
-pub(crate) fn earlier(one: Option<Instant>, other: Option<Instant>) -> Option<Instant> {
+fn earlier(one: Option<Instant>, other: Option<Instant>) -> Option<Instant> {
     match (one, other) {
         (Some(one), Some(other)) => Some(one.min(other)),
         (one, other) => one.or(other),
