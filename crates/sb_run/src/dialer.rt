@@ -305,8 +305,18 @@ impl<'a, O: Observer> Dialing<'a, O> {
             }
             Plan::Nothing => self.schedule.lock(node.rt).leave_out(index),
         }
-        node.bell.wake();
+        self.wake_after_news(node);
         seat
+    }
+
+    /// Wakes the threads that have something to do after a session for news. That is the one that waits for news if news is due,
+    /// and both if a peer is otherwise than before.
+    fn wake_after_news<S: RoundsTag, H: Wait + Drop, Q: Wait>(&self, node: &NodeContext<S, H, Q>) {
+        if self.schedule.lock(node.rt).has_changed() {
+            node.bell.wake();
+        } else if self.schedule.lock(node.rt).is_news_due() {
+            node.bell.wake_for_news();
+        }
     }
 
     /// Looks after a round whether the file of the log is lost, and ends the node if it is to exit then.
@@ -538,14 +548,23 @@ impl<'a> Turns<'a> {
         current
     }
 
+    /// When the observer is to get the status of the node, if a round has ended since it got the last one. None if it can get it
+    /// now.
+    fn next_status<Q: Wait + Clock, O: Observer>(
+        &self,
+        rt: &Q,
+        dialing: &Dialing<'a, O>,
+    ) -> Option<Instant> {
+        let ended = dialing.schedule().lock(rt).counts().ended;
+        if ended == self.reported || has_come(rt, self.status_due) {
+            return None;
+        }
+        self.status_due
+    }
+
     /// Waits until the next round in turn is due or the thread is woken, and no longer than until this moment, if it is one.
     fn park<Q: Wait + Clock>(&self, rt: &Q, until: Option<Instant>) {
-        let moment = match (self.due, until) {
-            (Some(due), Some(until)) if due <= until => Some(due),
-            (due, None) => due,
-            (_, until) => until,
-        };
-        match moment {
+        match earlier(self.due, until) {
             Some(moment) => self.parker.park_deadline(rt, moment),
             None => self.parker.park(rt),
         }
@@ -597,7 +616,7 @@ impl<'a> Turns<'a> {
                 }
                 NewsStep::Wait(until) => {
                     current = self.tell_status(node, dialing, current);
-                    self.park(node.rt, until);
+                    self.park(node.rt, earlier(until, self.next_status(node.rt, dialing)));
                 }
             }
         }
@@ -630,6 +649,14 @@ impl<'a> Turns<'a> {
             }
         }
         unreachable!()
+    }
+}
+
+/// The earlier of two moments, if both are moments, and else the one that is.
+fn earlier(one: Option<Instant>, other: Option<Instant>) -> Option<Instant> {
+    match (one, other) {
+        (Some(one), Some(other)) => Some(one.min(other)),
+        (one, other) => one.or(other),
     }
 }
 

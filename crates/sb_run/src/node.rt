@@ -141,7 +141,7 @@ fn start_refusal<L: WriteLog>(settings: &Settings, log: &L) -> Option<Fault>
 /// The seats beyond two and one for each worker are for this: so many peers are dialed side by side. Without such seats they
 /// are dialed one after another, between the rounds in turn. A peer has at most one session for news at a time; news during
 /// one makes another after it. Peers whose last session took half a second or more leave one of these seats to others. News
-/// that comes within twenty milliseconds goes together. With no pause there is no need of it.
+/// that comes within twenty milliseconds goes together, in a stream within forty. With no pause there is no need of it.
 ///
 /// A push is not a round. It counts as taken only if the peer greeted and ended the connection itself. If not, the next push to
 /// this peer has the same again. If a peer's delta has writes after ones that the node lacks, the next round in turn is made at
@@ -432,11 +432,11 @@ pub(crate) fn run_tagged<
     ensures failed { start.writes.has_failed ≡ true → pace.on_log_fault ≡ OnLogFault.Exit → IsErr result }
 {
     let (rounds_sender, rounds_receiver) = rounds_channel::<S>(alloc)?;
-    let (bell, parkers) = Bell::new(alloc)?;
     let (handover, jobs, requests) = new_handover(alloc)?;
     let events = Acceptor::events(alloc)?;
     let (directory, thread_seats) = seat_all::<S, R>(rt, alloc, start.directory)?;
     let threads = thread_seats.news.len();
+    let (bell, parkers) = Bell::new(alloc, threads == 0)?;
     let (dialing, turns) = Dialing::new(alloc, paths.peers, &pace, threads, observer, parkers)?;
     let hearing = FirstHearing::new(alloc, paths.peers.len(), deadline_after(rt, pace.hearing))?;
     let Ok((sockets, poll)) = BoundSockets::bind(rt, paths.sock, paths.control, observer) else {

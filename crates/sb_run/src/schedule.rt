@@ -17,6 +17,9 @@ use std::time::{Clock, Instant};
 /// How long after a burst begins news is gathered for the next, in milliseconds.
 const NEWS_INTERVAL: u64 = 20;
 
+/// The same after a burst of news that was gathered, as in a stream of writes.
+const STREAM_INTERVAL: u64 = 40;
+
 /// How a session with a peer ended: a round, or a push.
 #[derive(Clone, Copy)]
 pub(crate) struct SessionEnd {
@@ -78,6 +81,19 @@ pub(crate) struct Schedule<'a> {
     has_changed: bool,
     /// Until when news is gathered for the next burst.
     gathers_until: Option<Instant>,
+    /// Whether there is news that was gathered.
+    has_gathered: bool,
+}
+
+/// How long after a burst begins news is gathered for the next, in milliseconds. The news of the burst was gathered or not.
+fn gathering_time(was_gathered: bool) -> u64
+    ensures { result ≡ spec.gathering_time was_gathered }
+{
+    if was_gathered {
+        STREAM_INTERVAL
+    } else {
+        NEWS_INTERVAL
+    }
 }
 
 impl<'a> Schedule<'a> {
@@ -102,6 +118,7 @@ impl<'a> Schedule<'a> {
             },
             has_changed: false,
             gathers_until: None,
+            has_gathered: false,
         })
     }
 
@@ -164,7 +181,7 @@ impl<'a> Schedule<'a> {
 
     /// What a thread that dials for news is to do next. Once the first round in turn has begun, it dials the peers that were not
     /// dialed yet. A burst begins if there is news and no earlier news can be brought. News that comes soon after a burst began
-    /// is gathered first.
+    /// is gathered first, and longer in a stream.
     pub(crate) fn next_news<Q: Clock>(&mut self, clock: &Q, bell: &Bell, pace: &Pace) -> NewsStep {
         if pace.pause == 0 || self.begun == 0 {
             return NewsStep::Wait(None);
@@ -172,10 +189,12 @@ impl<'a> Schedule<'a> {
         let mut next = self.begin_delivery();
         if next.is_none() && pace.fanout != 0 && bell.has_news() {
             if self.gathers_until.is_some() && !has_come(clock, self.gathers_until) {
+                self.has_gathered = true;
                 return NewsStep::Wait(self.gathers_until);
             }
             let _ = bell.take_news();
-            self.gathers_until = moment_after(clock, NEWS_INTERVAL);
+            self.gathers_until = moment_after(clock, gathering_time(self.has_gathered));
+            self.has_gathered = false;
             self.begin_burst(pace.fanout);
             next = self.begin_delivery();
         }
@@ -268,6 +287,20 @@ impl<'a> Schedule<'a> {
     /// Which rounds were made.
     pub(crate) fn counts(&self) -> RoundCounts {
         self.counts
+    }
+
+    /// Whether there is news for a peer that no session has begun to bring.
+    pub(crate) fn is_news_due(&self) -> bool
+        ensures { result ≡ spec.is_any_due self.now.deliveries.all.items }
+    {
+        self.deliveries.is_any_due()
+    }
+
+    /// Whether a peer was otherwise than before since `take_change` was last called.
+    pub(crate) fn has_changed(&self) -> bool
+        ensures { result ≡ self.now.has_changed }
+    {
+        self.has_changed
     }
 
     /// Whether a peer was otherwise than before since this was last asked.
@@ -403,6 +436,13 @@ impl Deliveries {
             }
         }
         self.most < 2 || slow < self.most - 1
+    }
+
+    /// Whether there is news for a peer that no session has begun to bring.
+    fn is_any_due(&self) -> bool
+        ensures { result ≡ spec.is_any_due self.now.all.items }
+    {
+        self.all.iter().any(|delivery| delivery.is_due)
     }
 
     /// Notes that there is news for the peer at this index.
