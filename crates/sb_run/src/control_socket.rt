@@ -165,8 +165,8 @@ impl<S: RoundsTag, H: Wait + Drop, Q: Wait> NodeContext<'_, S, H, Q> {
 }
 
 impl<S: RoundsTag, H: Wait + Drop, Q: Wait + Clock> NodeContext<'_, S, H, Q> {
-    /// Answers one request after another, until the node is to end. Writes wait until the peers were heard. It ends the node itself if the log takes no more writes and
-    /// the node is to exit then. If the log is closed at the start, that is before the first request.
+    /// Answers one request after another, until the node is to end. Writes wait until the peers were heard. It ends the node itself if
+    /// the log takes no more writes and the node is to exit then. If the log is closed at the start, that is before the first request.
     pub(crate) fn answer_requests<L: WriteLog + Drop, O: Observer>(
         &self,
         requests: Requests,

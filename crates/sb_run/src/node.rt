@@ -28,8 +28,8 @@ use std::alloc::Global;
 use std::marker::Brand;
 use std::net::{Net, TcpListener, TcpStream};
 use std::rt::Files;
-use std::sync::{Mutex, Wait};
 use std::sync::ledger::Blank;
+use std::sync::{Mutex, Wait};
 use std::thread::Threads;
 use std::time::Clock;
 

@@ -16,8 +16,9 @@ use std::process::Abort;
 use std::time::{Duration, Instant};
 use std::{fs, thread};
 
-/// The kind of the answer to the question how a node is, and where it is in its frame.
+/// The kind of the answer to the question how a node is, and its place in the frame.
 const NODE_STATUS: u8 = 22;
+
 const KIND_AT: usize = 6;
 
 /// So many rounds of a node whose first write waits for so many milliseconds at most.
@@ -34,8 +35,8 @@ fn put<R: Net + Abort>(rt: &R, control: &str) -> UnixStream {
     stream
 }
 
-/// Whether it is told how the node is.
-fn is_told<R: Net + Abort>(rt: &R, control: &str) -> bool {
+/// Whether the node answers how it is.
+fn answers_status<R: Net + Abort>(rt: &R, control: &str) -> bool {
     let mut stream = reach(rt, control);
     got(rt, stream.write_all(ASK_STATUS));
     let mut answer = [0u8; KIND_AT + 1];
@@ -76,12 +77,12 @@ fn write_in_the_first_round<R: Net + Abort>(
 ) -> [bool; 3] {
     let dialed = next_of(rt, listener);
     let written = put(rt, control);
-    let is_told = is_told(rt, control);
+    let answers_status = answers_status(rt, control);
     let is_waiting = is_unanswered(rt, &written);
     talk(rt, alloc, &mut silent_b(rt, alloc), &dialed, None);
     let is_done = is_done(rt, &written);
     serve_next(rt, alloc, listener);
-    [is_told, is_waiting, is_done]
+    [answers_status, is_waiting, is_done]
 }
 
 #[test]
