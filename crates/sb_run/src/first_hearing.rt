@@ -41,11 +41,18 @@ impl FirstHearing {
         }
     }
 
+    /// Whether each peer was heard.
+    fn are_all_heard(&self) -> bool
+        ensures { result ≡ list_all (λ heard. heard) self.now.heard.items }
+    {
+        self.heard.iter().all(|heard| *heard)
+    }
+
     /// Until when a write waits at most. None if it does not wait: each peer was heard, or none is waited for.
     pub(crate) fn waits_until(&self) -> Option<Instant>
         ensures { result ≡ if list_all (λ heard. heard) self.now.heard.items then None else self.now.until }
     {
-        if self.heard.iter().all(|heard| *heard) {
+        if self.are_all_heard() {
             None
         } else {
             self.until
