@@ -112,12 +112,13 @@ struct HeldOfA {
 
 /// The node b, which holds this of a.
 fn node_b(rt: &impl Abort, alloc: Global, held: HeldOfA) -> NodeCore {
-    let entry = Entry::new(key(rt, b"x"), held.version, weight(rt, held.value));
+    let version = held.version.max(1);
+    let entry = Entry::new(key(rt, b"x"), version, weight(rt, held.value));
     let mut of_b = node_of(rt, alloc, settings(rt, 3), b"b", Table::new(alloc));
     let entries = got(rt, vec![in alloc; entry]);
     let block = got(
         rt,
-        Block::new(name(rt, b"a"), held.floor, 0, held.version, entries),
+        Block::new(name(rt, b"a"), held.floor, 0, version, entries),
     );
     let delta = got(rt, delta_of_block(alloc, block));
     let _ = got(rt, of_b.apply(&delta));
