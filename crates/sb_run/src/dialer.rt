@@ -207,7 +207,8 @@ impl<'a, O: Observer> Dialing<'a, O> {
         }
     }
 
-    /// Makes one round with the peer at this index, which has begun. A peer that answers is then audited, once in a run.
+    /// Makes one round with the peer at this index, which has begun. A peer that answers in its turn is then audited, once in a
+    /// run. After a round for news it is not, since a slow peer would then hold up the news for others.
     pub(crate) fn round<S: RoundsTag, H: Wait + Drop, Q: Wait + Net + Clock>(
         &self,
         node: &NodeContext<S, H, Q>,
@@ -224,7 +225,7 @@ impl<'a, O: Observer> Dialing<'a, O> {
         self.end_round(node, index, cause, start.ended(node.rt, state));
         self.look_at_log(node);
         node.bell.wake();
-        if state.is_answer() {
+        if state.is_answer() && matches!(cause, Cause::Turn) {
             self.audit_first(node, seat, index)
         } else {
             seat
