@@ -466,7 +466,7 @@ const PURGE_REMOVALS: Part = Part {
     help: "With N tombstones or more the node drops them, all when it starts and the older half while it runs, 0 for never",
 };
 
-/// A node also audits each peer once, after the first round in which the peer answers. See [Audits](#audits).
+/// A node also audits each peer once, after the first round in turn in which it answers. See [Audits](#audits).
 /// Greater: Two nodes under one name, or an older copy of a log, show later.
 /// Smaller: They show sooner. Each audit costs about as much as the rows of the name.
 const AUDIT: Part = Part {

@@ -144,7 +144,7 @@ fn start_refusal<L: WriteLog>(settings: &Settings, log: &L) -> Option<Fault>
 /// this peer has the same again. If a peer's delta has writes after ones that the node lacks, the next round in turn is made at
 /// once, at most once a pause.
 ///
-/// The node audits each peer once, after the first round with it that was made to its end. Then it audits one after another,
+/// The node audits each peer once, after the first round in turn that was made to its end. Then it audits one after another,
 /// one each `audit` milliseconds. It asks the peer for the rows of its own name in a session of its own, and compares them with
 /// its own table. Say the peer has a row that the log never gave, or lacks one that it should have. Then another node or an
 /// older copy of the log writes under this name. The node refuses writes by `OwnerConflict`, and reports to the observer what
