@@ -208,7 +208,7 @@ impl<'a, O: Observer> Dialing<'a, O> {
     }
 
     /// Makes one round with the peer at this index, which has begun. A peer that answers is then audited, once in a run. After
-    /// that the peer was heard.
+    /// that the peer was heard. A slow peer counts as under way until then, so that it holds up no news for others.
     pub(crate) fn round<S: RoundsTag, H: Wait + Drop, Q: Wait + Net + Clock>(
         &self,
         node: &NodeContext<S, H, Q>,
@@ -222,15 +222,16 @@ impl<'a, O: Observer> Dialing<'a, O> {
         let path = self.schedule.lock(node.rt).path(index);
         let start = SessionStart::now(node.rt, node.pace.dial_idle);
         let (seat, state) = dial_peer(node, index, path, seat, digests.count);
-        self.end_round(node, index, cause, start.ended(node.rt, state));
-        self.look_at_log(node);
-        node.bell.wake();
+        let end = start.ended(node.rt, state);
         let seat = if state.is_answer() {
             self.audit_first(node, seat, index)
         } else {
             seat
         };
+        self.end_round(node, index, cause, end);
         node.hearing.lock(node.rt).note_heard(index);
+        self.look_at_log(node);
+        node.bell.wake();
         seat
     }
 

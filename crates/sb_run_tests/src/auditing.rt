@@ -81,13 +81,13 @@ fn log_of(rt: &impl Abort, alloc: Global, weights: &[u64]) -> PlainLog {
     log
 }
 
-/// Runs the node a with this log, for one round.
+/// Runs the node a for one round, with a log in which x has these weights, one after another.
 fn run_auditing<R: Runtime + Abort + Net<Listener = TcpListener, Stream = TcpStream>>(
     rt: &R,
     alloc: Global,
     paths: &Paths,
     audit: u64,
-    log: PlainLog,
+    weights: &[u64],
     auditor: &Auditor,
 ) -> Result<Ran, Fault> {
     let config = NodeConfig {
@@ -99,29 +99,41 @@ fn run_auditing<R: Runtime + Abort + Net<Listener = TcpListener, Stream = TcpStr
         },
         forgotten: &[],
     };
-    run_node(rt, alloc, config, log, auditor)
+    run_node(rt, alloc, config, log_of(rt, alloc, weights), auditor)
 }
 
-/// The node b, which holds of a, under this floor, that x has this weight since this version.
-fn node_b(rt: &impl Abort, alloc: Global, floor: u64, version: u64, value: u64) -> NodeCore {
-    let entry = Entry::new(key(rt, b"x"), version, weight(rt, value));
+/// What b holds of a under a floor: that x has a weight since a version.
+#[derive(Clone, Copy)]
+struct HeldOfA {
+    floor: u64,
+    version: u64,
+    value: u64,
+}
+
+/// The node b, which holds this of a.
+fn node_b(rt: &impl Abort, alloc: Global, held: HeldOfA) -> NodeCore {
+    let version = held.version.max(1);
+    let entry = Entry::new(key(rt, b"x"), version, weight(rt, held.value));
     let mut of_b = node_of(rt, alloc, settings(rt, 3), b"b", Table::new(alloc));
     let entries = got(rt, vec![in alloc; entry]);
-    let block = got(rt, Block::new(name(rt, b"a"), floor, 0, version, entries));
+    let block = got(
+        rt,
+        Block::new(name(rt, b"a"), held.floor, 0, version, entries),
+    );
     let delta = got(rt, delta_of_block(alloc, block));
     let _ = got(rt, of_b.apply(&delta));
     of_b
 }
 
-/// b serves so many sessions of the node. How the last of them ended.
+/// b, which holds this of a, serves so many sessions of the node. How the last of them ended.
 fn serve_all(
     rt: &impl Abort,
     alloc: Global,
     listener: &UnixListener,
-    of_b: NodeCore,
+    held: HeldOfA,
     sessions: u64,
 ) -> Ended {
-    let mut core = of_b;
+    let mut core = node_b(rt, alloc, held);
     let mut last = Ended::End;
     for _ in 0..sessions {
         let dialed = next_of(rt, listener);
@@ -130,59 +142,86 @@ fn serve_all(
     last
 }
 
-/// What an audit of b reports, and how the last of so many sessions ended.
-fn audit_of(
-    rt: &HostRuntime,
-    path: &str,
-    audit: u64,
-    log: PlainLog,
-    of_b: NodeCore,
-    sessions: u64,
-) -> ([u64; 4], Ended) {
-    let (alloc, auditor) = (rt.alloc(), new_auditor());
-    let peers = [path];
-    let paths = paths_of("audit.sock", "audit.control", &peers);
-    let listener = got(rt, UnixListener::bind(rt, path));
-    let (ran, last) = thread::join(
-        rt,
-        || run_auditing(rt, alloc, &paths, audit, log, &auditor),
-        || serve_all(rt, alloc, &listener, of_b, sessions),
-    );
-    got(rt, fs::remove_file(rt, path));
-    same(rt, &got(rt, ran).rounds, &1);
-    (auditor.findings(), last)
-}
-
 // The peer has another weight of version 2.
 #[test]
 fn another_write_of_a_version(rt: HostRuntime) {
-    let alloc = rt.alloc();
-    let log = log_of(&rt, alloc, &[5, 6]);
-    let of_b = node_b(&rt, alloc, 0, 2, 7);
-    let met = audit_of(&rt, "audit.other", 60_000, log, of_b, 2);
-    same(&rt, &met, &([1, 2, 2, 0], Ended::End));
+    let paths = paths_of("other.sock", "other.control", &["other.b"]);
+    let (alloc, auditor) = (rt.alloc(), new_auditor());
+    let listener = got(&rt, UnixListener::bind(&rt, "other.b"));
+    let held = HeldOfA {
+        floor: 0,
+        version: 2,
+        value: 7,
+    };
+    let (ran, last) = thread::join(
+        &rt,
+        || run_auditing(&rt, alloc, &paths, 60_000, &[5, 6], &auditor),
+        || serve_all(&rt, alloc, &listener, held, 2),
+    );
+    got(&rt, fs::remove_file(&rt, "other.b"));
+    same(&rt, &(got(&rt, ran).rounds, last), &(1, Ended::End));
+    same(&rt, &auditor.findings(), &[1, 2, 2, 0]);
 }
 
-// The peer has what the log gave, also of a purged table, and less than the log.
+// The peer has what the log gave.
 #[test]
 fn the_own_writes_are_no_difference(rt: HostRuntime) {
-    let alloc = rt.alloc();
-    let log = log_of(&rt, alloc, &[5, 6]);
-    let of_b = node_b(&rt, alloc, 0, 2, 6);
-    let met = audit_of(&rt, "audit.same", 60_000, log, of_b, 2);
-    same(&rt, &met, &([0, 0, 0, 0], Ended::End));
-    let log = log_of(&rt, alloc, &[5, 6, 7]);
-    let of_b = node_b(&rt, alloc, 1, 2, 6);
-    let met = audit_of(&rt, "audit.less", 60_000, log, of_b, 2);
-    same(&rt, &met, &([0, 0, 0, 0], Ended::End));
+    let paths = paths_of("same.sock", "same.control", &["same.b"]);
+    let (alloc, auditor) = (rt.alloc(), new_auditor());
+    let listener = got(&rt, UnixListener::bind(&rt, "same.b"));
+    let held = HeldOfA {
+        floor: 0,
+        version: 2,
+        value: 6,
+    };
+    let (ran, last) = thread::join(
+        &rt,
+        || run_auditing(&rt, alloc, &paths, 60_000, &[5, 6], &auditor),
+        || serve_all(&rt, alloc, &listener, held, 2),
+    );
+    got(&rt, fs::remove_file(&rt, "same.b"));
+    same(&rt, &(got(&rt, ran).rounds, last), &(1, Ended::End));
+    same(&rt, &auditor.findings(), &[0, 0, 0, 0]);
+}
+
+// The peer has less than the log, of a purged table.
+#[test]
+fn fewer_own_writes_are_no_difference(rt: HostRuntime) {
+    let paths = paths_of("fewer.sock", "fewer.control", &["fewer.b"]);
+    let (alloc, auditor) = (rt.alloc(), new_auditor());
+    let listener = got(&rt, UnixListener::bind(&rt, "fewer.b"));
+    let held = HeldOfA {
+        floor: 1,
+        version: 2,
+        value: 6,
+    };
+    let (ran, last) = thread::join(
+        &rt,
+        || run_auditing(&rt, alloc, &paths, 60_000, &[5, 6, 7], &auditor),
+        || serve_all(&rt, alloc, &listener, held, 2),
+    );
+    got(&rt, fs::remove_file(&rt, "fewer.b"));
+    same(&rt, &(got(&rt, ran).rounds, last), &(1, Ended::End));
+    same(&rt, &auditor.findings(), &[0, 0, 0, 0]);
 }
 
 // With 0 there is no audit: b serves the round alone.
 #[test]
 fn no_audit(rt: HostRuntime) {
-    let alloc = rt.alloc();
-    let log = log_of(&rt, alloc, &[5, 6]);
-    let of_b = node_b(&rt, alloc, 0, 2, 7);
-    let met = audit_of(&rt, "audit.never", 0, log, of_b, 1);
-    same(&rt, &met, &([0, 0, 0, 0], Ended::Bye(1)));
+    let paths = paths_of("never.sock", "never.control", &["never.b"]);
+    let (alloc, auditor) = (rt.alloc(), new_auditor());
+    let listener = got(&rt, UnixListener::bind(&rt, "never.b"));
+    let held = HeldOfA {
+        floor: 0,
+        version: 2,
+        value: 7,
+    };
+    let (ran, last) = thread::join(
+        &rt,
+        || run_auditing(&rt, alloc, &paths, 0, &[5, 6], &auditor),
+        || serve_all(&rt, alloc, &listener, held, 1),
+    );
+    got(&rt, fs::remove_file(&rt, "never.b"));
+    same(&rt, &(got(&rt, ran).rounds, last), &(1, Ended::Bye(1)));
+    same(&rt, &auditor.findings(), &[0, 0, 0, 0]);
 }
