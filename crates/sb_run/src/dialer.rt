@@ -468,8 +468,8 @@ impl<'a> Turns<'a> {
         })
     }
 
-    /// Whether the observer is to get the status of the node: a peer is otherwise than before, or a round has ended and the last
-    /// status is a second old.
+    /// Whether the observer is to get the status of the node. It is if a peer is otherwise than before, or if a round has ended and
+    /// the last status is a second old.
     fn is_status_due<O: Observer, Q: Wait + Clock>(
         &self,
         rt: &Q,

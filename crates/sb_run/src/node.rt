@@ -144,8 +144,8 @@ fn start_refusal<L: WriteLog>(settings: &Settings, log: &L) -> Option<Fault>
 /// that comes within twenty milliseconds goes together, in a stream within forty. With no pause there is no need of it.
 ///
 /// A push is not a round. It counts as taken only if the peer greeted and ended the connection itself. If not, the next push to
-/// this peer has the same again. If a peer's delta has writes after ones that the node lacks, the next round in turn is made at
-/// once, at most once a pause.
+/// this peer has the same again. A peer's delta can have writes after ones that the node lacks. Then the next round in turn is
+/// made at once, at most once a pause.
 ///
 /// The node audits each peer once, after the first round with it that was made to its end. Then it audits one after another,
 /// one each `audit` milliseconds. It asks the peer for the rows of its own name in a session of its own, and compares them with
