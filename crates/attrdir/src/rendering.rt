@@ -4,13 +4,15 @@
 //! has all of them, in the order of the owners. Peers are not authenticated. So a value is
 //! written only if each of its bytes is a letter, a digit or one of `. : / _ - [ ] @ % + , =`. None of these ends a word or
 //! begins a comment in the files of usual programs.
-ghost use Rattle.std.specs.Prelude.{◌≡◌, IfOk, IfErr};
+ghost use Rattle.std.specs.Prelude.{◌≡◌, ◌≤◌, ◌++◌, [], length, find, option_map, vec_items, OnOk, IfOk, IfErr};
+ghost use Rattle.std.specs.List.{position_or_len, before_first, after_first, list_all};
+ghost use Rattle.std.specs.Option.{option_copied};
 ghost use Rattle.attrdir.specs.Rendering as spec;
 
 use crate::template::{Piece, Placeholder, TemplateLine, ValuePart};
 use itoa::Buffer;
 use sb_codec::Row;
-use sb_types::{ContentRef, Fault, Key, Name, Value};
+use sb_types::{ContentRef, Fault, Key, Value};
 use std::alloc::Global;
 
 /// Whether a byte can be written, wherever a word can.
@@ -48,46 +50,68 @@ fn word_of(alloc: Global, value: &Value) -> Result<Vec<u8>, Fault>
     }
 }
 
-/// The parts of a word before and after its colon. `None` if it has none, or more than one.
-fn split_at_colon(word: &[u8]) -> Option<(&[u8], &[u8])> {
-    let place = word.iter().position(|byte| *byte == b':')?;
-    let (host, behind) = word.split_at_checked(place)?;
-    let (_, port) = behind.split_first()?;
-    if port.iter().any(|byte| *byte == b':') {
-        return None;
+/// The place of the first colon, or the length if there is none.
+fn colon_place(word: &[u8]) -> usize
+    ensures place { result ≡ position_or_len spec.is_colon word.now }
+    ensures within { result ≤ length word.now }
+{
+    match word.iter().position(|byte| *byte == b':') {
+        Some(place) => place,
+        None => word.len(),
     }
-    Some((host, port))
+}
+
+fn has_one_colon(word: &[u8]) -> bool
+    ensures { result ≡ spec.has_one_colon word.now }
+{
+    word.iter().filter(|byte| **byte == b':').count() == 1
+}
+
+/// What comes before the first colon.
+fn host_of(word: &[u8]) -> &[u8]
+    ensures { result.now ≡ before_first spec.is_colon word.now }
+{
+    word.split_at(colon_place(word)).0
+}
+
+/// What comes after the first colon.
+fn port_of(word: &[u8]) -> &[u8]
+    ensures { result.now ≡ after_first spec.is_colon word.now }
+{
+    match word.split_at(colon_place(word)).1.split_first() {
+        Some((_, port)) => port,
+        None => &[],
+    }
 }
 
 /// A part of a word. `None` if the word has no such part.
-fn part_of(word: &[u8], part: ValuePart) -> Option<&[u8]> {
+fn part_of(word: &[u8], part: ValuePart) -> Option<&[u8]>
+    ensures { option_copied result ≡ spec.part_of part word.now }
+{
     match part {
         ValuePart::Whole => Some(word),
-        ValuePart::Host => Some(split_at_colon(word)?.0),
-        ValuePart::Port => Some(split_at_colon(word)?.1),
+        ValuePart::Host if has_one_colon(word) => Some(host_of(word)),
+        ValuePart::Port if has_one_colon(word) => Some(port_of(word)),
+        _ => None,
     }
 }
 
-/// The row of this key, of the owner whose rows come first.
-fn row_at<'a>(rows: &'a [Row], owner: &Name, key: &Key) -> Option<&'a Row> {
-    for row in rows {
-        if row.owner() != owner {
-            return None;
-        }
-        if row.key() == key {
-            return Some(row);
-        }
-    }
-    None
-}
-
-/// The part of the value of a row, if it can be written. `NoMemory`.
-fn value_text(alloc: Global, row: &Row, part: ValuePart) -> Result<Option<Vec<u8>>, Fault> {
-    let word = word_of(alloc, row.value())?;
-    match part_of(&word, part) {
-        Some(text) if is_plain(text) => Ok(Some(copied(alloc, text)?)),
+/// Copies a word, if there is one and it can be written. `NoMemory`.
+fn copied_if_plain(alloc: Global, word: Option<&[u8]>) -> Result<Option<Vec<u8>>, Fault>
+    ensures word { IfOk result (λ copy. option_map vec_items copy ≡ spec.plain_only (option_copied word.entry)) }
+    ensures memory { IfErr result (λ fault. fault ≡ Fault.NoMemory) }
+{
+    match word {
+        Some(word) if is_plain(word) => Ok(Some(copied(alloc, word)?)),
         _ => Ok(None),
     }
+}
+
+/// The first row of this key.
+fn row_at<'a>(rows: &'a [Row], key: &Key) -> Option<&'a Row>
+    ensures { option_copied result ≡ find (spec.has_key key.now) rows.now }
+{
+    rows.iter().find(|row| row.key() == key)
 }
 
 /// What is written for a placeholder. `None` if the owner's line is not written. `NoMemory`.
@@ -95,9 +119,15 @@ fn placeholder_text(
     alloc: Global,
     placeholder: &Placeholder,
     found: Option<&Row>,
-) -> Result<Option<Vec<u8>>, Fault> {
+) -> Result<Option<Vec<u8>>, Fault>
+    ensures text { IfOk result (λ text. option_map vec_items text ≡ spec.placeholder_text placeholder.now (option_copied found.entry)) }
+    ensures memory { IfErr result (λ fault. fault ≡ Fault.NoMemory) }
+{
     match (found, &placeholder.otherwise) {
-        (Some(row), _) => value_text(alloc, row, placeholder.part),
+        (Some(row), _) => {
+            let word = word_of(alloc, row.value())?;
+            copied_if_plain(alloc, part_of(&word, placeholder.part))
+        }
         (None, Some(otherwise)) => Ok(Some(copied(alloc, otherwise)?)),
         (None, None) => Ok(None),
     }
@@ -108,7 +138,10 @@ fn condition_text(
     alloc: Global,
     word: &[u8],
     found: Option<&Row>,
-) -> Result<Option<Vec<u8>>, Fault> {
+) -> Result<Option<Vec<u8>>, Fault>
+    ensures text { IfOk result (λ text. option_map vec_items text ≡ spec.condition_text word.now (option_copied found.entry)) }
+    ensures memory { IfErr result (λ fault. fault ≡ Fault.NoMemory) }
+{
     let Some(row) = found else {
         return Ok(None);
     };
@@ -119,33 +152,39 @@ fn condition_text(
     }
 }
 
-/// What is written for a piece, for the owner whose rows come first. `None` if its line is not written. `NoMemory`.
+/// What is written for a piece, for an owner with these rows. `None` if the owner's line is not written. `NoMemory`.
 fn piece_text(
     alloc: Global,
-    piece: &Piece,
+    owner: &[u8],
     rows: &[Row],
-    owner: &Name,
-) -> Result<Option<Vec<u8>>, Fault> {
+    piece: &Piece,
+) -> Result<Option<Vec<u8>>, Fault>
+    ensures text { IfOk result (λ text. option_map vec_items text ≡ spec.piece_text owner.now rows.now piece.now) }
+    ensures memory { IfErr result (λ fault. fault ≡ Fault.NoMemory) }
+{
     match piece {
         Piece::Text(text) => Ok(Some(copied(alloc, text)?)),
-        Piece::Owner => Ok(Some(copied(alloc, owner.bytes())?)),
+        Piece::Owner => Ok(Some(copied(alloc, owner)?)),
         Piece::Value(placeholder) => {
-            placeholder_text(alloc, placeholder, row_at(rows, owner, &placeholder.key))
+            placeholder_text(alloc, placeholder, row_at(rows, &placeholder.key))
         }
-        Piece::Only(key, word) => condition_text(alloc, word, row_at(rows, owner, key)),
+        Piece::Only(key, word) => condition_text(alloc, word, row_at(rows, key)),
     }
 }
 
-/// A line for the owner whose rows come first. `None` if it is not written. `NoMemory`.
+/// The line of an owner with these rows. `None` if it is not written. `NoMemory`.
 fn line_text(
     alloc: Global,
-    pieces: &[Piece],
+    owner: &[u8],
     rows: &[Row],
-    owner: &Name,
-) -> Result<Option<Vec<u8>>, Fault> {
+    pieces: &[Piece],
+) -> Result<Option<Vec<u8>>, Fault>
+    ensures text { IfOk result (λ text. option_map vec_items text ≡ spec.line_text owner.now rows.now pieces.now) }
+    ensures memory { IfErr result (λ fault. fault ≡ Fault.NoMemory) }
+{
     let mut line = Vec::new(alloc);
     for piece in pieces {
-        match piece_text(alloc, piece, rows, owner)? {
+        match piece_text(alloc, owner, rows, piece)? {
             Some(text) => line.extend_from_slice(&text)?,
             None => return Ok(None),
         }
@@ -154,41 +193,93 @@ fn line_text(
     Ok(Some(line))
 }
 
+/// Adds a text, if there is one. `NoMemory`.
+fn add_text(out: &mut Vec<u8>, text: Option<Vec<u8>>) -> Result<(), Fault>
+    ensures text { OnOk result (out.new.items ≡ out.old.items ++ spec.text_or_nothing (option_map vec_items text)) }
+    ensures memory { IfErr result (λ fault. fault ≡ Fault.NoMemory) }
+{
+    if let Some(text) = text {
+        out.extend_from_slice(&text)?;
+    }
+    Ok(())
+}
+
+/// The rows before the first one of another owner.
+fn own_rows<'a>(owner: &[u8], rows: &'a [Row]) -> &'a [Row]
+    ensures { result.now ≡ before_first (spec.is_foreign owner.now) rows.now }
+{
+    match rows.iter().position(|row| row.owner().bytes() != owner) {
+        Some(place) => rows.split_at(place).0,
+        None => rows,
+    }
+}
+
+/// Adds the line of a row's owner, unless the row before it has that owner too. `NoMemory`.
+fn add_line_at(
+    alloc: Global,
+    out: &mut Vec<u8>,
+    pieces: &[Piece],
+    before: &[u8],
+    row: &Row,
+    rows: &[Row],
+) -> Result<(), Fault>
+    ensures line { OnOk result (out.new.items ≡ out.old.items ++ spec.line_at pieces.now before.now row.now rows.now) }
+    ensures memory { IfErr result (λ fault. fault ≡ Fault.NoMemory) }
+{
+    let owner = row.owner().bytes();
+    if owner == before {
+        return Ok(());
+    }
+    add_text(out, line_text(alloc, owner, own_rows(owner, rows), pieces)?)
+}
+
 /// Adds a line for each owner. `NoMemory`.
 fn add_lines(
     alloc: Global,
     out: &mut Vec<u8>,
     pieces: &[Piece],
     rows: &[Row],
-) -> Result<(), Fault> {
-    let mut last: &[u8] = &[];
+) -> Result<(), Fault>
+    ensures lines { OnOk result (out.new.items ≡ out.old.items ++ spec.owner_lines pieces.now [] rows.now) }
+    ensures memory { IfErr result (λ fault. fault ≡ Fault.NoMemory) }
+{
+    let mut before: &[u8] = &[];
     let mut rest = rows;
     while let Some((row, others)) = rest.split_first() {
-        if row.owner().bytes() != last {
-            if let Some(line) = line_text(alloc, pieces, rest, row.owner())? {
-                out.extend_from_slice(&line)?;
-            }
-        }
-        last = row.owner().bytes();
+        add_line_at(alloc, out, pieces, before, row, rest)?;
+        before = row.owner().bytes();
         rest = others;
     }
     Ok(())
 }
 
-/// Whether a piece is a text.
-fn is_text(piece: &Piece) -> bool {
+fn is_text(piece: &Piece) -> bool
+    ensures { result ≡ spec.is_text piece.now }
+{
     matches!(piece, Piece::Text(_))
 }
 
-/// Adds a line that has no placeholder. `NoMemory`.
-fn add_as_it_is(out: &mut Vec<u8>, pieces: &[Piece]) -> Result<(), Fault> {
-    for piece in pieces {
-        if let Piece::Text(text) = piece {
-            out.extend_from_slice(text)?;
-        }
+fn are_texts(pieces: &[Piece]) -> bool
+    ensures { result ≡ list_all spec.is_text pieces.now }
+{
+    pieces.iter().all(|piece| is_text(piece))
+}
+
+/// Adds what comes of a line of the template. `NoMemory`.
+fn add_written(
+    alloc: Global,
+    out: &mut Vec<u8>,
+    line: &TemplateLine,
+    rows: &[Row],
+) -> Result<(), Fault>
+    ensures line { OnOk result (out.new.items ≡ out.old.items ++ spec.written_line rows.now line.now) }
+    ensures memory { IfErr result (λ fault. fault ≡ Fault.NoMemory) }
+{
+    if are_texts(&line.pieces) {
+        add_text(out, line_text(alloc, &[], &[], &line.pieces)?)
+    } else {
+        add_lines(alloc, out, &line.pieces, rows)
     }
-    out.push(b'\n')?;
-    Ok(())
 }
 
 /// The text of a template with these rows, which ascend by owner and key. `NoMemory`.
@@ -196,14 +287,13 @@ pub(crate) fn rendered(
     alloc: Global,
     template: &[TemplateLine],
     rows: &[Row],
-) -> Result<Vec<u8>, Fault> {
+) -> Result<Vec<u8>, Fault>
+    ensures text { IfOk result (λ text. text.items ≡ spec.rendered template.now rows.now) }
+    ensures memory { IfErr result (λ fault. fault ≡ Fault.NoMemory) }
+{
     let mut out = Vec::new(alloc);
     for line in template {
-        if line.pieces.iter().all(|piece| is_text(piece)) {
-            add_as_it_is(&mut out, &line.pieces)?;
-        } else {
-            add_lines(alloc, &mut out, &line.pieces, rows)?;
-        }
+        add_written(alloc, &mut out, line, rows)?;
     }
     Ok(out)
 }
