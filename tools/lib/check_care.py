@@ -1,6 +1,7 @@
 """A part of tools/check-node: what a careful watch shows. It runs `attrdir watch` with --hold, --floor, --settle, --listings and --render against
 nodes that run, and compares lines and files with what was written and removed meanwhile."""
 import json
+import select
 import subprocess
 import threading
 import time
@@ -116,8 +117,8 @@ def file_replaced(check):
     node.put("web/x", 0)
     watch = Watching(node, "--render", str(template), "--to", str(path), "--every", "5")
     try:
-        time.sleep(0.3)
-        want("a file without a folder", path.exists(), False)
+        select.select([watch.ran.stderr], [], [], SECONDS)
+        want("a file without a folder", (path.exists(), watch.lines), (False, []))
         path.parent.mkdir()
         watch.awaits(["written 1"])
         found, stop = [], threading.Event()
@@ -232,7 +233,7 @@ def settle(check):
     """Changes that come within the time go together, and a row that was there meanwhile alone is never shown."""
     node = check.node("a").start()
     node.put("k", 1)
-    watch = Watching(node, "--settle", "600", "--listings", "--every", "10")
+    watch = Watching(node, "--settle", "1500", "--listings", "--every", "10")
     try:
         watch.awaits(["[" + node.get("--format", "json")[0] + "]"])
         for at in range(5):
@@ -250,7 +251,7 @@ def not_caught_up(check):
     """Nothing is shown before the node is caught up, and that is said."""
     folder = check.folder()
     silent = Swallower(folder / "silent.sock")
-    node = check.node("a", "--dial-idle", "1500", folder=folder, peers=[folder / "silent.sock"]).start()
+    node = check.node("a", "--dial-idle", "6000", folder=folder, peers=[folder / "silent.sock"]).start()
     node.put("k", 1)
     want("a watch that is not careful", node.command("watch", "--retry", "--count", "1"), (0, "set a k 1 weight 1\n", ""))
     watch = Watching(node, "--listings", "--every", "10", "--count", "1")

@@ -106,28 +106,28 @@ fn add_text(alloc: Global, pieces: &mut Vec<Piece>, text: &str) -> Result<(), Fa
     Ok(())
 }
 
-/// Reads a line. The faults of `piece_of`; `BadSetting` if a `{{` has no `}}`.
-fn line_of(alloc: Global, line: &str) -> Result<TemplateLine, Fault> {
-    let mut pieces = Vec::new(alloc);
-    let mut rest = line;
-    while let Some((before, after)) = rest.split_once("{{") {
-        let Some((inside, others)) = after.split_once("}}") else {
-            return Err(Fault::BadSetting);
-        };
-        add_text(alloc, &mut pieces, before)?;
-        pieces.push(piece_of(alloc, inside)?)?;
-        rest = others;
-    }
-    add_text(alloc, &mut pieces, rest)?;
-    Ok(TemplateLine { pieces })
+/// Adds what is between `{{` and `}}`, and the text after it. The faults of `piece_of`; `BadSetting` if there is no `}}`.
+fn add_piece(alloc: Global, pieces: &mut Vec<Piece>, words: &str) -> Result<(), Fault> {
+    let Some((inside, text)) = words.split_once("}}") else {
+        return Err(Fault::BadSetting);
+    };
+    pieces.push(piece_of(alloc, inside)?)?;
+    add_text(alloc, pieces, text)
 }
 
-/// The first line of a text, and the text after it.
-fn first_line(text: &str) -> (&str, &str) {
-    match text.split_once('\n') {
-        Some(parts) => parts,
-        None => (text, ""),
+/// Reads a line. The faults of `add_piece`.
+fn line_of(alloc: Global, line: &str) -> Result<TemplateLine, Fault> {
+    let mut pieces = Vec::new(alloc);
+    let mut is_first = true;
+    for words in line.split("{{") {
+        if is_first {
+            add_text(alloc, &mut pieces, words)?;
+        } else {
+            add_piece(alloc, &mut pieces, words)?;
+        }
+        is_first = false;
     }
+    Ok(TemplateLine { pieces })
 }
 
 /// Adds a line. The faults of `line_of`.
@@ -140,14 +140,11 @@ fn add_line(alloc: Global, lines: &mut Vec<TemplateLine>, line: &str) -> Result<
 pub(crate) fn template_of(alloc: Global, text: &str) -> Result<Vec<TemplateLine>, TemplateFault> {
     let mut lines = Vec::new(alloc);
     let mut line = 0u64;
-    let mut rest = text;
-    while !rest.is_empty() {
-        let (words, others) = first_line(rest);
+    for words in text.split_terminator('\n') {
         line = line.saturating_add(1);
         if let Err(fault) = add_line(alloc, &mut lines, words) {
             return Err(TemplateFault { fault, line });
         }
-        rest = others;
     }
     Ok(lines)
 }
