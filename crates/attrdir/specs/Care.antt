@@ -23,6 +23,9 @@ is_due_since now hold None = false
 abbrev pub is_due : ℕ → ℕ → KeptRow → Bool
 is_due now hold x = is_due_since now hold x.missing
 
+abbrev pub stays : ℕ → ℕ → KeptRow → Bool
+stays now hold x = not (is_due now hold x)
+
 abbrev pub never : Option ℕ
 never = None
 
@@ -77,7 +80,7 @@ holds_back now caution most rows = is_below (length rows - length (filter (is_du
 
 -- those that are due go together, or none goes
 abbrev pub rows_after_floor : ℕ → Caution → ℕ → List KeptRow → List KeptRow
-rows_after_floor now caution most rows = if holds_back now caution most rows then rows else filter (λ x. not (is_due now caution.hold x)) rows
+rows_after_floor now caution most rows = if holds_back now caution most rows then rows else filter (stays now caution.hold) rows
 
 abbrev pub held_back : ℕ → Caution → ℕ → List KeptRow → ℕ
 held_back now caution most rows = if holds_back now caution most rows then length (filter (is_due now caution.hold) rows) else 0

@@ -1,6 +1,6 @@
 -- The text of a template with rows.
-use Rattle.std.specs.Prelude.{ℕ, Bool, true, false, ◌&&◌, ◌||◌, nat_eq, nat_le, if◌then◌else◌, List, [], ◌∷◌, ◌++◌, decimal, codes, length, filter, not, find, Option, Some, None, option_map, unwrap_or, vec_items}
-use Rattle.std.specs.List.{list_all, list_any, flat_map, before_first, after_first}
+use Rattle.std.specs.Prelude.{ℕ, Bool, true, false, ◌&&◌, ◌||◌, nat_eq, nat_le, if◌then◌else◌, List, [], ◌∷◌, ◌++◌, decimal, codes, length, filter, not, find, position, take, drop, ◌+◌, Option, Some, None, option_map, unwrap_or, vec_items}
+use Rattle.std.specs.List.{list_all, list_any, flat_map}
 use Rattle.std.specs.Cmp.Lexicographic.{pointwise}
 use Rattle.sb_types.specs.Value.{Value, flag_word}
 use Rattle.sb_types.specs.Kinds.{Content, Word, Text, Number, Truth, content_of}
@@ -43,8 +43,8 @@ has_one_colon word = nat_eq (length (filter is_colon word)) 1
 -- the host and the port are what an address has before and after its only colon
 abbrev pub part_of : ValuePart → List ℕ → Option (List ℕ)
 part_of Whole word = Some word
-part_of Host word = if has_one_colon word then Some (before_first is_colon word) else None
-part_of Port word = if has_one_colon word then Some (after_first is_colon word) else None
+part_of Host word = if has_one_colon word then option_map (λ place. take place word) (position is_colon word) else None
+part_of Port word = if has_one_colon word then option_map (λ place. drop (place + 1) word) (position is_colon word) else None
 
 abbrev pub plain_only : Option (List ℕ) → Option (List ℕ)
 plain_only None = None
@@ -89,9 +89,17 @@ line_text owner rows (piece ∷ line) = joined (piece_text owner rows piece) (li
 abbrev pub text_or_nothing : Option (List ℕ) → List ℕ
 text_or_nothing text = unwrap_or text []
 
--- the line of a row's owner, with the rows before the first one of another owner
+abbrev pub up_to : Option ℕ → List Row → List Row
+up_to None rows = rows
+up_to (Some place) rows = take place rows
+
+-- the rows before the first one of another owner
+abbrev pub own_rows : List ℕ → List Row → List Row
+own_rows owner rows = up_to (position (is_foreign owner) rows) rows
+
+-- the line of a row's owner
 abbrev pub first_line : List Piece → Row → List Row → List ℕ
-first_line line row rows = text_or_nothing (line_text row.owner (before_first (is_foreign row.owner) rows) line)
+first_line line row rows = text_or_nothing (line_text row.owner (own_rows row.owner rows) line)
 
 -- only the first row of an owner has a line
 abbrev pub line_at : List Piece → List ℕ → Row → List Row → List ℕ

@@ -65,6 +65,26 @@ impl KeptRow {
             None => false,
         }
     }
+
+    fn stays(&self, now: u64, hold: u64) -> bool
+        ensures { result ≡ spec.stays now hold self.now }
+    {
+        !self.is_due(now, hold)
+    }
+}
+
+/// Whether a count matters beside a newer one: it is greater, and of the last hour.
+fn still_counts(one: &RowCount, now: u64, count: usize) -> bool
+    ensures { result ≡ spec.still_counts now count one.now }
+{
+    !is_over(one.at, now, FLOOR_TIME) && count < one.count
+}
+
+/// Drops the counts that no longer matter beside a newer one.
+fn keep_counts(counts: &mut Vec<RowCount>, now: u64, count: usize)
+    ensures { counts.new.items ≡ filter (spec.still_counts now count) counts.old.items }
+{
+    counts.retain(|one| still_counts(one, now, count));
 }
 
 /// Since when a row is missing that the listing of this moment lacks.
@@ -186,7 +206,7 @@ pub(crate) fn enter_count(
     ensures counts { OnOk result (counts.new.items ≡ spec.counts_with now count counts.old.items) }
     ensures memory { IfErr result (λ fault. fault ≡ Fault.NoMemory) }
 {
-    counts.retain(|one| !is_over(one.at, now, FLOOR_TIME) && count < one.count);
+    keep_counts(counts, now, count);
     counts.push(RowCount { at: now, count })?;
     Ok(())
 }
@@ -216,6 +236,13 @@ fn due_count(rows: &[KeptRow], now: u64, hold: u64) -> usize
     rows.iter().filter(|row| row.is_due(now, hold)).count()
 }
 
+/// Drops the rows that went so long ago.
+fn keep_others(rows: &mut Vec<KeptRow>, now: u64, hold: u64)
+    ensures { rows.new.items ≡ filter (spec.stays now hold) rows.old.items }
+{
+    rows.retain(|row| row.stays(now, hold));
+}
+
 /// Drops the rows that went so long ago, all or none: none if fewer than the floor would be left. Returns how many it
 /// holds back for that.
 pub(crate) fn drop_due(
@@ -232,7 +259,7 @@ pub(crate) fn drop_due(
     if is_below(rows.len().saturating_sub(due), caution.floor, most) {
         return due;
     }
-    rows.retain(|row| !row.is_due(now, hold));
+    keep_others(rows, now, hold);
     0
 }
 

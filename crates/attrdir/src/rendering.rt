@@ -4,8 +4,8 @@
 //! has all of them, in the order of the owners. Peers are not authenticated. So a value is
 //! written only if each of its bytes is a letter, a digit or one of `. : / _ - [ ] @ % + , =`. None of these ends a word or
 //! begins a comment in the files of usual programs.
-ghost use Rattle.std.specs.Prelude.{◌≡◌, ◌≤◌, ◌++◌, [], length, find, option_map, vec_items, OnOk, IfOk, IfErr};
-ghost use Rattle.std.specs.List.{position_or_len, before_first, after_first, list_all};
+ghost use Rattle.std.specs.Prelude.{◌≡◌, ◌<◌, ◌+◌, ◌++◌, [], length, filter, find, position, take, drop, option_map, vec_items, OnOk, IfOk, IfErr, IfSome};
+ghost use Rattle.std.specs.List.{list_all};
 ghost use Rattle.std.specs.Option.{option_copied};
 ghost use Rattle.attrdir.specs.Rendering as spec;
 
@@ -22,11 +22,17 @@ fn is_plain_byte(byte: u8) -> bool
     byte.is_ascii_alphanumeric() || matches!(byte, b'.' | b':' | b'/' | b'_' | b'-' | b'[' | b']' | b'@' | b'%' | b'+' | b',' | b'=')
 }
 
+fn are_plain_bytes(word: &[u8]) -> bool
+    ensures { result ≡ list_all spec.is_plain_byte word.now }
+{
+    word.iter().all(|byte| is_plain_byte(*byte))
+}
+
 /// Whether a word can be written. One without bytes cannot.
 fn is_plain(word: &[u8]) -> bool
     ensures { result ≡ spec.is_plain word.now }
 {
-    !word.is_empty() && word.iter().all(|byte| is_plain_byte(*byte))
+    !word.is_empty() && are_plain_bytes(word)
 }
 
 /// Copies a word. `NoMemory`.
@@ -50,37 +56,43 @@ fn word_of(alloc: Global, value: &Value) -> Result<Vec<u8>, Fault>
     }
 }
 
-/// The place of the first colon, or the length if there is none.
-fn colon_place(word: &[u8]) -> usize
-    ensures place { result ≡ position_or_len spec.is_colon word.now }
-    ensures within { result ≤ length word.now }
+/// The place of the first colon.
+fn colon_place(word: &[u8]) -> Option<usize>
+    ensures place { result ≡ position spec.is_colon word.now }
+    ensures within { IfSome result (λ place. place < length word.now) }
 {
-    match word.iter().position(|byte| *byte == b':') {
-        Some(place) => place,
-        None => word.len(),
-    }
+    word.iter().position(|byte| *byte == b':')
+}
+
+fn colon_count(word: &[u8]) -> usize
+    ensures { result ≡ length (filter spec.is_colon word.now) }
+{
+    word.iter().filter(|byte| **byte == b':').count()
 }
 
 fn has_one_colon(word: &[u8]) -> bool
     ensures { result ≡ spec.has_one_colon word.now }
 {
-    word.iter().filter(|byte| **byte == b':').count() == 1
+    colon_count(word) == 1
 }
 
 /// What comes before the first colon.
-fn host_of(word: &[u8]) -> &[u8]
-    ensures { result.now ≡ before_first spec.is_colon word.now }
+fn host_of(word: &[u8]) -> Option<&[u8]>
+    ensures { option_copied result ≡ option_map (λ place. take place word.now) (position spec.is_colon word.now) }
 {
-    word.split_at(colon_place(word)).0
+    match colon_place(word) {
+        Some(place) => Some(word.split_at(place).0),
+        None => None,
+    }
 }
 
 /// What comes after the first colon.
-fn port_of(word: &[u8]) -> &[u8]
-    ensures { result.now ≡ after_first spec.is_colon word.now }
+fn port_of(word: &[u8]) -> Option<&[u8]>
+    ensures { option_copied result ≡ option_map (λ place. drop (place + 1) word.now) (position spec.is_colon word.now) }
 {
-    match word.split_at(colon_place(word)).1.split_first() {
-        Some((_, port)) => port,
-        None => &[],
+    match colon_place(word) {
+        Some(place) => Some(word.split_at(place + 1).1),
+        None => None,
     }
 }
 
@@ -90,8 +102,8 @@ fn part_of(word: &[u8], part: ValuePart) -> Option<&[u8]>
 {
     match part {
         ValuePart::Whole => Some(word),
-        ValuePart::Host if has_one_colon(word) => Some(host_of(word)),
-        ValuePart::Port if has_one_colon(word) => Some(port_of(word)),
+        ValuePart::Host if has_one_colon(word) => host_of(word),
+        ValuePart::Port if has_one_colon(word) => port_of(word),
         _ => None,
     }
 }
@@ -204,14 +216,38 @@ fn add_text(out: &mut Vec<u8>, text: Option<Vec<u8>>) -> Result<(), Fault>
     Ok(())
 }
 
+/// The place of the first row of another owner.
+fn foreign_place(owner: &[u8], rows: &[Row]) -> Option<usize>
+    ensures place { result ≡ position (spec.is_foreign owner.now) rows.now }
+    ensures within { IfSome result (λ place. place < length rows.now) }
+{
+    rows.iter().position(|row| row.owner().bytes() != owner)
+}
+
 /// The rows before the first one of another owner.
 fn own_rows<'a>(owner: &[u8], rows: &'a [Row]) -> &'a [Row]
-    ensures { result.now ≡ before_first (spec.is_foreign owner.now) rows.now }
+    ensures { result.now ≡ spec.own_rows owner.now rows.now }
 {
-    match rows.iter().position(|row| row.owner().bytes() != owner) {
+    match foreign_place(owner, rows) {
         Some(place) => rows.split_at(place).0,
         None => rows,
     }
+}
+
+/// Adds the line of a row's owner. `NoMemory`.
+fn add_first_line(
+    alloc: Global,
+    out: &mut Vec<u8>,
+    pieces: &[Piece],
+    row: &Row,
+    rows: &[Row],
+) -> Result<(), Fault>
+    ensures line { OnOk result (out.new.items ≡ out.old.items ++ spec.first_line pieces.now row.now rows.now) }
+    ensures memory { IfErr result (λ fault. fault ≡ Fault.NoMemory) }
+{
+    let owner = row.owner().bytes();
+    let text = line_text(alloc, owner, own_rows(owner, rows), pieces)?;
+    add_text(out, text)
 }
 
 /// Adds the line of a row's owner, unless the row before it has that owner too. `NoMemory`.
@@ -226,11 +262,11 @@ fn add_line_at(
     ensures line { OnOk result (out.new.items ≡ out.old.items ++ spec.line_at pieces.now before.now row.now rows.now) }
     ensures memory { IfErr result (λ fault. fault ≡ Fault.NoMemory) }
 {
-    let owner = row.owner().bytes();
-    if owner == before {
-        return Ok(());
+    if row.owner().bytes() == before {
+        Ok(())
+    } else {
+        add_first_line(alloc, out, pieces, row, rows)
     }
-    add_text(out, line_text(alloc, owner, own_rows(owner, rows), pieces)?)
 }
 
 /// Adds a line for each owner. `NoMemory`.
