@@ -198,11 +198,7 @@ pub(crate) fn rows_with(
 
 /// Enters how many rows a listing of this moment has. Earlier counts that are not greater, or are older than an hour,
 /// no longer matter. `NoMemory`, and then the new one is missing.
-pub(crate) fn enter_count(
-    counts: &mut Vec<RowCount>,
-    now: u64,
-    count: usize,
-) -> Result<(), Fault>
+pub(crate) fn enter_count(counts: &mut Vec<RowCount>, now: u64, count: usize) -> Result<(), Fault>
     ensures counts { OnOk result (counts.new.items ≡ spec.counts_with now count counts.old.items) }
     ensures memory { IfErr result (λ fault. fault ≡ Fault.NoMemory) }
 {
@@ -245,12 +241,7 @@ fn keep_others(rows: &mut Vec<KeptRow>, now: u64, hold: u64)
 
 /// Drops the rows that went so long ago, all or none: none if fewer than the floor would be left. Returns how many it
 /// holds back for that.
-pub(crate) fn drop_due(
-    rows: &mut Vec<KeptRow>,
-    now: u64,
-    caution: &Caution,
-    most: usize,
-) -> usize
+pub(crate) fn drop_due(rows: &mut Vec<KeptRow>, now: u64, caution: &Caution, most: usize) -> usize
     ensures rows { rows.new.items ≡ spec.rows_after_floor now caution.now most rows.old.items }
     ensures held { result ≡ spec.held_back now caution.now most rows.old.items }
 {

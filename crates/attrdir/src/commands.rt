@@ -734,19 +734,8 @@ const WATCH_TASK: Task = Task {
     about: "Asks a node again and again, and prints what changed",
     more: help::WATCH,
     parts: &[
-        CONTROL,
-        OWNER,
-        PREFIX,
-        EVERY,
-        COUNT,
-        MARK,
-        RETRY,
-        HOLD,
-        ROWS_FLOOR,
-        SETTLE,
-        LISTINGS,
-        RENDER,
-        TO,
+        CONTROL, OWNER, PREFIX, EVERY, COUNT, MARK, RETRY, HOLD, ROWS_FLOOR, SETTLE, LISTINGS,
+        RENDER, TO,
     ],
 };
 

@@ -19,7 +19,11 @@ use std::alloc::Global;
 fn is_plain_byte(byte: u8) -> bool
     ensures { result ≡ spec.is_plain_byte byte }
 {
-    byte.is_ascii_alphanumeric() || matches!(byte, b'.' | b':' | b'/' | b'_' | b'-' | b'[' | b']' | b'@' | b'%' | b'+' | b',' | b'=')
+    byte.is_ascii_alphanumeric()
+        || matches!(
+            byte,
+            b'.' | b':' | b'/' | b'_' | b'-' | b'[' | b']' | b'@' | b'%' | b'+' | b',' | b'='
+        )
 }
 
 fn are_plain_bytes(word: &[u8]) -> bool
@@ -146,11 +150,7 @@ fn placeholder_text(
 }
 
 /// Nothing, if the row has this word. `None` otherwise. `NoMemory`.
-fn condition_text(
-    alloc: Global,
-    word: &[u8],
-    found: Option<&Row>,
-) -> Result<Option<Vec<u8>>, Fault>
+fn condition_text(alloc: Global, word: &[u8], found: Option<&Row>) -> Result<Option<Vec<u8>>, Fault>
     ensures text { IfOk result (λ text. option_map vec_items text ≡ spec.condition_text word.now (option_copied found.entry)) }
     ensures memory { IfErr result (λ fault. fault ≡ Fault.NoMemory) }
 {
@@ -270,12 +270,7 @@ fn add_line_at(
 }
 
 /// Adds a line for each owner. `NoMemory`.
-fn add_lines(
-    alloc: Global,
-    out: &mut Vec<u8>,
-    pieces: &[Piece],
-    rows: &[Row],
-) -> Result<(), Fault>
+fn add_lines(alloc: Global, out: &mut Vec<u8>, pieces: &[Piece], rows: &[Row]) -> Result<(), Fault>
     ensures lines { OnOk result (out.new.items ≡ out.old.items ++ spec.owner_lines pieces.now [] rows.now) }
     ensures memory { IfErr result (λ fault. fault ≡ Fault.NoMemory) }
 {

@@ -240,7 +240,9 @@ impl<'a> PrintedRows<'a> {
         if is_waiting != self.is_waiting {
             self.is_waiting = is_waiting;
             let _ = if is_waiting {
-                eprintln!(rt; "attrdir: info control socket {control}: the node is not caught up yet, and nothing is shown before")
+                eprintln!(rt;
+                    "attrdir: info control socket {control}: the node is not caught up yet, and nothing is shown before"
+                )
             } else {
                 eprintln!(rt; "attrdir: info control socket {control}: the node is caught up")
             };
