@@ -174,19 +174,6 @@ impl<'a> PrintedRows<'a> {
         }
     }
 
-    /// Prints what changed, unless the watch is careful. `NoMemory`; `WriteFailed`.
-    fn print(
-        &self,
-        rt: &HostRuntime,
-        told: &[RowChange<'_>],
-        prints_asked: bool,
-    ) -> Result<(), Fault> {
-        match &self.careful {
-            Some(_) => Ok(()),
-            None => print_difference(rt, told, prints_asked),
-        }
-    }
-
     /// Shows the rows, if the watch is careful. `NoMemory`; `WriteFailed`.
     fn show(&mut self, rt: &HostRuntime, control: &str, prints_asked: bool) -> Result<(), Fault> {
         match &mut self.careful {
@@ -198,7 +185,8 @@ impl<'a> PrintedRows<'a> {
         }
     }
 
-    /// Takes a listing that came from this socket, and prints what changed. `NoMemory`; `WriteFailed`.
+    /// Takes a listing that came from this socket, and prints what changed, unless the watch is careful. `NoMemory`;
+    /// `WriteFailed`.
     fn take(
         &mut self,
         rt: &HostRuntime,
@@ -211,11 +199,14 @@ impl<'a> PrintedRows<'a> {
             self.lag = Lag::new();
         }
         self.stamp = stamp;
+        let is_careful = self.careful.is_some();
         // The pages of a listing are not from one moment. Only what was shown before its first page is known on each.
         let rows = kept_rows(rt.alloc(), &self.rows, found, &self.reaches)?;
         enter_shown(&mut self.reaches, found)?;
         let told = changes(rt.alloc(), &self.rows, &rows)?;
-        self.print(rt, &told, prints_asked)?;
+        if !is_careful {
+            print_difference(rt, &told, prints_asked)?;
+        }
         enter_printed(&mut self.reaches, &told)?;
         drop(told);
         self.rows = rows;
