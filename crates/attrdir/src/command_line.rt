@@ -10,7 +10,7 @@ use crate::commands::{
     FORMAT, FROM, HOLD, KEY, KIND, LISTINGS, LOG, LOG_CLUSTER, LOG_NAME, MARK, ONE_KEY, OWNER,
     PEER_SOCK, PREFIX, RAW, RAW_VALUE, REMOVED_KEY, RENDER, RETRY, ROWS_FLOOR, SETTLE,
     STATUS_FORMAT, TO, VALUE, VALUE_ALONE, WAIT, first_outside, lacks_control, repeated_option,
-    serve_arguments, wrong_number,
+    wrong_number,
 };
 use crate::failure::Failure;
 use crate::log_file::{Floor, print_log, purge_log};
@@ -18,6 +18,7 @@ use crate::one_row::{Portion, RowQuery, print_one};
 use crate::owners::print_owners;
 use crate::rendered_file::{RenderedFile, read_template};
 use crate::restoring::{AskedNode, restore_log};
+use crate::serve_command::serve_arguments;
 use crate::serving::ServeArguments;
 use crate::status::print_status;
 use crate::watching::{WatchQuery, watch, watch_on};

@@ -56,6 +56,7 @@ mod release;
 mod rendered_file;
 mod rendering;
 mod restoring;
+mod serve_command;
 mod serving;
 mod status;
 mod template;
