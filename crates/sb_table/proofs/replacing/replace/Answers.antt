@@ -20,6 +20,7 @@ returns-clause-ok c =
         (subst (λ (x : Entry). Stands c.args.entries.now.items x × (x.key ≡ c.args.entry.key)) (sym c.index.ensures) (c.requires.stands c.index.result.now))
         (c.version.ensures.version ∙ ap (λ (x : Entry). x.version) c.entry-2.ensures.entry)
         c.first_from_version-at.ensures.below c.first_from_version-at.ensures.from in
+    let given = c.in_ok-same.ensures.same in
     let same : c.in_ok-same.same ≡ c.args.entry = cc in (
       c.push_reserved.ensures.items
       ∙ ap (λ (l : List Entry). l ++ c.args.entry ∷ [])

@@ -24,7 +24,7 @@ push_copy-requires c =
     let whole = plain_table (c.args.into.now.entries ++ live_entries c.args.floor (entries_with_keys others c.args.shown.now.entries)) in
     let rest = live_entries c.args.floor (entries_with_keys others c.next.new.self) in
     let has = ap (λ (key : List ℕ). has_key key others) (sym (c.key.ensures.key ∙ ap (λ (x : Entry). x.key) c.entry.ensures.entry)) ∙ sym c.has_up_to.ensures.has ∙ c.if-has_up_to.true in
-    let next = ap (λ (es : List Entry). live_entries c.args.floor (entries_with_keys others es)) c.in-Some.ensures.steps ∙ kept_shown c.args.floor others e c.next.new.self has (sym (c.is_dead.ensures ∙ ap (is_dead c.args.floor) c.entry-2.ensures.entry) ∙ c.if-not-is_dead.true) in
+    let next = ap (λ (es : List Entry). live_entries c.args.floor (entries_with_keys others es)) c.in-Some.ensures.steps ∙ kept_shown c.args.floor others e c.next.new.self has (sym (c.is_dead.ensures ∙ ap (is_dead c.args.floor) c.entry-then-has_up_to.ensures.entry) ∙ c.if-not-is_dead.true) in
     let copying = copies whole c.loop-entry.into next c.loop-entry.invariant in
     record { later = later whole c.loop-entry.into e rest c.requires.whole copying; room = has_room whole c.loop-entry.into e rest c.requires.whole copying }
 
@@ -35,6 +35,6 @@ loop-entry-preserved-then-not-is_dead c =
     let whole = plain_table (c.args.into.now.entries ++ live_entries c.args.floor (entries_with_keys others c.args.shown.now.entries)) in
     let rest = live_entries c.args.floor (entries_with_keys others c.next.new.self) in
     let has = ap (λ (key : List ℕ). has_key key others) (sym (c.key.ensures.key ∙ ap (λ (x : Entry). x.key) c.entry.ensures.entry)) ∙ sym c.has_up_to.ensures.has ∙ c.if-has_up_to.true in
-    let next = ap (λ (es : List Entry). live_entries c.args.floor (entries_with_keys others es)) c.in-Some.ensures.steps ∙ kept_shown c.args.floor others e c.next.new.self has (sym (c.is_dead.ensures ∙ ap (is_dead c.args.floor) c.entry-2.ensures.entry) ∙ c.if-not-is_dead.true) in
+    let next = ap (λ (es : List Entry). live_entries c.args.floor (entries_with_keys others es)) c.in-Some.ensures.steps ∙ kept_shown c.args.floor others e c.next.new.self has (sym (c.is_dead.ensures ∙ ap (is_dead c.args.floor) c.entry-then-has_up_to.ensures.entry) ∙ c.if-not-is_dead.true) in
     let copying = copies whole c.loop-entry.into next c.loop-entry.invariant in
     subst (λ (t : Table). IsCopying whole t rest) (sym c.in_ok-push_copy.ensures.ok) (copying-goes_on whole c.loop-entry.into e rest c.requires.whole copying)

@@ -1,7 +1,6 @@
-use Rattle.std.proofs.Common.{sym, ap, subst, ◌∙◌}
+use Rattle.std.proofs.Common.{List, nat_lt, ◌||◌, sym, ap, subst, ◌∙◌}
 use Rattle.sb_types.specs.Records.{Entry}
 use Rattle.sb_types.specs.Runs.{live_entries, is_set}
-use Rattle.std.proofs.Common.{List, nat_lt, ◌||◌}
 use Rattle.sb_table.specs.Order.{by_key}
 use Rattle.sb_table.specs.Plain.{IsPlainTable, plain_table}
 use Rattle.sb_table.proofs.Keys.{plain-kept, filter-sorted}
