@@ -1,5 +1,5 @@
-//! Which rows a careful watch shows: it keeps a row that went for a while, and shows few of a sudden only if that is no
-//! mistake. The moments are in milliseconds of the watch's own clock.
+//! Which rows a careful watch shows. A row that went stays for a while, and longer if too few would be left. The moments
+//! are in milliseconds of the watch's own clock.
 ghost use Rattle.std.specs.Prelude.{◌≡◌, ◌++◌, ℕ, List, filter, not, length, OnOk, IfOk, IfErr};
 ghost use Rattle.sb_codec.specs.Records as records;
 ghost use Rattle.attrdir.specs.Care as spec;
@@ -26,7 +26,7 @@ pub(crate) struct Caution {
 }
 
 impl Caution {
-    /// Whether it is no caution at all.
+    /// Whether it asks for nothing.
     pub(crate) fn is_none(&self) -> bool
         ensures { result ≡ spec.is_no_caution self.now }
     {
@@ -248,8 +248,8 @@ pub(crate) fn differ_since(since: Option<u64>, now: u64, differs: bool) -> Optio
     }
 }
 
-/// For how many milliseconds changes are gathered. At first it is as long as a row stays, if that is longer, since an
-/// earlier watch may have shown rows that have not come yet.
+/// For how many milliseconds changes are gathered. At first it is as long as a row stays, if that is longer: an earlier
+/// watch may have shown rows that have not come yet.
 pub(crate) fn gathering_time(caution: &Caution, is_first: bool) -> u64
     ensures { result ≡ spec.gathering_time caution.now is_first }
 {

@@ -1,4 +1,4 @@
-//! What a careful watch does with the rows of its node: it decides which rows it shows, and shows them as changes, as
+//! What a careful watch does with the rows of its node. It decides which rows it shows, and shows them as changes, as
 //! listings or in a file.
 use crate::care::{
     Caution, KeptRow, RowCount, differ_since, drop_due, enter_count, gathering_time, is_over,

@@ -1,7 +1,7 @@
 //! The text of a template with the rows of a listing.
 //!
-//! A line with no placeholder is written once, as it is. A line with placeholders is written once for each owner of
-//! which each placeholder can be written, in the order of the owners. Peers are not authenticated. So a value is
+//! A line with no placeholder is written once, as it is. A line with placeholders is written once for each owner that
+//! has all of them, in the order of the owners. Peers are not authenticated. So a value is
 //! written only if each of its bytes is a letter, a digit or one of `. : / _ - [ ] @ % + , =`. None of these ends a word or
 //! begins a comment in the files of usual programs.
 ghost use Rattle.std.specs.Prelude.{◌≡◌, ◌++◌, OnOk, IfOk, IfErr};
@@ -92,7 +92,7 @@ fn value_text(alloc: Global, row: &Row, part: ValuePart) -> Result<Option<Vec<u8
     }
 }
 
-/// What stands in place of a placeholder. `None` if the owner's line is not written. `NoMemory`.
+/// What is written for a placeholder. `None` if the owner's line is not written. `NoMemory`.
 fn placeholder_text(
     alloc: Global,
     placeholder: &Placeholder,
@@ -121,7 +121,7 @@ fn condition_text(
     }
 }
 
-/// What stands in place of a piece for the owner whose rows come first. `None` if its line is not written. `NoMemory`.
+/// What is written for a piece, for the owner whose rows come first. `None` if its line is not written. `NoMemory`.
 fn piece_text(
     alloc: Global,
     piece: &Piece,

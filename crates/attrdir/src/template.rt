@@ -84,7 +84,7 @@ fn value_piece(alloc: Global, word: &str, otherwise: Option<&str>) -> Result<Pie
     }))
 }
 
-/// What stands between `{{` and `}}`. `BadKey`, `BadSetting` or `NoMemory`.
+/// What is between `{{` and `}}`. `BadKey`, `BadSetting` or `NoMemory`.
 fn piece_of(alloc: Global, inside: &str) -> Result<Piece, Fault> {
     if inside == "owner" {
         return Ok(Piece::Owner);
