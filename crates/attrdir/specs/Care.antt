@@ -1,5 +1,5 @@
 -- Which rows a careful watch shows.
-use Rattle.std.specs.Prelude.{ℕ, ◌*◌, ◌-◌, Bool, true, false, ◌&&◌, not, nat_eq, nat_le, nat_lt, max, min, if◌then◌else◌, List, [], ◌∷◌, ◌++◌, map, filter, length, Option, Some, None}
+use Rattle.std.specs.Prelude.{ℕ, ◌*◌, ◌-◌, Bool, false, ◌&&◌, not, nat_eq, nat_le, nat_lt, max, min, if◌then◌else◌, List, [], ◌∷◌, ◌++◌, map, filter, length, Option, Some, None}
 use Rattle.std.specs.Ordering.{match_ordering}
 use Rattle.sb_codec.specs.Records.{Row}
 use Rattle.sb_listing.specs.Changes.{place_order}

@@ -1,5 +1,5 @@
 -- The text of a template with rows.
-use Rattle.std.specs.Prelude.{ℕ, Bool, ◌&&◌, ◌||◌, nat_eq, nat_le, not, if◌then◌else◌, List, [], ◌∷◌, ◌++◌, decimal, codes, Option, Some, None, length}
+use Rattle.std.specs.Prelude.{ℕ, Bool, ◌&&◌, ◌||◌, nat_eq, nat_le, List, decimal, codes, length}
 use Rattle.std.specs.List.{list_all, list_any}
 use Rattle.sb_types.specs.Value.{Value, flag_word}
 use Rattle.sb_types.specs.Kinds.{Content, Word, Text, Number, Truth, content_of}

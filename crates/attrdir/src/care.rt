@@ -1,7 +1,6 @@
 //! Which rows a careful watch shows. A row that went stays for a while, and longer if too few would be left. The moments
 //! are in milliseconds of the watch's own clock.
-ghost use Rattle.std.specs.Prelude.{◌≡◌, ◌++◌, ℕ, List, filter, not, length, OnOk, IfOk, IfErr};
-ghost use Rattle.sb_codec.specs.Records as records;
+ghost use Rattle.std.specs.Prelude.{◌≡◌, ◌++◌, if◌then◌else◌, List, filter, length, OnOk, IfOk, IfErr};
 ghost use Rattle.attrdir.specs.Care as spec;
 ghost use Rattle.attrdir.specs.declared.care.KeptRow.{KeptRow};
 
@@ -248,7 +247,7 @@ pub(crate) fn differ_since(since: Option<u64>, now: u64, differs: bool) -> Optio
     }
 }
 
-/// For how many milliseconds changes are gathered. At first it is as long as a row stays, if that is longer: an earlier
+/// For how many milliseconds changes are gathered. At first that is as long as a row stays, if that is longer. An earlier
 /// watch may have shown rows that have not come yet.
 pub(crate) fn gathering_time(caution: &Caution, is_first: bool) -> u64
     ensures { result ≡ spec.gathering_time caution.now is_first }

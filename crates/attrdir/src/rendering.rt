@@ -4,9 +4,7 @@
 //! has all of them, in the order of the owners. Peers are not authenticated. So a value is
 //! written only if each of its bytes is a letter, a digit or one of `. : / _ - [ ] @ % + , =`. None of these ends a word or
 //! begins a comment in the files of usual programs.
-ghost use Rattle.std.specs.Prelude.{◌≡◌, ◌++◌, OnOk, IfOk, IfErr};
-ghost use Rattle.std.specs.Option.{option_copied};
-ghost use Rattle.std.specs.List.{list_all, list_any};
+ghost use Rattle.std.specs.Prelude.{◌≡◌, IfOk, IfErr};
 ghost use Rattle.attrdir.specs.Rendering as spec;
 
 use crate::template::{Piece, Placeholder, TemplateLine, ValuePart};
