@@ -35,6 +35,7 @@
 mod decode;
 mod encode;
 mod fields;
+mod kinds;
 mod lengths;
 mod list_item;
 mod message;
@@ -44,9 +45,10 @@ mod writing;
 
 pub use decode::{decode_payload, decode_shared, takes_memory};
 pub use encode::{append_payload, encode_payload};
+pub use kinds::{KIND_AGES, KIND_ASK_AGES, KIND_ASK_CHANGE, KIND_NOTICE};
 pub use lengths::length;
 pub use message::{
-    Ask, AskStatus, Bye, Done, Figure, FigureKind, Hello, Message, NodeIdentity, NodeStatus,
-    PeerStatus, Refused, Row, Rows,
+    Ages, Ask, AskChange, AskStatus, Bye, Done, Figure, FigureKind, Hello, Message, NodeIdentity,
+    NodeStatus, Notice, OwnerAge, PeerStatus, Refused, Row, Rows,
 };
 pub use payloads::{one_payload_each, payloads_have_these_lengths};
