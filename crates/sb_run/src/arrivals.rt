@@ -7,7 +7,7 @@ use crate::node::Pace;
 use crate::pool::{Source, Taken};
 use crate::sockets::{Timed, blocking_stream, limit};
 use crate::threads::EndFlag;
-use crossbeam_channel::{Receiver, Sender, bounded};
+use crossbeam_channel::{Receiver, RecvTimeoutError, Sender, bounded};
 use mio::net;
 use sb_codec::{Ask, Message};
 use sb_types::{Fault, Name};
@@ -16,7 +16,7 @@ use std::io::{Chain, Cursor, Read};
 use std::os::unix::net::UnixStream;
 use std::sync::Wait;
 use std::sync::atomic::{AtomicU64, Ordering};
-use std::time::Clock;
+use std::time::{Clock, Instant};
 
 /// How many things may wait for a worker, and how many for the calling thread.
 const HANDED_MOST: usize = 1_024;
@@ -195,13 +195,51 @@ impl Handover {
     }
 }
 
+/// What the calling thread is to do next.
+#[derive(Drop)]
+pub(crate) enum Work {
+    /// To answer a request.
+    Request(Request),
+    /// To make the next beat.
+    Beat,
+}
+
 impl Requests {
-    /// The next request, questions after all others; none once the node is to end.
-    pub(crate) fn next<R: Wait>(&self, rt: &R, ending: &EndFlag) -> Option<Request> {
-        let arrived = self.arrivals.recv(rt);
-        if ending.is_raised() || arrived.is_err() {
+    /// What is to be done next: a request, questions after all others, or a beat if its moment comes first. None once the node is
+    /// to end.
+    pub(crate) fn next<R: Wait + Clock>(
+        &self,
+        rt: &R,
+        ending: &EndFlag,
+        beat: Option<Instant>,
+    ) -> Option<Work> {
+        let arrived = self.wait(rt, beat);
+        if ending.is_raised() {
             return None;
         }
+        match arrived {
+            Ok(()) => Some(Work::Request(self.take(rt)?)),
+            Err(RecvTimeoutError::Timeout) => Some(Work::Beat),
+            Err(RecvTimeoutError::Disconnected) => None,
+        }
+    }
+
+    /// Waits until a request has arrived, and no longer than until a moment. If that is past, a request has to wait.
+    fn wait<R: Wait + Clock>(&self, rt: &R, beat: Option<Instant>) -> Result<(), RecvTimeoutError> {
+        let Some(moment) = beat else {
+            return match self.arrivals.recv(rt) {
+                Ok(()) => Ok(()),
+                Err(_) => Err(RecvTimeoutError::Disconnected),
+            };
+        };
+        match Instant::now(rt) {
+            Ok(now) if moment <= now => Err(RecvTimeoutError::Timeout),
+            _ => self.arrivals.recv_deadline(rt, moment),
+        }
+    }
+
+    /// The request that has arrived, questions after all others.
+    fn take<R: Wait>(&self, rt: &R) -> Option<Request> {
         match self.others.try_recv(rt) {
             Ok(request) => Some(request),
             Err(_) => self.questions.try_recv(rt).ok(),

@@ -15,7 +15,9 @@ ghost use Rattle.sb_run.specs.OneMessage.{ReceivesOne, Asks};
 
 use crate::own_writes::OwnWrites;
 use crate::pool::Serving;
-use sb_codec::{Ask, Done, Message, Refused};
+use sb_codec::{
+    Ask, Done, KIND_AGES, KIND_ASK_AGES, KIND_ASK_CHANGE, KIND_NOTICE, Message, Refused,
+};
 use sb_directory::{DirectoryTag, EnteredSeat, ReaderSeat};
 use sb_frames::{Connection, send};
 use sb_log::WriteLog;
@@ -134,6 +136,10 @@ fn reply_to<L: WriteLog, S: DirectoryTag, H: Wait + Drop, Q: Wait>(
         Message::Refused(_) => (seat, refused_by(Fault::UnknownKind(KIND_REFUSED))),
         Message::AskStatus(_) => (seat, refused_by(Fault::UnknownKind(KIND_ASK_STATUS))),
         Message::NodeStatus(_) => (seat, refused_by(Fault::UnknownKind(KIND_NODE_STATUS))),
+        Message::AskChange(_) => (seat, refused_by(Fault::UnknownKind(KIND_ASK_CHANGE))),
+        Message::Notice(_) => (seat, refused_by(Fault::UnknownKind(KIND_NOTICE))),
+        Message::AskAges => (seat, refused_by(Fault::UnknownKind(KIND_ASK_AGES))),
+        Message::Ages(_) => (seat, refused_by(Fault::UnknownKind(KIND_AGES))),
     }
 }
 

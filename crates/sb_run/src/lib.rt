@@ -116,6 +116,7 @@ mod arrivals;
 mod audit_turns;
 mod auditing;
 mod backlogs;
+mod beating;
 mod bell;
 mod control;
 mod control_socket;
@@ -126,6 +127,7 @@ mod facts;
 mod first_message;
 mod forgetting;
 mod gate;
+mod heard;
 mod laws;
 mod log_watch;
 mod node;
@@ -141,12 +143,15 @@ mod status_reply;
 mod status_texts;
 mod threads;
 mod vain_offers;
+mod watchers;
 
 pub use control::ask_control;
 pub use forgetting::ForgottenOwners;
 pub use gate::{Gate, GatePoint, Open};
 pub use laws::{forgotten_owners_stay_out, running_nodes_keep_truth, running_nodes_tell_truth};
-pub use node::{NodeConfig, OnLogFault, Pace, Paths, Ran, Runtime, run_closed_node, run_node};
+pub use node::{
+    Beat, NodeConfig, OnLogFault, Pace, Paths, Ran, Runtime, run_closed_node, run_node,
+};
 pub use observer::{LogCause, LogLoss, Nobody, Observer, PushCounts, Status, Troubles};
 pub use own_writes::{OwnWrites, Stored};
 pub use peers::{DownReason, Peer, PeerState};

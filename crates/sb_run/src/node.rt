@@ -10,6 +10,7 @@ use crate::bell::Bell;
 use crate::counts::Counts;
 use crate::dialer::{Dialing, RoundsTag, rounds_channel};
 use crate::forgetting::ForgottenOwners;
+use crate::heard::HeardTimes;
 use crate::observer::Observer;
 use crate::own_writes::{ClosableLog, OwnWrites};
 use crate::sockets::BoundSockets;
@@ -17,11 +18,12 @@ use crate::threads::{
     EndFlag, Links, NodeContext, ThreadSeats, ThreadsEnd, gather_seats, part_seats,
 };
 use crate::vain_offers::VainOffers;
+use crate::watchers::WatcherCount;
 use sb_directory::Directory;
 use sb_log::WriteLog;
 use sb_node::NodeCore;
 use sb_table::Table;
-use sb_types::{Fault, Name, Settings};
+use sb_types::{Fault, Key, Name, Settings};
 use sb_views::NewHistory;
 use std::alloc::Global;
 use std::marker::Brand;
@@ -78,6 +80,16 @@ pub struct Pace {
     pub purge_removals: u64,
     /// After how many milliseconds it compares again what a peer holds of its own name with its own table; 0 for never.
     pub audit: u64,
+    /// How it shows that it lives, while nobody else writes; none if it does not.
+    pub beat: Option<Beat>,
+}
+
+/// A write that a node makes of itself again and again, so that its peers hear of it: true, under a key of its own.
+#[derive(Clone, Copy, Debug)]
+pub struct Beat {
+    /// How long it waits after each such write, in milliseconds, at least 1.
+    pub pause: u64,
+    pub key: Key,
 }
 
 /// What a node is to do: its settings, its sockets and its pace, and which owners it forgets.
@@ -149,6 +161,12 @@ fn start_refusal<L: WriteLog>(settings: &Settings, log: &L) -> Option<Fault>
 /// its own table. Say the peer has a row that the log never gave, or lacks one that it should have. Then another node or an
 /// older copy of the log writes under this name. The node refuses writes by `OwnerConflict`, and reports to the observer what
 /// it found.
+///
+/// A client that waits for a change holds no thread: its connection waits where those wait that have said nothing yet, and the
+/// thread that accepts tells it of the change. At most 64 clients may wait so; one more is refused by `WatchesFull`.
+///
+/// With a `beat` the calling thread writes the flag true under its key, at once and then after each pause. It is an own write
+/// like any other. None is made once the log is closed, or while another node writes under the own name.
 ///
 /// A connection takes a worker or the calling thread only once it has something to say: a peer's whole Hello, or a client's
 /// whole request. Until then it waits, for `idle` milliseconds at `sock` and for `request` at `control`, or `idle` if that is
@@ -446,6 +464,8 @@ pub(crate) fn run_tagged<
     let (workers, forgotten) = (directory.settings().workers(), start.forgotten);
     let (ending, counts, asked) = (EndFlag::new(), Counts::new(rt, workers), Asked::new());
     let vain_offers = VainOffers::new(alloc);
+    let (watchers, heard) = (WatcherCount::new(), HeardTimes::new(alloc));
+    heard.note(rt, directory.name());
     let node = NodeContext {
         rt,
         alloc,
@@ -457,6 +477,8 @@ pub(crate) fn run_tagged<
         asked: &asked,
         forgotten: &forgotten,
         vain_offers: &vain_offers,
+        watchers: &watchers,
+        heard: &heard,
         pace,
     };
     let finished = dialing.run_threads(&node, start.writes, thread_seats, links);
