@@ -155,7 +155,7 @@ pub(crate) const WAIT: Part = Part {
 /// Smaller: If much changes, it asks more often.
 pub(crate) const EVERY: Part = Part {
     name: "every",
-    kind: Kind::NumberElse(Range::Any, "20; 200 if it does not wait for changes"),
+    kind: Kind::NumberElse(Range::Any, "20 (200 with --count)"),
     value: "MS",
     help: "How many milliseconds it waits at least before it asks again",
 };

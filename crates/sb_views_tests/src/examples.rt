@@ -19,7 +19,7 @@ fn watch_once(alloc: Global) -> Result<[Polled; 2], Fault> {
     let mut hub = Hub::new(alloc);
     let (owner, prefix) = (None, Prefix::read(b"net/")?);
     let id = hub.add(Filter { owner, prefix }, 2)?;
-    let (owner, key, version) = (Name::read(b"a")?, Key::read(b"net/b")?, 7);
+    let (owner, key, version) = (Name::read(b"a")?, Some(Key::read(b"net/b")?), 7);
     hub.push(&Note {
         owner,
         key,
@@ -32,7 +32,7 @@ fn watch_once(alloc: Global) -> Result<[Polled; 2], Fault> {
 fn example_of_sb_watch(rt: HostRuntime) {
     let note = Note {
         owner: name(&rt, b"a"),
-        key: key(&rt, b"net/b"),
+        key: Some(key(&rt, b"net/b")),
         version: 7,
     };
     let answers = got(&rt, watch_once(rt.alloc()));
