@@ -199,7 +199,10 @@ impl Backlog {
                     .give_request(node.rt, node.asked, request, stream);
                 note_given(node.counts, given)
             }
-            None => self.watchers.hear(node, registry, number),
+            None => {
+                self.watchers.hear(node, registry, number);
+                Ok(())
+            }
         }
     }
 
@@ -236,7 +239,7 @@ impl Backlog {
 }
 
 /// The earlier of two moments, if there is one.
-fn earlier(one: Option<Instant>, other: Option<Instant>) -> Option<Instant> {
+pub(crate) fn earlier(one: Option<Instant>, other: Option<Instant>) -> Option<Instant> {
     match (one, other) {
         (Some(one), Some(other)) => Some(one.min(other)),
         (one, other) => one.or(other),

@@ -1,6 +1,7 @@
 //! The callers that wait for a change. None of them holds a thread: their connections wait in the poll of the thread that accepts.
+ghost use Rattle.std.specs.Prelude.{◌<◌, length, IfSome};
 
-use crate::accepting::deadline_after;
+use crate::accepting::{deadline_after, earlier};
 use crate::control::refused_by;
 use crate::dialer::RoundsTag;
 use crate::threads::NodeContext;
@@ -75,8 +76,9 @@ impl Watcher {
 
     /// Whether the caller has left, or says more. It is not to say anything.
     fn has_left(&self) -> bool {
+        let mut byte = [0u8; 1];
         let mut stream = &self.stream;
-        match stream.read(&mut [0u8; 1]) {
+        match stream.read(&mut byte) {
             Ok(_) => true,
             Err(error) => error.kind() != io::ErrorKind::WouldBlock,
         }
@@ -137,7 +139,7 @@ impl WatcherList {
                 return send(node.alloc, &mut stream, &refused_by(fault));
             }
         };
-        let until = deadline_after(node.rt, asked.wait.clamp(1, WAIT_MOST));
+        let until = deadline_after(node.rt, asked.wait.max(1).min(WAIT_MOST));
         let mut watcher = Watcher {
             number,
             stream,
@@ -156,32 +158,21 @@ impl WatcherList {
         }
     }
 
-    /// Closes the connection of this number if its caller has left. `ReadFailed` if it cannot be waited for any more.
+    /// Closes the connection of this number, if there is one, if its caller has left, or if it cannot be waited for any more.
     pub(crate) fn hear<S: RoundsTag, H: Wait + Drop, Q: Wait>(
         &mut self,
         node: &NodeContext<S, H, Q>,
         registry: &Registry,
         number: usize,
-    ) -> Result<(), Fault> {
-        let place = self.all.iter().position(|watcher| watcher.number == number);
-        let Some(place) = place else {
-            return Ok(());
+    ) {
+        let Some(place) = place_of(&self.all, number) else {
+            return;
         };
-        let ends = if self.all[place].has_left() {
-            Err(Fault::Truncated)
+        let mut watcher = self.all.remove(place);
+        if !watcher.has_left() && watcher.wait_on(registry).is_ok() {
+            self.all.push_reserved(watcher);
         } else {
-            self.all[place].wait_on(registry)
-        };
-        match ends {
-            Ok(()) => Ok(()),
-            Err(Fault::Truncated) => {
-                node.forget_watch(self.all.remove(place).id);
-                Ok(())
-            }
-            Err(fault) => {
-                node.forget_watch(self.all.remove(place).id);
-                Err(fault)
-            }
+            node.forget_watch(watcher.id);
         }
     }
 
@@ -197,16 +188,19 @@ impl WatcherList {
         }
         let now = Instant::now(node.rt).ok();
         let has_notes = node.directory.has_notes(node.rt);
-        for place in (0..self.all.len()).rev() {
-            let is_late = self.all[place].is_late(now);
-            if !has_notes && !is_late {
-                continue;
+        for _ in 0..self.all.len() {
+            if self.all.is_empty() {
+                break;
             }
-            if let Some(message) = answer_to(node, self.all[place].id, is_late) {
-                let watcher = self.all.remove(place);
-                node.forget_watch(watcher.id);
-                let is_told = watcher.tell(node.alloc, &message).is_ok();
-                faults = faults.saturating_add(u64::from(!is_told));
+            let watcher = self.all.remove(0);
+            let is_late = watcher.is_late(now);
+            match answer_to(node, watcher.id, has_notes, is_late) {
+                Some(message) => {
+                    node.forget_watch(watcher.id);
+                    let is_told = watcher.tell(node.alloc, &message).is_ok();
+                    faults = faults.saturating_add(u64::from(!is_told));
+                }
+                None => self.all.push_reserved(watcher),
             }
         }
         faults
@@ -214,7 +208,11 @@ impl WatcherList {
 
     /// When the first time is over; none if nobody waits, or waits for ever.
     pub(crate) fn first_until(&self) -> Option<Instant> {
-        self.all.iter().filter_map(|watcher| watcher.until).min()
+        let mut first = None;
+        for watcher in &self.all {
+            first = earlier(first, watcher.until);
+        }
+        first
     }
 }
 
@@ -228,13 +226,24 @@ fn begin<S: RoundsTag, H: Wait + Drop, Q>(
     watcher.tell(node.alloc, &Message::Notice(Notice::Watching))
 }
 
-/// What a caller with this watch is told; none if it is to wait on. If what happened could not be published, it waits on until its
-/// time is over.
+/// The place of the one of this number.
+fn place_of(all: &[Watcher], number: usize) -> Option<usize>
+    ensures { IfSome result (λ place. place < length all.now) }
+{
+    all.iter().position(|watcher| watcher.number == number)
+}
+
+/// What a caller with this watch is told; none if it is to wait on. `has_notes` says whether any watch has a note. If what happened
+/// could not be published, it waits on until its time is over.
 fn answer_to<S: RoundsTag, H: Wait + Drop, Q: Wait>(
     node: &NodeContext<S, H, Q>,
     id: WatchId,
+    has_notes: bool,
     is_late: bool,
 ) -> Option<Message> {
+    if !has_notes && !is_late {
+        return None;
+    }
     match node.directory.has_note(node.rt, id) {
         Ok(true) => Some(Message::Notice(Notice::Changed)),
         Ok(false) if is_late => Some(Message::Notice(Notice::Same)),
