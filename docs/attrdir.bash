@@ -7,7 +7,7 @@ _attrdir() {
 
   # what is completed, by tools/options
   local commands='serve set del get watch status owners log purge begin restore sim'
-  local flags='--log-time --raw --value --mark --retry --all --explain --help --version -h -V --'
+  local flags='--log-time --raw --value --ages --mark --retry --all --explain --help --version -h -V --'
   local paths='--log --sock --control --metrics --ages-from --from --from-control'
   local -A values_of=(
     [--order]='breadth depth'
@@ -20,7 +20,7 @@ _attrdir() {
     [serve]='--name --cluster --log --sock --control --budget --order --max-version --workers --seats --rounds --pause --fanout --idle --session --dial-idle --request --max-reads --on-log-fault --purge-removals --audit --beat --beat-key --forget --log-time --metrics --metrics-owners --metrics-peers --help'
     [set]='--control --raw --help'
     [del]='--control --help'
-    [get]='--control --owner --prefix --key --value --raw --max-age --format --help'
+    [get]='--control --owner --prefix --key --value --raw --max-age --ages --format --help'
     [watch]='--control --owner --prefix --every --count --mark --retry --help'
     [status]='--control --wait --format --help'
     [owners]='--sock --cluster --name --ages-from --help'

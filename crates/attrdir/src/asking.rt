@@ -216,12 +216,13 @@ pub(crate) enum RowFormat {
     Json,
 }
 
-/// How long ago a node heard each owner, if rows are printed with that. A node of an older release does not know it.
-pub(crate) fn ages_for(rt: &HostRuntime, control: &str, format: RowFormat) -> Option<Ages> {
-    match format {
-        RowFormat::Text => None,
-        RowFormat::Json => ages_of(rt, control).ok(),
-    }
+/// What is asked of the ages of owners.
+#[derive(Clone, Copy)]
+pub(crate) struct AgeQuery {
+    /// Whether rows are printed with the ages of their owners.
+    pub(crate) are_shown: bool,
+    /// How many milliseconds ago an owner may have been heard at the most.
+    pub(crate) most: Option<u64>,
 }
 
 /// Prints the rows of a page, as JSON with the ages of their owners, if these are given. `NoMemory`; `WriteFailed`, with the
@@ -250,10 +251,9 @@ struct Printer<'r, 'a> {
     rt: &'r HostRuntime,
     control: &'a str,
     format: RowFormat,
-    /// Of the owners, as of before the first page.
+    /// Of the owners, as of before the first page, if it needs them.
     ages: Option<Ages>,
-    /// How many milliseconds ago an owner may have been heard at the most.
-    max_age: Option<u64>,
+    query: AgeQuery,
     output: Output<'r>,
 }
 
@@ -268,29 +268,31 @@ impl<'a> Pager for Printer<'_, 'a> {
 
     fn take(&mut self, page: &Rows) -> Result<(), Failure<'a>> {
         let ages = self.ages.as_ref();
-        match (ages, self.max_age) {
+        let shown = if self.query.are_shown { ages } else { None };
+        match (ages, self.query.most) {
             (Some(heard), Some(most)) => {
                 let fresh = fresh_page(self.rt.alloc(), page, heard, most)?;
-                print_page(self.rt, &mut self.output, &fresh, self.format, ages)?;
+                print_page(self.rt, &mut self.output, &fresh, self.format, shown)?;
             }
-            _ => print_page(self.rt, &mut self.output, page, self.format, ages)?,
+            _ => print_page(self.rt, &mut self.output, page, self.format, shown)?,
         }
         Ok(())
     }
 }
 
-/// Prints the asked rows of a node, page after page, from the first on, without those of owners that were not heard within
-/// `max_age` milliseconds. If it ends with a fault, the rows that it printed before stay printed.
+/// Prints the asked rows of a node, page after page, from the first on, without those of owners that are older than asked.
+/// If it ends with a fault, the rows that it printed before stay printed.
 pub(crate) fn print_all<'a>(
     rt: &HostRuntime,
     control: &'a str,
     asked: Ask,
     format: RowFormat,
-    max_age: Option<u64>,
+    query: AgeQuery,
 ) -> Result<(), Failure<'a>> {
-    let ages = match max_age {
-        Some(_) => Some(ages_of(rt, control)?),
-        None => ages_for(rt, control, format),
+    let ages = if query.are_shown || query.most.is_some() {
+        Some(ages_of(rt, control)?)
+    } else {
+        None
     };
     let output = Output::new(rt);
     let mut printer = Printer {
@@ -298,7 +300,7 @@ pub(crate) fn print_all<'a>(
         control,
         format,
         ages,
-        max_age,
+        query,
         output,
     };
     take_all(control, &mut printer, asked)

@@ -7,10 +7,10 @@ use sb_types::Fault;
 use std::os::unix::net::UnixStream;
 
 /// For how many milliseconds a node is asked to wait for a change.
-const WAIT: u64 = 30_000;
+const WAIT: u64 = 10_000;
 
 /// How many seconds a watch waits for its node at the most. That is longer than the node was asked to wait.
-const SECONDS_MOST: u64 = 60;
+const SECONDS_MOST: u64 = 20;
 
 /// After how many pauses a node that tells nothing is asked again whether it does.
 const PAUSES_WITHOUT: u64 = 25;

@@ -1,14 +1,14 @@
 //! What the program does for each command line.
 use crate::arguments::command;
-use crate::asking::{RowFormat, ages_of, print_all, put};
+use crate::asking::{AgeQuery, RowFormat, ages_of, print_all, put};
 use crate::batch::write_lines;
 use crate::beginning::{Start, begin_log};
 use crate::change_source::WatchPace;
 use crate::commands::{
-    AFTER, AGES_FROM, ALL, ASKED_CONTROL, ASKED_SOCK, ASKING_NAME, CONTROL, COUNT, EVERY, EXPLAIN,
-    FLOOR, FORMAT, FROM, KEY, KIND, LOG, LOG_CLUSTER, LOG_NAME, MARK, MAX_AGE, ONE_KEY, OWNER,
-    PEER_SOCK, PREFIX, RAW, RAW_VALUE, REMOVED_KEY, RETRY, STATUS_FORMAT, VALUE, VALUE_ALONE, WAIT,
-    lacks_control, repeated_option, serve_arguments, wrong_number,
+    AFTER, AGES, AGES_FROM, ALL, ASKED_CONTROL, ASKED_SOCK, ASKING_NAME, CONTROL, COUNT, EVERY,
+    EXPLAIN, FLOOR, FORMAT, FROM, KEY, KIND, LOG, LOG_CLUSTER, LOG_NAME, MARK, MAX_AGE, ONE_KEY,
+    OWNER, PEER_SOCK, PREFIX, RAW, RAW_VALUE, REMOVED_KEY, RETRY, STATUS_FORMAT, VALUE,
+    VALUE_ALONE, WAIT, lacks_control, repeated_option, serve_arguments, wrong_number,
 };
 use crate::failure::Failure;
 use crate::log_file::{Floor, print_log, purge_log};
@@ -218,16 +218,34 @@ fn format_of(word: &str) -> RowFormat {
     }
 }
 
+/// What is asked of the ages of owners.
+fn age_query_of(given: &ArgMatches<'_>) -> AgeQuery {
+    let most = match MAX_AGE.number_if_any(given) {
+        Some(seconds) => Some(seconds.saturating_mul(1_000)),
+        None => None,
+    };
+    AgeQuery {
+        are_shown: AGES.is_given(given),
+        most,
+    }
+}
+
+/// Prints what `--ages` needs. Returns the exit status.
+fn print_ages_format(rt: &HostRuntime) -> u8 {
+    let _ = eprintln!(rt; "error: give --ages only with --format json");
+    USAGE_STATUS
+}
+
 fn run_get<'a>(rt: &HostRuntime, given: &ArgMatches<'a>) -> Result<u8, Failure<'a>> {
     let format = format_of(FORMAT.value(given));
+    if AGES.is_given(given) && !matches!(format, RowFormat::Json) {
+        return Ok(print_ages_format(rt));
+    }
     match ONE_KEY.value_if_any(given) {
         Some(key) => run_get_one(rt, given, key, format),
         None => {
             let asked = asked_of(given)?;
-            let max_age = MAX_AGE
-                .number_if_any(given)
-                .map(|seconds| seconds.saturating_mul(1_000));
-            print_all(rt, CONTROL.value(given), asked, format, max_age)?;
+            print_all(rt, CONTROL.value(given), asked, format, age_query_of(given))?;
             Ok(0)
         }
     }

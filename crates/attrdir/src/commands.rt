@@ -121,6 +121,15 @@ pub(crate) const FORMAT: Part = Part {
     help: "Prints the words of each row, or a JSON object for each row",
 };
 
+/// It is the member `age`, in milliseconds. See [Ages](#ages).
+/// Left out: no ages
+pub(crate) const AGES: Part = Part {
+    name: "ages",
+    kind: Kind::FlagBeside("format", "key"),
+    value: "",
+    help: "Shows in each JSON object how long ago the node heard the owner; needs --format json",
+};
+
 /// An owner is heard if a new write of it comes. See [Ages](#ages).
 /// Greater: Rows of owners that have ended stay longer.
 /// Smaller: An owner that writes little is left out although it lives, unless it has a beat.
@@ -701,6 +710,7 @@ const GET_TASK: Task = Task {
         VALUE_ALONE,
         RAW_VALUE,
         MAX_AGE,
+        AGES,
         FORMAT,
     ],
 };

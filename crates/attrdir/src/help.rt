@@ -303,7 +303,7 @@ Example:
 
 pub(crate) const GET: &str =
     "Each row is a line: owner, key, version, kind and value, in ascending owner and then key. A removed key has no row. With --format json it is a
-JSON object of age, key, kind, owner, value and version. The age is how many milliseconds ago the node heard the owner. There the value of an addr or a text is a string, of a weight a number, and of a flag true
+JSON object of key, kind, owner, value and version, and with --ages of age too: how many milliseconds ago the node heard the owner. There the value of an addr or a text is a string, of a weight a number, and of a flag true
 or false. Rows of other owners are as far as the node has heard of them. Rows come page by page: each page is one state of the node, and no
 page is older than the page before.
 

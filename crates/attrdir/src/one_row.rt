@@ -3,7 +3,7 @@ ghost use Rattle.std.specs.Prelude.{◌≡◌};
 ghost use Rattle.std.specs.Option.{option_copied};
 ghost use Rattle.attrdir.specs.Rows as spec;
 
-use crate::asking::{RowFormat, ages_for, first_page_of, print_page};
+use crate::asking::{RowFormat, first_page_of, print_page};
 use crate::failure::Failure;
 use crate::output::Output;
 use sb_codec::{Ask, Row, Rows};
@@ -92,8 +92,7 @@ pub(crate) fn print_one<'a>(
     match query.portion {
         Portion::Row(format) => {
             let page = page_with(rt.alloc(), row)?;
-            let ages = ages_for(rt, control, format);
-            print_page(rt, &mut Output::new(rt), &page, format, ages.as_ref())?;
+            print_page(rt, &mut Output::new(rt), &page, format, None)?;
         }
         Portion::Value => print_value(rt, row.value(), false)?,
         Portion::RawValue => print_value(rt, row.value(), true)?,
