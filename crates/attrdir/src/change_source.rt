@@ -1,4 +1,4 @@
-//! Where a watch learns that something may have changed: its node tells it, or enough time has passed.
+//! How a watch learns that something may have changed: its node reports that, or enough time has passed.
 use crate::asking::noting_stream;
 use crate::pausing::{Pauses, Wake};
 use crate::socket_stamp::{SocketStamp, stamp_of};
@@ -12,7 +12,7 @@ const WAIT: u64 = 10_000;
 /// How many seconds a watch waits for its node at the most. That is longer than the node was asked to wait.
 const SECONDS_MOST: u64 = 20;
 
-/// After how many pauses a node that tells nothing is asked again whether it does.
+/// After how many pauses a node that reports no changes is asked again whether it does.
 const PAUSES_WITHOUT: u64 = 25;
 
 /// How a watch waits between two askings.
@@ -26,14 +26,14 @@ pub(crate) struct WatchPace {
     pub(crate) is_told: bool,
 }
 
-/// A connection over which a node tells of the next change, and the socket that it was made to.
+/// A connection over which a node reports the next change, and the socket that it was made to.
 #[derive(Drop)]
 struct Told {
     stream: UnixStream,
     stamp: Option<SocketStamp>,
 }
 
-/// Where a watch learns that something may have changed.
+/// The source from which a watch learns that something may have changed.
 #[derive(Drop)]
 pub(crate) struct ChangeSource<'r, 'a> {
     rt: &'r HostRuntime,

@@ -73,7 +73,7 @@ pub enum Message {
     AskStatus(AskStatus),
     /// The answer to an AskStatus.
     NodeStatus(NodeStatus),
-    /// The question to tell of the next change.
+    /// The question for the next change.
     AskChange(AskChange),
     /// An answer to an AskChange.
     Notice(Notice),

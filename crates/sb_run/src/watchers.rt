@@ -114,8 +114,8 @@ impl WatcherList {
         }
     }
 
-    /// Watches for a caller, tells it so, and lets it wait. If there is no watch for it, it is told why, and its connection is
-    /// closed. `ReadFailed`, `WriteFailed` or `NoMemory` if it cannot be told; each closes its connection.
+    /// Watches for a caller, reports that to it, and lets it wait. If the directory has no watch for it, it gets that fault, and its
+    /// connection is closed. `ReadFailed`, `WriteFailed` or `NoMemory` if it cannot get an answer; each closes its connection.
     pub(crate) fn admit<S: RoundsTag, H: Wait + Drop, Q: Wait + Clock>(
         &mut self,
         node: &NodeContext<S, H, Q>,
@@ -176,8 +176,8 @@ impl WatcherList {
         }
     }
 
-    /// Tells each caller for whom something changed, and each whose time is over, and closes their connections. Gives how many
-    /// could not be told.
+    /// Answers each caller for whom something changed, and each whose time is over, and closes their connections. Returns how many
+    /// did not get their answer.
     pub(crate) fn answer<S: RoundsTag, H: Wait + Drop, Q: Wait + Clock>(
         &mut self,
         node: &NodeContext<S, H, Q>,
@@ -233,7 +233,7 @@ fn place_of(all: &[Watcher], number: usize) -> Option<usize>
     all.iter().position(|watcher| watcher.number == number)
 }
 
-/// What a caller with this watch is told; none if it is to wait on. `has_notes` says whether any watch has a note. If what happened
+/// The answer for a caller with this watch; none if it is to wait on. `has_notes` says whether any watch has a note. If what happened
 /// could not be published, it waits on until its time is over.
 fn answer_to<S: RoundsTag, H: Wait + Drop, Q: Wait>(
     node: &NodeContext<S, H, Q>,

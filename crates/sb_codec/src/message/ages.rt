@@ -34,7 +34,7 @@ impl OwnerAge {
     }
 }
 
-/// Owners with their ages, in ascending order of the owners' names. There may be none. The payload has at most 65,530
+/// Owners with their ages, in ascending order of the owners' names. The list may be empty. The payload has at most 65,530
 /// bytes.
 #[derive(Debug, Drop)]
 pub struct Ages {

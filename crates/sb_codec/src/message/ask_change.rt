@@ -1,8 +1,8 @@
-//! The question to tell of the next change.
+//! The question for the next change.
 
 use sb_types::{Name, Prefix};
 
-/// Asks a node to tell of the next change of rows:
+/// Asks a node to report the next change of rows:
 ///
 /// - of the owner, or of every owner if there is none;
 /// - whose keys begin with the prefix.

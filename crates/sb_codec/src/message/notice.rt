@@ -1,4 +1,4 @@
-//! The answers to the question to tell of the next change.
+//! The answers to the question for the next change.
 
 ghost use Rattle.std.specs.Prelude.{◌≡◌};
 ghost use Rattle.sb_codec.specs.Spelling.{number_of_notice};
