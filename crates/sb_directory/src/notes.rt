@@ -5,7 +5,7 @@ ghost use Rattle.sb_directory.specs.Notes as spec;
 use sb_holdings::Holdings;
 use sb_table::Table;
 use sb_types::{Block, Entry, Fault, Name};
-use sb_watch::{Hub, Note};
+use sb_watch::{Hub, Note, Subject};
 use std::alloc::Global;
 
 /// Notes a write in watches.
@@ -14,7 +14,7 @@ pub(crate) fn push_note(hub: &mut Hub, owner: &Name, entry: &Entry)
 {
     hub.push(&Note {
         owner: *owner,
-        key: Some(*entry.key()),
+        subject: Subject::Key(*entry.key()),
         version: entry.version(),
     });
 }
@@ -26,7 +26,7 @@ fn push_clear(hub: &mut Hub, owner: &Name, table: &Table, version: u64)
     if table.floor() > version {
         hub.push(&Note {
             owner: *owner,
-            key: None,
+            subject: Subject::Table,
             version: table.upto(),
         });
     }

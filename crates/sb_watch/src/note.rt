@@ -6,16 +6,25 @@ ghost use Rattle.sb_watch.specs.Watches as spec;
 use sb_types::{Key, Name, Prefix};
 use std::marker::Model;
 
-/// What a watch receives of a change: the owner, the key and the version. Without a key the owner's table was taken anew:
-/// each of its keys may have changed, or be gone. Values are read where values are read.
+/// What a note is about.
+#[derive(Clone, Copy, Debug, PartialEq, Eq)]
+pub enum Subject {
+    /// What the owner has under this key.
+    Key(Key),
+    /// All that the owner has: its table was taken anew, so each key may have changed, or be gone.
+    Table,
+}
+
+/// What a watch receives of a change: whose it is, what it is about, and the version. Values are read where values are
+/// read.
 #[derive(Clone, Copy, Debug, PartialEq, Eq)]
 pub struct Note {
     pub owner: Name,
-    pub key: Option<Key>,
+    pub subject: Subject,
     pub version: u64,
 }
 
-/// Which notes a watch is for: those whose keys begin with the prefix, and those without a key, of this owner, or of all
+/// Which notes a watch is for: those whose keys begin with the prefix, and those of whole tables, of this owner, or of all
 /// owners if none is named.
 #[derive(Clone, Copy, Debug)]
 pub struct Filter {
@@ -33,9 +42,9 @@ impl Filter {
                 return false;
             }
         }
-        match &note.key {
-            Some(key) => key.bytes().starts_with(self.prefix.bytes()),
-            None => true,
+        match &note.subject {
+            Subject::Key(key) => key.bytes().starts_with(self.prefix.bytes()),
+            Subject::Table => true,
         }
     }
 }
