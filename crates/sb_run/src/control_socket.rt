@@ -290,15 +290,11 @@ impl<S: RoundsTag, H: Wait + Drop, Q: Wait + Clock> NodeContext<'_, S, H, Q> {
         seat: ReaderSeat<S>,
     ) -> ReaderSeat<S> {
         let mut seat = seat;
-        let uptime = self.counts.uptime(self.rt);
+        let (uptime, ages) = (self.counts.uptime(self.rt), self.heard.known_ages(self.rt));
         let keys = self.directory.key_count(self.rt, &mut seat);
         let conflict = self.directory.conflict(self.rt, &mut seat);
         let at_zero = match owners_at_zero(self, &mut seat) {
             Ok(owners) => owners,
-            Err(_) => Vec::new(self.alloc),
-        };
-        let ages = match self.heard.ages(self.rt) {
-            Ok(ages) => ages,
             Err(_) => Vec::new(self.alloc),
         };
         match seat.enter() {

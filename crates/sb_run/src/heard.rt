@@ -54,6 +54,14 @@ impl HeardTimes {
         }
     }
 
+    /// The same as `ages`, or nothing if memory is missing.
+    pub(crate) fn known_ages<Q: Wait + Clock>(&self, rt: &Q) -> Vec<OwnerAge> {
+        match self.ages(rt) {
+            Ok(ages) => ages,
+            Err(_) => Vec::new(self.alloc),
+        }
+    }
+
     /// How many milliseconds ago each owner was heard, in ascending order of the names. `NoMemory`.
     pub(crate) fn ages<Q: Wait + Clock>(&self, rt: &Q) -> Result<Vec<OwnerAge>, Fault>
         ensures memory { IfErr result (λ fault. fault ≡ Fault.NoMemory) }
