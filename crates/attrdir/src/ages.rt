@@ -38,13 +38,25 @@ pub(crate) fn fresh_page(
     Rows::new(page.more(), rows)
 }
 
-/// The line of a row as JSON, with the age of its owner as the first member. `NoMemory`.
-fn aged_line(alloc: Global, row: &Row, age: u64) -> Result<Vec<u8>, Fault> {
-    let page = Rows::new(false, vec![in alloc; copy_of(alloc, row)?]?)?;
+/// The line of a row as JSON. `NoMemory`.
+fn line_of(alloc: Global, row: &Row) -> Result<Vec<u8>, Fault> {
+    let copy = copy_of(alloc, row)?;
+    let page = Rows::new(false, vec![in alloc; copy]?)?;
     let mut line = Vec::new(alloc);
-    print_json_rows(alloc, &mut line, &page).0?;
+    let (printed, _) = print_json_rows(alloc, &mut line, &page);
+    printed?;
+    Ok(line)
+}
+
+/// The line of a row as JSON, with the age of its owner as the first member, if that is known. `NoMemory`.
+fn aged_line(alloc: Global, row: &Row, age: Option<u64>) -> Result<Vec<u8>, Fault> {
+    let line = line_of(alloc, row)?;
+    let Some(age) = age else {
+        return Ok(line);
+    };
+    let front = format!(in alloc; "{{\"age\":{age},")?;
     let mut aged = Vec::new(alloc);
-    aged.extend_from_slice(format!(in alloc; "{{\"age\":{age},")?.as_bytes())?;
+    aged.extend_from_slice(front.as_bytes())?;
     aged.extend_from_slice(line.get(1..).unwrap_or(&[]))?;
     Ok(aged)
 }
@@ -59,13 +71,8 @@ pub(crate) fn print_aged(
 ) -> Result<(), Fault> {
     let mut lines = Vec::new(alloc);
     for row in page.rows() {
-        match age_of(ages, row.owner()) {
-            Some(age) => lines.extend_from_slice(&aged_line(alloc, row, age)?)?,
-            None => {
-                let one = Rows::new(false, vec![in alloc; copy_of(alloc, row)?]?)?;
-                print_json_rows(alloc, &mut lines, &one).0?;
-            }
-        }
+        let line = aged_line(alloc, row, age_of(ages, row.owner()))?;
+        lines.extend_from_slice(&line)?;
     }
     match output.write_all(&lines) {
         Ok(()) => Ok(()),
