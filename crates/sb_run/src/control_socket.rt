@@ -95,8 +95,8 @@ impl<S: RoundsTag, H: Wait + Drop, Q: Wait + Clock> NodeContext<'_, S, H, Q> {
 }
 
 impl<S: RoundsTag, H: Wait + Drop, Q: Wait + Clock> NodeContext<'_, S, H, Q> {
-    /// Tells the threads that dial, and those who wait for a change, of a write that the last request made, and the observer of a log that it closed. Whether the node
-    /// is to end with that.
+    /// Reports a write that the last request made to the threads that dial and to those who wait for a change, and to the observer
+    /// that a log closed. Whether the node is to end with that.
     fn report_writes<L: WriteLog, O: Observer>(
         &self,
         writes: &mut OwnWrites<L>,

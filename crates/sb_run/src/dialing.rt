@@ -59,8 +59,8 @@ pub(crate) fn digests_of_all<S: RoundsTag, H: Wait + Drop, Q: Wait>(
     })
 }
 
-/// The gate of sessions with peers that were dialed. It turns nobody away. If a session brings something new, it rings the bell and
-/// has those told who wait for a change.
+/// The gate of sessions with peers that were dialed. It turns nobody away. If a session brings something new, it rings the bell,
+/// and those who wait for a change hear of it.
 #[derive(Drop)]
 struct DialedGate<'a, 'b, S: RoundsTag, H: Wait + Drop, Q> {
     node: &'a NodeContext<'b, S, H, Q>,

@@ -14,27 +14,49 @@ struct HeardOwner {
     at: Instant,
 }
 
+/// How many owners have a time: all that a node may hold, and itself.
+const HEARD_MOST: usize = OWNERS_MOST + 1;
+
+/// When each owner was heard last, in ascending order of the names.
+#[derive(Drop)]
+struct HeardList {
+    all: Vec<HeardOwner>,
+}
+
+impl HeardList {
+    /// Notes that an owner was heard at this time. An owner for which there is no memory gets no time.
+    fn note(&mut self, owner: &Name, at: Instant) {
+        match self.all.binary_search_by_key(owner, |heard| heard.owner) {
+            Ok(place) => self.all[place].at = at,
+            Err(place) => {
+                if self.all.len() < HEARD_MOST {
+                    let _ = self.all.insert(place, HeardOwner { owner: *owner, at });
+                }
+            }
+        }
+    }
+
+    /// How many milliseconds before this time each owner was heard. `NoMemory`.
+    fn ages(&self, alloc: Global, now: Instant) -> Result<Vec<OwnerAge>, Fault>
+        ensures memory { IfErr result (λ fault. fault ≡ Fault.NoMemory) }
+    {
+        let mut ages = Vec::new(alloc);
+        for heard in &self.all {
+            let passed = now.saturating_duration_since(heard.at).as_millis();
+            ages.push(OwnerAge {
+                owner: heard.owner,
+                age: u64::try_from(passed).unwrap_or(u64::MAX),
+            })?;
+        }
+        Ok(ages)
+    }
+}
+
 /// When each owner was heard last, by the clock of the node.
 #[derive(Drop)]
 pub(crate) struct HeardTimes {
     alloc: Global,
-    /// In ascending order of the names.
-    owners: Mutex<Vec<HeardOwner>>,
-}
-
-/// How many owners have a time: all that a node may hold, and itself.
-const HEARD_MOST: usize = OWNERS_MOST + 1;
-
-/// Notes that an owner was heard at this time. An owner for which there is no memory gets no time.
-fn note_at(owners: &mut Vec<HeardOwner>, owner: &Name, at: Instant) {
-    match owners.binary_search_by_key(owner, |heard| heard.owner) {
-        Ok(place) => owners[place].at = at,
-        Err(place) => {
-            if owners.len() < HEARD_MOST {
-                let _ = owners.insert(place, HeardOwner { owner: *owner, at });
-            }
-        }
-    }
+    owners: Mutex<HeardList>,
 }
 
 impl HeardTimes {
@@ -42,15 +64,16 @@ impl HeardTimes {
     pub(crate) fn new(alloc: Global) -> HeardTimes {
         HeardTimes {
             alloc,
-            owners: Mutex::new(Vec::new(alloc)),
+            owners: Mutex::new(HeardList {
+                all: Vec::new(alloc),
+            }),
         }
     }
 
     /// Notes that an owner is heard now.
     pub(crate) fn note<Q: Wait + Clock>(&self, rt: &Q, owner: &Name) {
         if let Ok(now) = Instant::now(rt) {
-            let mut owners = self.owners.lock(rt);
-            note_at(&mut owners, owner, now);
+            self.owners.lock(rt).note(owner, now);
         }
     }
 
@@ -66,18 +89,9 @@ impl HeardTimes {
     pub(crate) fn ages<Q: Wait + Clock>(&self, rt: &Q) -> Result<Vec<OwnerAge>, Fault>
         ensures memory { IfErr result (λ fault. fault ≡ Fault.NoMemory) }
     {
-        let mut ages = Vec::new(self.alloc);
-        let Ok(now) = Instant::now(rt) else {
-            return Ok(ages);
-        };
-        let owners = self.owners.lock(rt);
-        for heard in owners.iter() {
-            let passed = now.saturating_duration_since(heard.at).as_millis();
-            ages.push(OwnerAge {
-                owner: heard.owner,
-                age: u64::try_from(passed).unwrap_or(u64::MAX),
-            })?;
+        match Instant::now(rt) {
+            Ok(now) => self.owners.lock(rt).ages(self.alloc, now),
+            Err(_) => Ok(Vec::new(self.alloc)),
         }
-        Ok(ages)
     }
 }

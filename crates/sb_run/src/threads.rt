@@ -561,8 +561,8 @@ impl<S: RoundsTag, H: Wait + Drop, Q> NodeContext<'_, S, H, Q> {
     }
 }
 
-/// A gate that turns nobody away, counts each session, its fault and each gap. If a session brings something new, it rings the bell
-/// and has those told who wait for a change.
+/// A gate that turns nobody away, counts each session, its fault and each gap. If a session brings something new, it rings the bell,
+/// and those who wait for a change hear of it.
 #[derive(Drop)]
 pub(crate) struct NodeGate<'a, 'b, S: RoundsTag, H: Wait + Drop, Q> {
     pub(crate) node: &'a NodeContext<'b, S, H, Q>,
