@@ -10,8 +10,7 @@ use Rattle.sb_types.specs.declared.fault.Fault.TheVariants.{UnknownKind, Malform
 use Rattle.sb_types.specs.Faults.{Gives}
 use Rattle.sb_codec.specs.declared.message.Message.{Message}
 use Rattle.sb_codec.specs.declared.message.Message.TheVariants.{Hello, Digest, Delta, Bye, Ask, Rows, Put, Done, Refused, AskStatus, NodeStatus, AskChange, Notice, AskAges, Ages}
-use Rattle.sb_types.specs.declared.format.TheConstants.{KIND_HELLO, KIND_DIGEST, KIND_DELTA, KIND_BYE, KIND_ASK, KIND_ROWS, KIND_PUT, KIND_DONE, KIND_REFUSED, KIND_ASK_STATUS, KIND_NODE_STATUS}
-use Rattle.sb_codec.specs.declared.kinds.TheConstants.{KIND_ASK_CHANGE, KIND_NOTICE, KIND_ASK_AGES, KIND_AGES}
+use Rattle.sb_types.specs.declared.format.TheConstants.{KIND_HELLO, KIND_DIGEST, KIND_DELTA, KIND_BYE, KIND_ASK, KIND_ROWS, KIND_PUT, KIND_DONE, KIND_REFUSED, KIND_ASK_STATUS, KIND_NODE_STATUS, KIND_ASK_CHANGE, KIND_NOTICE, KIND_ASK_AGES, KIND_AGES}
 use Rattle.sb_codec.specs.Fields.{AreBytes, byte_field, case_field, whole_value}
 use Rattle.sb_codec.specs.Messages.{spelling, is_message, Spells, IsSole, is_kind, fault_of, message_cases, message_field, reading}
 use Rattle.sb_codec.proofs.Taken.{Takes, tagged_takes, made_case, given_case}

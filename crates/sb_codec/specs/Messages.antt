@@ -7,8 +7,7 @@ use Rattle.sb_types.specs.Limits.{is_delta}
 use Rattle.sb_digest.specs.Limits.{is_digest}
 use Rattle.sb_codec.specs.declared.message.Message.{Message}
 use Rattle.sb_codec.specs.declared.message.Message.TheVariants.{Hello, Digest, Delta, Bye, Ask, Rows, Put, Done, Refused, AskStatus, NodeStatus, AskChange, Notice, AskAges, Ages}
-use Rattle.sb_types.specs.declared.format.TheConstants.{KIND_HELLO, KIND_DIGEST, KIND_DELTA, KIND_BYE, KIND_ASK, KIND_ROWS, KIND_PUT, KIND_DONE, KIND_REFUSED, KIND_ASK_STATUS, KIND_NODE_STATUS}
-use Rattle.sb_codec.specs.declared.kinds.TheConstants.{KIND_ASK_CHANGE, KIND_NOTICE, KIND_ASK_AGES, KIND_AGES}
+use Rattle.sb_types.specs.declared.format.TheConstants.{KIND_HELLO, KIND_DIGEST, KIND_DELTA, KIND_BYE, KIND_ASK, KIND_ROWS, KIND_PUT, KIND_DONE, KIND_REFUSED, KIND_ASK_STATUS, KIND_NODE_STATUS, KIND_ASK_CHANGE, KIND_NOTICE, KIND_ASK_AGES, KIND_AGES}
 use Rattle.sb_codec.specs.Limits.{is_hello, is_reason, is_ask, is_page, is_write, is_version, is_fault_number, is_count, is_status, is_ask_change, are_ages}
 use Rattle.std.specs.Int.{w64}
 use Rattle.sb_types.specs.Text.{is_between}

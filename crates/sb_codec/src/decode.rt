@@ -8,13 +8,13 @@ ghost use Rattle.sb_codec.specs.Messages.{Spells, IsSole, TakesMemory, is_kept_i
 ghost use Rattle.sb_codec.specs.Refusal.{ReadsWhole};
 
 use crate::fields::Fields;
-use crate::kinds::{KIND_AGES, KIND_ASK_AGES, KIND_ASK_CHANGE, KIND_NOTICE};
 use crate::message::Message;
 use crate::refusal::Refusal;
 use bytes::Bytes;
 use sb_types::{
-    Fault, KIND_ASK, KIND_ASK_STATUS, KIND_BYE, KIND_DELTA, KIND_DIGEST, KIND_DONE, KIND_HELLO,
-    KIND_NODE_STATUS, KIND_PUT, KIND_REFUSED, KIND_ROWS,
+    Fault, KIND_AGES, KIND_ASK, KIND_ASK_AGES, KIND_ASK_CHANGE, KIND_ASK_STATUS, KIND_BYE,
+    KIND_DELTA, KIND_DIGEST, KIND_DONE, KIND_HELLO, KIND_NODE_STATUS, KIND_NOTICE, KIND_PUT,
+    KIND_REFUSED, KIND_ROWS,
 };
 use std::alloc::Global;
 

@@ -7,7 +7,6 @@ ghost use Rattle.sb_codec.specs.Spelling.{flag, list, optional_text, pair, figur
 ghost use Rattle.sb_codec.specs.Messages.{Spells, IsSole, spelling, is_message};
 ghost use Rattle.sb_codec.specs.Standing.{StandsFirst};
 
-use crate::kinds::{KIND_AGES, KIND_ASK_AGES, KIND_ASK_CHANGE, KIND_NOTICE};
 use crate::lengths::payload_length;
 use crate::message::{
     Ages, Ask, AskChange, AskStatus, Bye, Done, Hello, Message, NodeStatus, Notice, Refused, Rows,
@@ -18,8 +17,9 @@ use crate::writing::{
 };
 use sb_digest::Digest;
 use sb_types::{
-    Delta, Fault, KIND_ASK, KIND_ASK_STATUS, KIND_BYE, KIND_DELTA, KIND_DIGEST, KIND_DONE,
-    KIND_HELLO, KIND_NODE_STATUS, KIND_PUT, KIND_REFUSED, KIND_ROWS, Name, Write,
+    Delta, Fault, KIND_AGES, KIND_ASK, KIND_ASK_AGES, KIND_ASK_CHANGE, KIND_ASK_STATUS, KIND_BYE,
+    KIND_DELTA, KIND_DIGEST, KIND_DONE, KIND_HELLO, KIND_NODE_STATUS, KIND_NOTICE, KIND_PUT,
+    KIND_REFUSED, KIND_ROWS, Name, Write,
 };
 use std::alloc::{AllocError, Global};
 

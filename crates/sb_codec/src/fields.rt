@@ -14,7 +14,6 @@ ghost use Rattle.sb_codec.specs.Reading.{ask_status_field, short_text_field, ide
 ghost use Rattle.sb_codec.specs.Reading.{ask_change_field, notice_field, age_field, ages_field};
 ghost use Rattle.sb_codec.specs.Messages.{message_field, TakesMemory};
 
-use crate::kinds::{KIND_AGES, KIND_ASK_AGES, KIND_ASK_CHANGE, KIND_NOTICE};
 use crate::list_item::ListItem;
 use crate::message::{
     Ages, Ask, AskChange, AskStatus, Bye, Done, Figure, Hello, Message, NodeIdentity, NodeStatus,
@@ -23,9 +22,10 @@ use crate::message::{
 use crate::refusal::Refusal;
 use sb_digest::{Digest, Pair};
 use sb_types::{
-    Block, ContentRef, Delta, Entry, Form, KIND_ASK, KIND_ASK_STATUS, KIND_BYE, KIND_DELTA,
-    KIND_DIGEST, KIND_DONE, KIND_HELLO, KIND_NODE_STATUS, KIND_PUT, KIND_REFUSED, KIND_ROWS, Key,
-    Kind, Name, Prefix, ShortText, Slot, TAG_REMOVED, Value, Write,
+    Block, ContentRef, Delta, Entry, Form, KIND_AGES, KIND_ASK, KIND_ASK_AGES, KIND_ASK_CHANGE,
+    KIND_ASK_STATUS, KIND_BYE, KIND_DELTA, KIND_DIGEST, KIND_DONE, KIND_HELLO, KIND_NODE_STATUS,
+    KIND_NOTICE, KIND_PUT, KIND_REFUSED, KIND_ROWS, Key, Kind, Name, Prefix, ShortText, Slot,
+    TAG_REMOVED, Value, Write,
 };
 use std::alloc::Global;
 use std::marker::Model;

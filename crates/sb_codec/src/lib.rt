@@ -35,7 +35,6 @@
 mod decode;
 mod encode;
 mod fields;
-mod kinds;
 mod lengths;
 mod list_item;
 mod message;
@@ -45,7 +44,6 @@ mod writing;
 
 pub use decode::{decode_payload, decode_shared, takes_memory};
 pub use encode::{append_payload, encode_payload};
-pub use kinds::{KIND_AGES, KIND_ASK_AGES, KIND_ASK_CHANGE, KIND_NOTICE};
 pub use lengths::length;
 pub use message::{
     Ages, Ask, AskChange, AskStatus, Bye, Done, Figure, FigureKind, Hello, Message, NodeIdentity,

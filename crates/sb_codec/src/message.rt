@@ -18,7 +18,6 @@ mod peer_status;
 mod refused;
 mod rows;
 
-use crate::kinds::{KIND_AGES, KIND_ASK_AGES, KIND_ASK_CHANGE, KIND_NOTICE};
 pub use ages::{Ages, OwnerAge};
 pub use ask::Ask;
 pub use ask_change::AskChange;
@@ -35,8 +34,9 @@ pub use refused::Refused;
 pub use rows::{Row, Rows};
 use sb_digest::Digest;
 use sb_types::{
-    Delta, KIND_ASK, KIND_ASK_STATUS, KIND_BYE, KIND_DELTA, KIND_DIGEST, KIND_DONE, KIND_HELLO,
-    KIND_NODE_STATUS, KIND_PUT, KIND_REFUSED, KIND_ROWS, Write,
+    Delta, KIND_AGES, KIND_ASK, KIND_ASK_AGES, KIND_ASK_CHANGE, KIND_ASK_STATUS, KIND_BYE,
+    KIND_DELTA, KIND_DIGEST, KIND_DONE, KIND_HELLO, KIND_NODE_STATUS, KIND_NOTICE, KIND_PUT,
+    KIND_REFUSED, KIND_ROWS, Write,
 };
 
 /// A message between two nodes, or between a control socket and its caller.

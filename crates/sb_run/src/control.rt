@@ -15,16 +15,15 @@ ghost use Rattle.sb_run.specs.OneMessage.{ReceivesOne, Asks};
 
 use crate::own_writes::OwnWrites;
 use crate::pool::Serving;
-use sb_codec::{
-    Ask, Done, KIND_AGES, KIND_ASK_AGES, KIND_ASK_CHANGE, KIND_NOTICE, Message, Refused,
-};
+use sb_codec::{Ask, Done, Message, Refused};
 use sb_directory::{DirectoryTag, EnteredSeat, ReaderSeat};
 use sb_frames::{Connection, send};
 use sb_log::WriteLog;
 use sb_query::answer;
 use sb_types::{
-    Fault, KIND_ASK_STATUS, KIND_BYE, KIND_DELTA, KIND_DIGEST, KIND_DONE, KIND_HELLO,
-    KIND_NODE_STATUS, KIND_REFUSED, KIND_ROWS, Key, Settings, Slot,
+    Fault, KIND_AGES, KIND_ASK_AGES, KIND_ASK_CHANGE, KIND_ASK_STATUS, KIND_BYE, KIND_DELTA,
+    KIND_DIGEST, KIND_DONE, KIND_HELLO, KIND_NODE_STATUS, KIND_NOTICE, KIND_REFUSED, KIND_ROWS,
+    Key, Settings, Slot,
 };
 use sb_views::NodeTag;
 use std::alloc::Global;

@@ -6,11 +6,11 @@ ghost use Rattle.sb_session.specs.Pushes.{first_refusal, TakesFirst};
 
 use crate::handler::Handler;
 use crate::replies::Replies;
-use sb_codec::{Hello, KIND_AGES, KIND_ASK_AGES, KIND_ASK_CHANGE, KIND_NOTICE, Message};
+use sb_codec::{Hello, Message};
 use sb_digest::Digest;
 use sb_types::{
-    Fault, KIND_ASK, KIND_ASK_STATUS, KIND_DONE, KIND_NODE_STATUS, KIND_PUT, KIND_REFUSED,
-    KIND_ROWS, Name,
+    Fault, KIND_AGES, KIND_ASK, KIND_ASK_AGES, KIND_ASK_CHANGE, KIND_ASK_STATUS, KIND_DONE,
+    KIND_NODE_STATUS, KIND_NOTICE, KIND_PUT, KIND_REFUSED, KIND_ROWS, Name,
 };
 use std::marker::Model;
 

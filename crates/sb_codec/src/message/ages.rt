@@ -5,9 +5,9 @@ ghost use Rattle.std.specs.List.{list_all};
 ghost use Rattle.sb_codec.specs.Lengths.{age_length, ages_length};
 ghost use Rattle.sb_codec.specs.Limits.{is_age, are_ages_above, are_owner_ages, are_ages};
 
-use crate::kinds::KIND_AGES;
 use sb_types::{
-    BYTE_LENGTH, COUNT_LENGTH, Fault, NAME_LENGTH_MOST, NUMBER_LENGTH, Name, PAYLOAD_MOST,
+    BYTE_LENGTH, COUNT_LENGTH, Fault, KIND_AGES, NAME_LENGTH_MOST, NUMBER_LENGTH, Name,
+    PAYLOAD_MOST,
 };
 use std::marker::Model;
 
