@@ -1,6 +1,7 @@
 -- Notes pushed into watches one by one, and owner by owner.
 use Rattle.std.proofs.Common.{◌≡◌, ℕ, ◌≤◌, Bool, true, false, cond, List, [], ◌∷◌, ◌++◌, map, Option, Some, None, unwrap_or, inl, inr, refl, sym, ap, ◌∙◌, append_assoc, append-nil, le-leb, arith}
 use Rattle.std.specs.Prelude.{nat_lt}
+use Rattle.std.proofs.lemmas.Bool.{le-ltb}
 use Rattle.std.specs.List.{AllByRecursion}
 use Rattle.std.specs.Option.{option_map}
 use Rattle.std.specs.FinMap.{get}
@@ -65,7 +66,7 @@ telling_all-goes_on held from all hub new p rest t is found step =
 
 -- an owner that is not held has no floor
 not-cleared : (version : ℕ) → nat_lt version 0 ≡ false
-not-cleared version = refl
+not-cleared version = le-ltb version 0 (omega arith)
 
 pub telling_all-passes : (held : Held) (from : Hub) (all : List (List ℕ × ℕ)) (hub : Hub) (p : List ℕ × ℕ) (rest : List (List ℕ × ℕ))
     → IsTellingAll held from all hub (p ∷ rest) → None ≡ table_of held p.0 → IsTellingAll held from all hub rest
