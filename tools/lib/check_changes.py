@@ -1,4 +1,4 @@
-"""The parts of tools/check-node that look at watches that wait: how soon a line comes, tables that were taken anew, restarts, more callers than a
+"""The parts of tools/check-node that look at watches that wait: how soon a line comes, tables that were replaced, restarts, more callers than a
 node watches for, the messages themselves, the ages of owners, and beats."""
 import json
 import statistics
@@ -102,7 +102,7 @@ def many(check):
 
 
 def cleared(check):
-    """A table that is taken anew without a new entry is a change of its owner under each prefix."""
+    """A table that is replaced without a new entry is a change of its owner under each prefix."""
     node = check.node("a").start()
     tell(node, "p", 0, ("x", 1, 10), ("y", 2, 20))
     watch = Watching(node, "--prefix", "x")

@@ -122,7 +122,7 @@ pub(crate) fn unanswered<'a>(control: &'a str, reason: NoAnswer) -> Failure<'a> 
     }
 }
 
-/// A connection over which the node tells of the next change, which it notes from here on. Whatever comes over it next says
+/// A connection over which the node reports the next change, which it notes from here on. Whatever comes over it next says
 /// that something may have changed. The faults of `answer_of`; the node's refusal.
 pub(crate) fn noting_stream<'a>(
     rt: &HostRuntime,

@@ -209,7 +209,7 @@ fn forgotten_of<'a>(
     Ok(names)
 }
 
-/// The beat of a node, if it has one. `BadKey` if the word of its key is none.
+/// The beat of a node, if it has one. `BadKey` if its word is not a key.
 fn beat_of<'a>(given: &ServeArguments<'a>) -> Result<Option<Beat>, Failure<'a>> {
     let word = given.beat_key;
     let Ok(key) = Key::read(word.as_bytes()) else {

@@ -12,7 +12,7 @@ use Rattle.sb_watch.specs.Hubs.{with_push}
 abbrev pub note_of : List ℕ → Entry → Note
 note_of owner e = record { owner = owner; subject = subjects.Key e.key; version = e.version }
 
--- of a table that was taken anew: whose it is, and up to which version it is held
+-- of a table that was replaced: whose it is, and up to which version it is held
 abbrev pub clear_of : List ℕ → Table → Note
 clear_of owner t = record { owner = owner; subject = subjects.Table; version = t.held }
 
@@ -25,7 +25,7 @@ with_notes hub (n ∷ ns) = with_notes (with_push hub n) ns
 abbrev pub entry_notes : ℕ → List ℕ → Table → List Note
 entry_notes version owner t = map (note_of owner) (newer_entries version t.entries)
 
--- of an owner whose table was taken anew: its floor is above the version up to which it was held
+-- of an owner whose table was replaced: its floor is above the version up to which it was held
 abbrev pub clear_notes : ℕ → List ℕ → Table → List Note
 clear_notes version owner t = if nat_lt version t.floor then clear_of owner t ∷ [] else []
 
@@ -41,7 +41,7 @@ notes_since versions held = flat_map (λ p. owner_notes p.1 p.0 (shown_of held p
 abbrev pub versions_of : Held → List Block → List (List ℕ × ℕ)
 versions_of held blocks = map (λ b. (b.owner, (shown_of held b.owner).held)) blocks
 
--- of what these blocks changed: of the owner of each what is held now and was not before, and whether its table was taken anew
+-- of what these blocks changed: of the owner of each what is held now and was not before, and whether its table was replaced
 abbrev pub notes_of_blocks : List Block → Held → Held → List Note
 notes_of_blocks blocks old new = notes_since (versions_of old blocks) new
 

@@ -160,7 +160,7 @@ impl<S: DirectoryTag, R: Wait + Drop> Directory<S, R> {
         self.node.lock(rt).take_own(seat, committed)
     }
 
-    /// Takes each block of a delta in turn, notes in watches each entry that it entered and each table that it took anew, and
+    /// Takes each block of a delta in turn, notes in watches each entry that it entered and each table that it replaced, and
     /// publishes all that happened. It gives how the blocks ended, and says whether the seat has seen it. If it has not, the next call that publishes makes up for it.
     /// `TurnsSpent` after 2^64 - 1 events; `NoMemory` if there is no room for the ends, or to note whose writes watches and views
     /// lack. Each changes nothing except the seat's last call.
@@ -344,7 +344,7 @@ impl<S: DirectoryTag, R: Wait + Drop> Directory<S, R> {
         self.node.lock(rt).has_notes()
     }
 
-    /// Publishes all that happened, and says whether a watch has a note: of a write, or of an owner whose table was taken anew.
+    /// Publishes all that happened, and says whether a watch has a note: of a write, or of an owner whose table was replaced.
     /// So whoever reads then sees what is noted. `NoWatch` if there is no watch with the id, before anything is published; `NoMemory`
     /// if there is none to publish what happened. It is not noted as a call of a seat.
     pub fn has_note<Q: Wait>(&self, rt: &Q, id: WatchId) -> Result<bool, Fault>

@@ -19,7 +19,7 @@ pub(crate) fn push_note(hub: &mut Hub, owner: &Name, entry: &Entry)
     });
 }
 
-/// Notes in watches that an owner's table was taken anew, if its floor is above the version up to which it was held.
+/// Notes in watches that an owner's table was replaced, if its floor is above the version up to which it was held.
 fn push_clear(hub: &mut Hub, owner: &Name, table: &Table, version: u64)
     ensures { hub.new ≡ spec.with_notes hub.old (spec.clear_notes version owner.now table.now) }
 {

@@ -353,7 +353,7 @@ impl<S: DirectoryTag, R: Wait + Drop> ViewedNode<S, R> {
         self.hub.has_notes()
     }
 
-    /// Publishes all that happened, and says whether a watch has a note. So it says so only once what is noted is published.
+    /// Publishes all that happened, and says whether a watch has a note. So what is noted is published by then.
     pub(crate) fn has_note(&mut self, id: WatchId) -> Result<bool, Fault>
         ensures answer { Gives result (has_note_at self.old.hub id) }
         ensures refused { IfErr (has_note_at self.old.hub id) (λ fault. result ≡ Err fault) }

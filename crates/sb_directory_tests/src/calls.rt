@@ -92,9 +92,9 @@ fn watches_say_whether_they_have_a_note(rt: HostRuntime) {
     answers(&rt, rt.alloc(), &cases);
 }
 
-/// A table that is taken anew is noted before its entries, and a stage that is not whole is not.
+/// A table that is replaced is noted before its entries, and a stage that is not whole is not.
 #[test]
-fn tables_taken_anew_are_noted(rt: HostRuntime) {
+fn replaced_tables_are_noted(rt: HostRuntime) {
     let clear = cleared(&rt, b"b", 5);
     let cases = [
         (Call::Delta(b"b", 0, b"xy"), taken(2)),

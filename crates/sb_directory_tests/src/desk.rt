@@ -118,7 +118,7 @@ pub(crate) fn noted(rt: &impl Abort, owner: &[u8], text: &[u8], version: u64) ->
     }))
 }
 
-/// The answer if a watch gives the note that the table of an owner was taken anew, up to this version.
+/// The answer if a watch gives the note that the table of an owner was replaced, up to this version.
 pub(crate) fn cleared(rt: &impl Abort, owner: &[u8], version: u64) -> Answer {
     Answer::Polled(Polled::Note(Note {
         owner: name(rt, owner),

@@ -95,8 +95,8 @@ impl<S: RoundsTag, H: Wait + Drop, Q: Wait + Clock> NodeContext<'_, S, H, Q> {
 }
 
 impl<S: RoundsTag, H: Wait + Drop, Q: Wait + Clock> NodeContext<'_, S, H, Q> {
-    /// Reports a write that the last request made to the threads that dial and to those who wait for a change, and to the observer
-    /// that a log closed. Whether the node is to end with that.
+    /// Reports a write of the last request to the threads that dial and to those who wait for a change. Reports to the observer that
+    /// a log closed. Whether the node is to end with that.
     fn report_writes<L: WriteLog, O: Observer>(
         &self,
         writes: &mut OwnWrites<L>,
@@ -172,7 +172,7 @@ impl<S: RoundsTag, H: Wait + Drop, Q: Wait + Clock> NodeContext<'_, S, H, Q> {
     }
 }
 
-/// Notes work of which a purge may come.
+/// Notes work that may lead to a purge.
 fn note_work(turns: &mut PurgeTurns, work: &Work)
     ensures least { turns.new.least ≡ turns.old.least }
 {

@@ -107,7 +107,7 @@
 //!   tests of `sb_run` and `tools/check-node` refuse it.
 //! - A node forgets what it offered, or defers nothing, as if memory were missing. The tests of `sb_run` and
 //!   `tools/check-node` refuse it.
-//! - A caller that waits for a change hears of none, of one that did not come, or too late. Or a watch for it stays after
+//! - A caller that waits for a change never hears of one, hears of one that did not come, or hears too late. Or a watch for it stays after
 //!   it left. The tests of `sb_run` and `tools/check-node` refuse it.
 //! - An owner has a wrong age, or a beat is missing or comes too often. No proof is about ages. The tests of `sb_run` and
 //!   `tools/check-node` refuse it.

@@ -162,8 +162,8 @@ fn start_refusal<L: WriteLog>(settings: &Settings, log: &L) -> Option<Fault>
 /// older copy of the log writes under this name. The node refuses writes by `OwnerConflict`, and reports to the observer what
 /// it found.
 ///
-/// A client that waits for a change holds no thread: its connection waits where those wait that have said nothing yet, and the
-/// thread that accepts tells it of the change. At most 64 clients may wait so; one more is refused by `WatchesFull`.
+/// A client that waits for a change holds no thread. Its connection waits where those wait that have said nothing yet, and the
+/// thread that accepts reports the change to it. At most 64 clients may wait so; one more is refused by `WatchesFull`.
 ///
 /// With a `beat` the calling thread writes the flag true under its key, at once and then after each pause. It is an own write
 /// like any other. None is made once the log is closed, or while another node writes under the own name.

@@ -15,13 +15,13 @@ use std::os::unix::net::{UnixListener, UnixStream};
 use std::process::Abort;
 use std::{fs, thread};
 
-/// Asks to tell of the next change under w, within 30,000 milliseconds.
+/// Asks for the next change under w, within 30,000 milliseconds.
 const UNDER_W: &[u8] = b"\xa7\x03\x00\x00\x00\x0c\x17\x00\x01w\x00\x00\x00\x00\x00\x00\x75\x30";
 
-/// Asks to tell of the next change under x, within one millisecond.
+/// Asks for the next change under x, within one millisecond.
 const UNDER_X: &[u8] = b"\xa7\x03\x00\x00\x00\x0c\x17\x00\x01x\x00\x00\x00\x00\x00\x00\x00\x01";
 
-/// Asks to tell of the next change under b, within 30,000 milliseconds.
+/// Asks for the next change under b, within 30,000 milliseconds.
 const UNDER_B: &[u8] = b"\xa7\x03\x00\x00\x00\x0c\x17\x00\x01b\x00\x00\x00\x00\x00\x00\x75\x30";
 
 /// A connection to the node, over which this was asked.

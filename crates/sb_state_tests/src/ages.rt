@@ -6,7 +6,7 @@ use sb_types::{Fault, Prefix};
 use std::alloc::Global;
 use std::process::Abort;
 
-/// Asks to tell of the next change of a under web/, within 30,000 milliseconds.
+/// Asks for the next change of a under web/, within 30,000 milliseconds.
 pub(crate) fn ask_change(rt: &impl Abort) -> AskChange {
     AskChange {
         owner: Some(name(rt, b"a")),

@@ -76,10 +76,10 @@ pub(crate) const NODE_STATUS: &str = "16 00 0161 026331 05302e332e30 0002 \
     02 0000000000000001 06 0000000000000003 \
     0001 06622e736f636b 01 0000000000000004";
 
-/// Asks to tell of the next change of a under web/, within 30,000 milliseconds.
+/// Asks for the next change of a under web/, within 30,000 milliseconds.
 pub(crate) const ASK_CHANGE: &str = "17 0161 047765622f 0000000000007530";
 
-/// Tells that something changed.
+/// Something changed.
 pub(crate) const NOTICE: &str = "18 02";
 
 /// Asks how long ago each owner was heard.

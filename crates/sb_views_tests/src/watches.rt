@@ -234,7 +234,7 @@ fn example_of_watches(rt: HostRuntime) {
     same(&rt, &hub.take(id), &Ok(Polled::Empty));
 }
 
-/// That the table of an owner was taken anew.
+/// That the table of an owner was replaced.
 fn clear(rt: &impl Abort, owner: &[u8]) -> Note {
     Note {
         owner: name(rt, owner),
@@ -243,9 +243,9 @@ fn clear(rt: &impl Abort, owner: &[u8]) -> Note {
     }
 }
 
-/// A table that was taken anew is noted under every prefix, by the watches of its owner and by those of all.
+/// A table that was replaced is noted under every prefix, by the watches of its owner and by those of all.
 #[test]
-fn tables_taken_anew_are_noted(rt: HostRuntime) {
+fn replaced_tables_are_noted(rt: HostRuntime) {
     let mut hub = Hub::new(rt.alloc());
     let ids = [
         got(&rt, watch(&rt, &mut hub, b"a", b"net/", 1)),

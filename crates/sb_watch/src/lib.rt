@@ -2,7 +2,7 @@
 //!
 //! A watch has a filter and a ring of notes. It is polled: it wakes nobody. A watch that is polled too late reports how
 //! many notes it lost. The crate uses only `sb_types`. `sb_directory` has a hub, and gives it a note of each write
-//! and of each owner whose table was taken anew. `run_node` has a watch for each caller that waits for a change.
+//! and of each owner whose table was replaced. `run_node` has a watch for each caller that waits for a change.
 //!
 //! ```rust
 //! /// What a watch of the keys under `net/` answers behind a write of `net/b`.

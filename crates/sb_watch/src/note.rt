@@ -11,7 +11,7 @@ use std::marker::Model;
 pub enum Subject {
     /// What the owner has under this key.
     Key(Key),
-    /// All that the owner has: its table was taken anew, so each key may have changed, or be gone.
+    /// All that the owner has: its table was replaced, so each key may have changed, or be gone.
     Table,
 }
 
