@@ -20,3 +20,5 @@ pub mod LogCauses
 pub mod Facts
 pub mod StatusReplies
 pub mod Auditing
+pub mod HttpReads
+pub mod HttpThreads

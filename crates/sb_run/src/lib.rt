@@ -126,6 +126,8 @@ mod facts;
 mod first_message;
 mod forgetting;
 mod gate;
+mod http;
+mod http_socket;
 mod laws;
 mod log_watch;
 mod node;

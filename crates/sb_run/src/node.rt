@@ -10,6 +10,7 @@ use crate::bell::Bell;
 use crate::counts::Counts;
 use crate::dialer::{Dialing, RoundsTag, rounds_channel};
 use crate::forgetting::ForgottenOwners;
+use crate::http::HTTP_WORKERS;
 use crate::observer::Observer;
 use crate::own_writes::{ClosableLog, OwnWrites};
 use crate::sockets::BoundSockets;
@@ -24,6 +25,7 @@ use sb_table::Table;
 use sb_types::{Fault, Name, Settings};
 use sb_views::NewHistory;
 use std::alloc::Global;
+use std::hash::{RandomSource, RandomState};
 use std::marker::Brand;
 use std::net::{Net, TcpListener, TcpStream};
 use std::rt::Files;
@@ -41,6 +43,8 @@ pub struct Paths<'a> {
     pub control: &'a str,
     /// The paths at which its peers listen.
     pub peers: &'a [&'a str],
+    /// Where it answers over HTTP: `127.0.0.1:PORT` or `[::1]:PORT`, or the path of a socket. `None` if it does not.
+    pub http: Option<&'a str>,
 }
 
 /// What a node does once a fault of its store has closed its log.
@@ -103,10 +107,10 @@ pub struct Ran {
 }
 
 /// Why a node does not run, before its log is read: the first reason that holds.
-fn start_refusal<L: WriteLog>(settings: &Settings, log: &L) -> Option<Fault>
-    ensures { result ≡ spec.start_refusal settings.now (L.seen log.now) }
+fn start_refusal<L: WriteLog>(settings: &Settings, http: Option<&str>, log: &L) -> Option<Fault>
+    ensures { result ≡ spec.start_refusal settings.now http (L.seen log.now) }
 {
-    if settings.seats() < settings.workers() + 2 {
+    if settings.seats() < settings.workers() + 2 + u64::from(http.is_some()) {
         return Some(Fault::BadSetting);
     }
     let cluster = settings.cluster();
@@ -184,9 +188,9 @@ pub fn run_node<
     R: Runtime + Net<Listener = TcpListener, Stream = TcpStream>,
     O: Observer + Sync,
 >(rt: &R, alloc: Global, config: NodeConfig, log: L, observer: &O) -> Result<Ran, Fault>
-    ensures refused { IfSome (spec.start_refusal config.entry.settings (L.seen log)) (λ fault. result ≡ Err fault) }
-    ensures closed { spec.start_refusal config.entry.settings (L.seen log) ≡ None → (L.seen log).is_open ≡ false → result ≡ Err Fault.Closed }
-    ensures fault { IfErr result (IsRunningFault config.entry.settings (L.seen log) config.entry.pace.on_log_fault) }
+    ensures refused { IfSome (spec.start_refusal config.entry.settings config.entry.paths.http (L.seen log)) (λ fault. result ≡ Err fault) }
+    ensures closed { spec.start_refusal config.entry.settings config.entry.paths.http (L.seen log) ≡ None → (L.seen log).is_open ≡ false → result ≡ Err Fault.Closed }
+    ensures fault { IfErr result (IsRunningFault config.entry.settings config.entry.paths.http (L.seen log) config.entry.pace.on_log_fault) }
     ensures rounds { IfOk result (λ ran. ran.rounds ≡ config.entry.pace.rounds) }
 {
     let NodeConfig {
@@ -195,7 +199,7 @@ pub fn run_node<
         pace,
         forgotten,
     } = config;
-    if let Some(fault) = start_refusal(&settings, &log) {
+    if let Some(fault) = start_refusal(&settings, paths.http, &log) {
         return Err(fault);
     }
     let config = NodeConfig {
@@ -231,9 +235,9 @@ pub fn run_closed_node<
     table: Table,
     observer: &O,
 ) -> Result<Ran, Fault>
-    ensures refused { IfSome (spec.start_refusal config.entry.settings (L.seen log)) (λ fault. result ≡ Err fault) }
-    ensures closed { (L.seen log).is_open ≡ false → RunsClosed (spec.start_refusal config.entry.settings (L.seen log)) config.entry.pace.on_log_fault result }
-    ensures open { (L.seen log).is_open ≡ true → IfErr result (IsRunningFault config.entry.settings (L.seen log) config.entry.pace.on_log_fault) }
+    ensures refused { IfSome (spec.start_refusal config.entry.settings config.entry.paths.http (L.seen log)) (λ fault. result ≡ Err fault) }
+    ensures closed { (L.seen log).is_open ≡ false → RunsClosed (spec.start_refusal config.entry.settings config.entry.paths.http (L.seen log)) config.entry.pace.on_log_fault result }
+    ensures open { (L.seen log).is_open ≡ true → IfErr result (IsRunningFault config.entry.settings config.entry.paths.http (L.seen log) config.entry.pace.on_log_fault) }
     ensures rounds { IfOk result (λ ran. ran.rounds ≡ config.entry.pace.rounds) }
 {
     let NodeConfig {
@@ -270,8 +274,8 @@ fn run_with_table<
     observer: &O,
 ) -> Result<Ran, Fault>
     requires closed { (L.seen log).is_open ≡ false }
-    ensures runs { RunsClosed (spec.start_refusal config.entry.settings (L.seen log)) config.entry.pace.on_log_fault result }
-    ensures refused { IfSome (spec.start_refusal config.entry.settings (L.seen log)) (λ fault. result ≡ Err fault) }
+    ensures runs { RunsClosed (spec.start_refusal config.entry.settings config.entry.paths.http (L.seen log)) config.entry.pace.on_log_fault result }
+    ensures refused { IfSome (spec.start_refusal config.entry.settings config.entry.paths.http (L.seen log)) (λ fault. result ≡ Err fault) }
     ensures rounds { IfOk result (λ ran. ran.rounds ≡ config.entry.pace.rounds) }
 {
     let NodeConfig {
@@ -280,7 +284,7 @@ fn run_with_table<
         pace,
         forgotten,
     } = config;
-    if let Some(fault) = start_refusal(&settings, &log) {
+    if let Some(fault) = start_refusal(&settings, paths.http, &log) {
         return Err(fault);
     }
     let config = NodeConfig {
@@ -342,9 +346,9 @@ fn run_opened<
 
 /// What a running node asks of its runtime, beside sockets: threads, locks, a clock and files. A runtime that has all of them is
 /// one. The sockets are beside it in each signature, since a caller whose runtime is a type of its own has to see their types.
-pub trait Runtime: Threads + Wait + Clock + Files + Send + Sync {}
+pub trait Runtime: Threads + Wait + Clock + Files + RandomSource + Send + Sync {}
 
-impl<R: Threads + Wait + Clock + Files + Send + Sync> Runtime for R {}
+impl<R: Threads + Wait + Clock + Files + RandomSource + Send + Sync> Runtime for R {}
 
 /// What the directory of a node starts from.
 #[derive(Drop)]
@@ -367,11 +371,13 @@ pub(crate) struct NodeStart<L: WriteLog> {
     pub(crate) writes: OwnWrites<ClosableLog<L>>,
 }
 
-/// Makes the directory, and gives a seat to each thread; those beyond are for news, in a list with room for all. `NoMemory`.
+/// Makes the directory, and gives a seat to each thread. At most so many of those beyond are for HTTP, and the others for news, in a
+/// list with room for all. `NoMemory`.
 fn seat_all<S: RoundsTag, R: Wait>(
     rt: &R,
     alloc: Global,
     start: DirectoryStart,
+    http: usize,
 ) -> Result<(Directory<S, &R>, ThreadSeats<S>), Fault>
     requires history { start.new_history.seen.book ≡ S.history }
     requires tagged { IsTagOf S.opening S.settings S.seats S.parts start.core }
@@ -379,7 +385,7 @@ fn seat_all<S: RoundsTag, R: Wait>(
     requires parts { start.blank.parts ≡ S.parts }
     requires enough { start.core.settings.workers + 2 ≤ start.core.settings.seats }
     ensures workers { IfOk result (λ seated. vec_len seated.1.workers ≡ S.settings.workers) }
-    ensures all { IfOk result (λ seated. vec_len seated.1.news + (vec_len seated.1.workers + 2) ≡ S.seats) }
+    ensures all { IfOk result (λ seated. vec_len seated.1.news + vec_len seated.1.http + (vec_len seated.1.workers + 2) ≡ S.seats) }
     ensures room { IfOk result (λ seated. S.seats ≤ vec_capacity seated.1.news) }
     ensures memory { IfErr result (λ fault. fault ≡ Fault.NoMemory) }
 {
@@ -395,7 +401,7 @@ fn seat_all<S: RoundsTag, R: Wait>(
     let Ok((directory, seats)) = made else {
         return Err(Fault::NoMemory);
     };
-    let thread_seats = part_seats(seats, settings.workers() as usize)?;
+    let thread_seats = part_seats(seats, settings.workers() as usize, http)?;
     Ok((directory, thread_seats))
 }
 
@@ -428,10 +434,15 @@ pub(crate) fn run_tagged<
     let (bell, parkers) = Bell::new(alloc)?;
     let (handover, jobs, requests) = new_handover(alloc)?;
     let events = Acceptor::events(alloc)?;
-    let (directory, thread_seats) = seat_all::<S, R>(rt, alloc, start.directory)?;
+    let http = if paths.http.is_some() { HTTP_WORKERS } else { 0 };
+    let (directory, thread_seats) = seat_all::<S, R>(rt, alloc, start.directory, http as usize)?;
     let threads = thread_seats.news.len();
     let (dialing, turns) = Dialing::new(alloc, paths.peers, &pace, threads, observer, parkers)?;
-    let Ok((sockets, poll)) = BoundSockets::bind(rt, paths.sock, paths.control, observer) else {
+    let Ok(keys) = RandomState::new(rt) else {
+        return Err(Fault::ReadFailed);
+    };
+    let bound = BoundSockets::bind(rt, paths.sock, paths.control, paths.http, observer);
+    let Ok((sockets, poll)) = bound else {
         return Err(Fault::ReadFailed);
     };
     observer.listening();
@@ -442,6 +453,7 @@ pub(crate) fn run_tagged<
         requests,
         rounds_sender,
         rounds_receiver,
+        keys,
     };
     let (workers, forgotten) = (directory.settings().workers(), start.forgotten);
     let (ending, counts, asked) = (EndFlag::new(), Counts::new(rt, workers), Asked::new());
@@ -471,7 +483,7 @@ fn close<S: RoundsTag, R: Wait>(
     finished: ThreadsEnd<S>,
 ) -> Result<Ran, Fault>
     requires parts { S.seats ≡ S.parts }
-    requires all { vec_len finished.thread_seats.news + (vec_len finished.thread_seats.workers + 2) ≡ S.seats }
+    requires all { vec_len finished.thread_seats.news + vec_len finished.thread_seats.http + (vec_len finished.thread_seats.workers + 2) ≡ S.seats }
     requires room { S.seats ≤ vec_capacity finished.thread_seats.news }
     ensures ok { IsOk result }
     ensures rounds { IfOk result (λ ran. ran.rounds ≡ S.rounds) }
