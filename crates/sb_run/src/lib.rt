@@ -147,6 +147,7 @@ mod vain_offers;
 pub use control::ask_control;
 pub use forgetting::ForgottenOwners;
 pub use gate::{Gate, GatePoint, Open};
+pub use http::HTTP_WORKERS;
 pub use laws::{forgotten_owners_stay_out, running_nodes_keep_truth, running_nodes_tell_truth};
 pub use node::{NodeConfig, OnLogFault, Pace, Paths, Ran, Runtime, run_closed_node, run_node};
 pub use observer::{LogCause, LogLoss, Nobody, Observer, PushCounts, Status, Troubles};
