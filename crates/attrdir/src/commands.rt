@@ -557,8 +557,8 @@ pub(crate) fn serve_arguments<'a>(
     })
 }
 
-/// How many seats so many workers, so many sessions for news and so many connections over HTTP have use for: two more, but not more
-/// than there may be.
+/// How many seats so many workers, sessions for news and connections over HTTP have use for: two more. It is not more than there may
+/// be.
 fn seats_for(workers: u64, fanout: u64, http: u64) -> u64 {
     let least = workers.saturating_add(2);
     let wanted = least.saturating_add(fanout).saturating_add(http);

@@ -22,7 +22,7 @@ use Rattle.sb_http.specs.declared.asked.Asked.TheVariants.{Health, Metrics, Owne
 use Rattle.sb_http.specs.declared.asked.Door.{Door}
 use Rattle.sb_http.specs.declared.asked.Unasked.{Unasked}
 use Rattle.sb_http.specs.declared.asked.Unasked.TheVariants.{OtherHost, NotFound, NotAllowed, Bad, BadParameters, NoMemory}
-use Rattle.sb_http.specs.declared.telling.Told.{Told}
+use Rattle.sb_http.specs.declared.contents.Content as rust
 use Rattle.sb_http.specs.Acts.{Act, asks, lists, measures, fails}
 use Rattle.sb_http.specs.Requests.{asked_by}
 use Rattle.sb_http.specs.Texts.{line_of, page_data, owners_data, health_data, error_data, fault_data}
@@ -95,14 +95,14 @@ Says asked act content = ⊥
 abbrev pub Has : List Header → Content → Response → Type 0
 Has fields content response = IsResponse content.0 fields content.1 response
 
--- the response has what was told
-abbrev pub HasTold : List Header → Result Told Fault → Response → Type 0
-HasTold fields (Ok told) response = Has fields (told.status, told.body.items) response
-HasTold fields (Err fault) response = ⊥
+-- the response has this content
+abbrev pub HasContent : List Header → Result rust.Content Fault → Response → Type 0
+HasContent fields (Ok content) response = Has fields (content.status, content.body.items) response
+HasContent fields (Err fault) response = ⊥
 
--- the response has the fields that it had, and what was told; or there was no memory for that
-abbrev pub FillsOrShortens : Response → Result Told Fault → Response → Type 0
-FillsOrShortens old told new = HasTold (fields_of old) told new ⊎ Has (fields_of old) (503, []) new
+-- the response has the fields that it had, and this content; or there was no memory for that
+abbrev pub FillsOrShortens : Response → Result rust.Content Fault → Response → Type 0
+FillsOrShortens old content new = HasContent (fields_of old) content new ⊎ Has (fields_of old) (503, []) new
 
 -- the backend was called once, and the response says what came of it; or there was no memory for that
 abbrev pub AnswersAsked : {B : Type 0} → (B → Act → B → Type 0) → Asked → B → Response → B → Type 0

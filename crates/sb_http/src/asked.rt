@@ -12,7 +12,7 @@ use sb_codec::Ask;
 use sb_types::{Fault, Key, Name};
 use std::alloc::Global;
 
-/// Where a request came in.
+/// The kind of place at which a request came in.
 #[derive(Clone, Copy, Debug, PartialEq, Eq)]
 pub enum Door {
     /// A Unix socket: the rights of its folder say who reaches it.
@@ -47,7 +47,7 @@ pub enum Unasked {
     NotAllowed,
     /// A word is not an owner or not a key, as this fault says.
     Bad(Fault),
-    /// A parameter is none of those of rows, or they do not go together.
+    /// A parameter is not one of those of rows, or they do not go together.
     BadParameters,
     /// There was no memory to read the request.
     NoMemory,

@@ -32,7 +32,7 @@ fn line_of_value(alloc: Global, value: &Value) -> Result<Vec<u8>, AllocError>
     Ok(line)
 }
 
-/// Adds rows as the items of an array, with a comma before each if one stands before, and the end of the array.
+/// Adds rows as the items of an array, with commas between them, and the end of the array. `NoMemory`.
 fn add_rows(alloc: Global, out: &mut Vec<u8>, rows: &[Row]) -> Result<(), Fault>
     ensures added { OnOk result (out.new.items ≡ out.old.items ++ items_text false (items_of (map row_data rows.now))) }
     ensures memory { IfErr result (λ fault. fault ≡ Fault.NoMemory) }

@@ -1,5 +1,5 @@
 //! A node over HTTP: what a request asks for, what the node is asked for it, and the response. It moves no byte and takes
-//! no lock: a `Backend` says what the node answers, and `serve_connection` answers over any reader and writer.
+//! no lock. A `Backend` says what the node answers, and `serve_connection` answers over any reader and writer.
 //!
 //! What a request asks for is a function of it and of the door where it came in (`asked_by`). What the response contains
 //! is a function of that and of what the backend answered. A backend is asked only what reads.
@@ -25,6 +25,7 @@
 
 mod asked;
 mod backend;
+mod contents;
 mod host;
 mod json;
 mod laws;
@@ -32,7 +33,6 @@ mod parts;
 mod rows_query;
 mod service;
 mod serving;
-mod telling;
 
 pub use asked::{Asked, Door, Unasked, asked_by};
 pub use backend::{Backend, HeldOwner};

@@ -5,8 +5,8 @@ ghost use Rattle.sb_http.specs.Answers.{AnswersAsked, AnswersRequest, Refuses, H
 
 use crate::asked::{Asked, Door, Unasked, asked_by};
 use crate::backend::Backend;
+use crate::contents::{Content, answer};
 use crate::json::{error_line, fault_line};
-use crate::telling::{Told, answer};
 use bytes::Bytes;
 use http::{HeaderValue, Request, StatusCode, header};
 use http_server::{Response, Service};
@@ -125,12 +125,12 @@ fn shorten(response: &mut Response)
     response.status = StatusCode::SERVICE_UNAVAILABLE;
 }
 
-/// Fills a response that has its fields with what was told. If there is no memory for that, it has no body.
-fn fill_or_shorten(response: &mut Response, told: Result<Told, Fault>)
+/// Fills a response that has its fields with this content. If there is no memory for that, it has no body.
+fn fill_or_shorten(response: &mut Response, content: Result<Content, Fault>)
     requires { response.old.body.items ≡ [] }
-    ensures { FillsOrShortens response.old told response.new }
+    ensures { FillsOrShortens response.old content response.new }
 {
-    let Ok(Told { status, body }) = told else {
+    let Ok(Content { status, body }) = content else {
         shorten(response);
         return;
     };
@@ -146,8 +146,8 @@ impl<B: Backend> HttpService<B> {
         ensures answers { AnswersAsked B.step asked.now self.old.backend response.new self.new.backend }
         ensures door { self.new.door ≡ self.old.door }
     {
-        let told = answer(self.alloc, &mut self.backend, asked);
-        fill_or_shorten(response, told);
+        let content = answer(self.alloc, &mut self.backend, asked);
+        fill_or_shorten(response, content);
     }
 }
 

@@ -10,8 +10,8 @@ use std::hash::RandomState;
 use std::io;
 use std::io::{Read, Write};
 
-/// Answers the requests that are read, and writes the answers. Of what was read and written it says, also after an `Err`:
-/// each answer is one of the service to a whole request, in their order, or a refusal of `http_server` with its reason.
+/// Answers the requests that are read, and writes the answers. Each answer is one of the service to a whole request, in
+/// their order, or a refusal of `http_server` with its reason. After an `Err` this holds of what was written until then.
 pub fn serve_connection<S: Service, R: Read, W: Write>(
     alloc: Global,
     keys: RandomState,

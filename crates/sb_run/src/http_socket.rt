@@ -75,7 +75,7 @@ impl<'a> HttpSocket<'a> {
         }
     }
 
-    /// Where the requests of its connections come in.
+    /// The kind of place that it is.
     pub(crate) fn door(&self) -> Door {
         match &self.listener {
             HttpListener::Socket(..) => Door::Socket,
