@@ -5,7 +5,7 @@
 //! is a function of that and of what the backend answered. A backend is asked only what reads.
 //!
 //! ```rust
-//! /// What the response says of a request, and the backend after it.
+//! /// The status of the response to a request.
 //! fn status_of<B: Backend>(service: &mut HttpService<B>, request: &Request<Bytes>) -> Result<u16, AllocError> {
 //!     let mut response = Response::new(service.alloc);
 //!     service.call(request, &mut response)?;
