@@ -1,10 +1,18 @@
 -- Parts of a request's target.
-use Rattle.std.specs.Prelude.{ℕ, ◌==◌, if◌then◌else◌, List, [], ◌∷◌, Option, Some, None, option_map}
+use Rattle.std.specs.Prelude.{ℕ, ◌+◌, Bool, ◌==◌, if◌then◌else◌, List, [], ◌∷◌, take, drop, Option, Some, None}
+use Rattle.std.specs.List.{position}
+
+abbrev pub is_byte : ℕ → ℕ → Bool
+is_byte mark b = b == mark
+
+-- what is before a place, and what is after it
+abbrev pub parted_at : List ℕ → Option ℕ → Option (List ℕ × List ℕ)
+parted_at text None = None
+parted_at text (Some place) = Some (take place text, drop (place + 1) text)
 
 -- the text before the first such byte, and the text after it
 abbrev pub parted : ℕ → List ℕ → Option (List ℕ × List ℕ)
-parted mark [] = None
-parted mark (b ∷ bs) = if b == mark then Some ([], bs) else option_map (λ (p : List ℕ × List ℕ). (b ∷ p.0, p.1)) (parted mark bs)
+parted mark text = parted_at text (position (is_byte mark) text)
 
 -- the byte before the first of the parts
 abbrev pub begun_by : ℕ → List (List ℕ) → List (List ℕ)
