@@ -1,22 +1,13 @@
 -- A text that is parted at its first such byte has the part before it first, and then the parts of what is after it.
-use Rattle.std.proofs.Common.{◌≡◌, ℕ, ◌+◌, Bool, true, false, cond, not, List, [], ◌∷◌, length, take, drop, Option, Some, None, refl, sym, ap, ◌∙◌, subst, arith}
-use Rattle.std.specs.Prelude.{nat_lt, ◌==◌}
+use Rattle.std.proofs.Common.{◌≡◌, ℕ, ◌+◌, ◌<◌, ◌≤◌, Bool, true, false, List, [], ◌∷◌, length, take, drop, Option, Some, None, refl, sym, ap, ◌∙◌, arith}
 use Rattle.std.specs.List.{position, position_or_len}
 use Rattle.sb_http.specs.Parts.{is_byte, begun_by, all_parts}
 
-module _ (mark : ℕ) where
-  -- the first part of a text, and the rest of its parts
-  front : List ℕ → ℕ
-  front text = position_or_len (is_byte mark) text
+pub parts-some : (mark : ℕ) (text : List ℕ) → position_or_len (is_byte mark) text < length text
+    → all_parts mark text ≡ take (position_or_len (is_byte mark) text) text ∷ all_parts mark (drop (position_or_len (is_byte mark) text + 1) text)
+parts-some mark [] within = grind arith
+parts-some mark (b ∷ bs) within = grind (arith, parts-some mark bs)
 
-  pub parts-some : (text : List ℕ) → nat_lt (front text) (length text) ≡ true → all_parts mark text ≡ take (front text) text ∷ all_parts mark (drop (front text + 1) text)
-  parts-some [] ()
-  parts-some (b ∷ bs) is with b == mark
-  parts-some (b ∷ bs) is | true = refl
-  parts-some (b ∷ bs) is | false = ap (begun_by b) (parts-some bs is)
-
-  pub parts-none : (text : List ℕ) → nat_lt (front text) (length text) ≡ false → all_parts mark text ≡ text ∷ []
-  parts-none [] is = refl
-  parts-none (b ∷ bs) is with b == mark
-  parts-none (b ∷ bs) () | true
-  parts-none (b ∷ bs) is | false = ap (begun_by b) (parts-none bs is)
+pub parts-none : (mark : ℕ) (text : List ℕ) → length text ≤ position_or_len (is_byte mark) text → all_parts mark text ≡ text ∷ []
+parts-none mark [] beyond = refl
+parts-none mark (b ∷ bs) beyond = grind (arith, parts-none mark bs)
