@@ -21,4 +21,3 @@ pub mod Facts
 pub mod StatusReplies
 pub mod Auditing
 pub mod HttpReads
-pub mod HttpThreads

@@ -1,6 +1,5 @@
 //! The threads of a running node.
 ghost use Rattle.std.specs.Prelude.{◌≡◌, ◌⊎◌, true, false, IsSome, vec_len, vec_capacity, Ok, Err, IfOk, IfErr, IsErr, ◌+◌, ◌-◌, ◌≤◌, min, length};
-ghost use Rattle.sb_run.specs.HttpThreads.{seats_of};
 ghost use Rattle.std.specs.Thread.{IsSend, IsSync};
 ghost use Rattle.sb_run.specs.Closing.{seen_by, why_of};
 ghost use Rattle.sb_run.specs.Running.{IsEndFault, IsOpenedFrom};
@@ -76,12 +75,8 @@ struct DialingThreads<S: RoundsTag> {
     turns: JoinHandle<ReaderSeat<S>>,
 }
 
-/// The first thread that answers over HTTP. If there is no seat for it, there is no thread.
-#[derive(Drop)]
-enum HttpThread<S: RoundsTag> {
-    Unseated(Vec<ReaderSeat<S>>),
-    Seated(PromisedHandle<Vec<ReaderSeat<S>>, AsManySeats>),
-}
+/// The first thread that answers over HTTP. It ends at once if there is no seat for it.
+type HttpThread<S> = PromisedHandle<Vec<ReaderSeat<S>>, AsManySeats>;
 
 /// That a thread gives so many seats back.
 #[derive(Clone, Copy)]
@@ -201,18 +196,6 @@ impl<S: RoundsTag> ServingThreads<S> {
     }
 }
 
-impl<S: RoundsTag> HttpThread<S> {
-    /// Waits until it ends: the seats.
-    fn join<Q: Threads>(self, rt: &Q) -> Vec<ReaderSeat<S>>
-        ensures { vec_len result ≡ seats_of self }
-    {
-        match self {
-            HttpThread::Unseated(seats) => seats,
-            HttpThread::Seated(handle) => handle.join(rt),
-        }
-    }
-}
-
 impl<S: RoundsTag> DialingThreads<S> {
     /// Waits until all of them end: their seats.
     fn join<Q: Threads>(self, rt: &Q) -> DialingSeats<S>
@@ -264,8 +247,7 @@ impl<'a, O: Observer + Sync> Dialing<'a, O> {
         Ok(DialingThreads { news, turns })
     }
 
-    /// Starts the first thread that answers over HTTP, if there is a seat for it. `NoMemory` if it can't be made; then the node has
-    /// ended.
+    /// Starts the first thread that answers over HTTP. `NoMemory` if it can't be made; then the node has ended.
     fn start_http<
         's,
         E,
@@ -279,18 +261,17 @@ impl<'a, O: Observer + Sync> Dialing<'a, O> {
         keys: RandomState,
         seats: Vec<ReaderSeat<S>>,
     ) -> Result<HttpThread<S>, Fault>
-        ensures seats { IfOk result (λ thread. seats_of thread ≡ vec_len seats) }
+        ensures seats { IfOk result (λ thread. thread.promise.0 ≡ vec_len seats) }
         ensures memory { IfErr result (λ fault. fault ≡ Fault.NoMemory) }
     {
-        if seats.is_empty() {
-            return Ok(HttpThread::Unseated(seats));
-        }
         let as_many = AsManySeats(seats.len());
-        let Ok(handle) = scope.spawn_with(as_many, move || node.answer_http(self, keys, seats)) else {
-            node.end();
-            return Err(Fault::NoMemory);
-        };
-        Ok(HttpThread::Seated(handle))
+        match scope.spawn_with(as_many, move || node.answer_http(self, keys, seats)) {
+            Ok(thread) => Ok(thread),
+            Err(_) => {
+                node.end();
+                Err(Fault::NoMemory)
+            }
+        }
     }
 
     /// Runs the threads of a node to their end, in a scope of their own. One accepts, some are workers, some dial, and the calling
@@ -483,7 +464,8 @@ pub(crate) fn part_seats<S: DirectoryTag>(
     let Some(control) = news.pop() else {
         unreachable!();
     };
-    let http = news.split_off(news.len() - http.min(news.len()))?;
+    let most = news.len();
+    let http = news.split_off(if http < most { most - http } else { 0 })?;
     Ok(ThreadSeats {
         workers: front,
         news,
