@@ -109,7 +109,7 @@ abbrev pub AnswersAsked : {B : Type 0} → (B → Act → B → Type 0) → Aske
 AnswersAsked step asked old response new =
     (act : Act) × step old act new
     × (((content : Content) × Says asked act content × Has (fields_for (kind_of asked)) content response)
-        ⊎ Has (fields_for (kind_of asked)) (503, []) response)
+    ⊎ Has (fields_for (kind_of asked)) (503, []) response)
 
 -- why nothing is asked for
 abbrev pub Refuses : Unasked → Response → Type 0

@@ -12,7 +12,7 @@ use Rattle.sb_http.specs.declared.backend.HeldOwner.{HeldOwner}
 
 -- the text of JSON without spaces, and the end of the line
 abbrev pub line_of : Data → List ℕ
-line_of data = compact_text data ++ 10 ∷ []
+line_of json = compact_text json ++ 10 ∷ []
 
 abbrev pub items_of : List Data → Items
 items_of [] = no_items

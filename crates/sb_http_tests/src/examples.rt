@@ -9,7 +9,10 @@ use sb_http::{Backend, Door, HttpService};
 use std::alloc::AllocError;
 
 /// The status of the response to a request.
-fn status_of<B: Backend>(service: &mut HttpService<B>, request: &Request<Bytes>) -> Result<u16, AllocError> {
+fn status_of<B: Backend>(
+    service: &mut HttpService<B>,
+    request: &Request<Bytes>,
+) -> Result<u16, AllocError> {
     let mut response = Response::new(service.alloc);
     service.call(request, &mut response)?;
     Ok(response.status.as_u16())

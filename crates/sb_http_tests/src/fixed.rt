@@ -85,7 +85,14 @@ fn served(alloc: Global, keys: RandomState, door: Door, bytes: &[u8]) -> io::Res
     };
     let mut input = bytes;
     let mut output = Vec::new(alloc);
-    serve_connection(alloc, keys, Default::default(), &mut service, &mut input, &mut output)?;
+    serve_connection(
+        alloc,
+        keys,
+        Default::default(),
+        &mut service,
+        &mut input,
+        &mut output,
+    )?;
     Ok(output)
 }
 
