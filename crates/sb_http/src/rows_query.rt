@@ -145,13 +145,13 @@ impl RowsQuery {
     fn with_parameter(self, name: &[u8], value: &[u8]) -> Result<RowsQuery, Unasked>
         ensures { result ≡ spec.with_parameter self name.now value.now }
     {
-        if name == b"owner" {
+        if name == b"owner".as_slice() {
             self.with_owner(value)
-        } else if name == b"prefix" {
+        } else if name == b"prefix".as_slice() {
             self.with_prefix(value)
-        } else if name == b"key" {
+        } else if name == b"key".as_slice() {
             self.with_key(value)
-        } else if name == b"after" {
+        } else if name == b"after".as_slice() {
             self.with_after(value)
         } else {
             Err(Unasked::BadParameters)
