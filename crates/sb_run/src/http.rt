@@ -20,15 +20,14 @@ use sb_types::Fault;
 use sb_views::Snapshot;
 use std::alloc::Global;
 use std::hash::RandomState;
-use std::io;
 use std::io::Read;
 use std::marker::Model;
 use std::net::{Net, Shutdown};
 use std::os::unix::net::UnixStream;
 use std::sync::Wait;
-use std::thread;
 use std::thread::Threads;
 use std::time::{Clock, Duration};
+use std::{io, thread};
 
 /// How many connections a node answers over HTTP at once, if it has seats for so many.
 pub const HTTP_WORKERS: u64 = 8;
@@ -44,13 +43,13 @@ const ACCEPT_PAUSE: u64 = 20;
 
 /// A node, as a seat of it asks it. Contracts see it as the seat.
 #[derive(Drop)]
-pub(crate) struct SeatBackend<'a, S: RoundsTag, H: Wait + Drop, Q, O> {
-    node: &'a NodeContext<'a, S, H, Q>,
-    dialing: &'a Dialing<'a, O>,
+pub(crate) struct SeatBackend<'a, 'n, 'd, S: RoundsTag, H: Wait + Drop, Q, O> {
+    node: &'a NodeContext<'n, S, H, Q>,
+    dialing: &'a Dialing<'d, O>,
     seat: ReaderSeat<S>,
 }
 
-impl<'a, S: RoundsTag, H: Wait + Drop, Q, O> Model for SeatBackend<'a, S, H, Q, O> {
+impl<'a, 'n, 'd, S: RoundsTag, H: Wait + Drop, Q, O> Model for SeatBackend<'a, 'n, 'd, S, H, Q, O> {
     ghost use Rattle.sb_directory.specs.Seats as spec;
 
     ghost Value = { spec.Seat };
@@ -106,7 +105,15 @@ impl<S: RoundsTag, H: Wait + Drop, Q: Wait + Clock> NodeContext<'_, S, H, Q> {
     }
 }
 
-impl<S: RoundsTag, H: Wait + Drop, Q: Wait + Clock, O: Observer> SeatBackend<'_, S, H, Q, O> {
+impl<S: RoundsTag, H: Wait + Drop, Q: Wait + Clock, O: Observer> SeatBackend<
+    '_,
+    '_,
+    '_,
+    S,
+    H,
+    Q,
+    O,
+> {
     /// The seat, once the connection is over.
     fn into_seat(self) -> ReaderSeat<S>
         ensures { result ≡ self.entry }
@@ -121,8 +128,7 @@ impl<S: RoundsTag, H: Wait + Drop, Q: Wait + Clock, O: Observer> SeatBackend<'_,
 }
 
 impl<S: RoundsTag, H: Wait + Drop, Q: Wait + Clock, O: Observer> Backend
-    for SeatBackend<'_, S, H, Q, O>
-{
+    for SeatBackend<'_, '_, '_, S, H, Q, O> {
     ghost use Rattle.sb_run.specs.HttpReads.{Reads};
 
     // Other seats may have entered anything since the last call.
@@ -143,7 +149,9 @@ impl<S: RoundsTag, H: Wait + Drop, Q: Wait + Clock, O: Observer> Backend
         replace_with(
             &mut self.seat,
             self.node,
-            |seat, node| -> (ReaderSeat<S>, Result<Vec<HeldOwner>, Fault>) { node.owners_seen(seat) },
+            |seat, node| -> (ReaderSeat<S>, Result<Vec<HeldOwner>, Fault>) {
+                node.owners_seen(seat)
+            },
         )
     }
 
@@ -178,7 +186,7 @@ impl<S: RoundsTag, H: Wait + Drop, Q: Wait + Net + Clock> NodeContext<'_, S, H, 
     fn answer_stream<O: Observer>(
         &self,
         keys: RandomState,
-        service: &mut HttpService<SeatBackend<'_, S, H, Q, O>>,
+        service: &mut HttpService<SeatBackend<'_, '_, '_, S, H, Q, O>>,
         stream: UnixStream,
     ) -> io::Result<()> {
         let (idle, request) = (self.pace.idle, self.pace.request);
@@ -186,7 +194,14 @@ impl<S: RoundsTag, H: Wait + Drop, Q: Wait + Net + Clock> NodeContext<'_, S, H, 
         let last = stream.try_clone()?;
         let mut reader = Timed::new(self.rt, stream, idle, request);
         let mut writer = Timed::new(self.rt, output, idle, request);
-        serve_connection(self.alloc, keys, config(), service, &mut reader, &mut writer)?;
+        serve_connection(
+            self.alloc,
+            keys,
+            config(),
+            service,
+            &mut reader,
+            &mut writer,
+        )?;
         last.shutdown(Shutdown::Write)?;
         read_rest(&mut reader);
         Ok(())
@@ -267,11 +282,20 @@ where
         if count == 0 {
             return seats;
         }
-        thread::for_each_mut(self.rt, &mut seats, count, &|_, seat| -> () {
-            replace_with(seat, (self, dialing), |seat, (node, dialing)| -> (ReaderSeat<S>, ()) {
-                node.answer_all(dialing, socket, keys, seat)
-            })
-        });
+        thread::for_each_mut(
+            self.rt,
+            &mut seats,
+            count,
+            &|_, seat| -> () {
+                replace_with(
+                    seat,
+                    (self, dialing),
+                    |seat, (node, dialing)| -> (ReaderSeat<S>, ()) {
+                        node.answer_all(dialing, socket, keys, seat)
+                    },
+                )
+            },
+        );
         seats
     }
 }

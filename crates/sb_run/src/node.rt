@@ -25,9 +25,10 @@ use sb_table::Table;
 use sb_types::{Fault, Name, Settings};
 use sb_views::NewHistory;
 use std::alloc::Global;
-use std::hash::{RandomSource, RandomState};
+use std::hash::RandomState;
 use std::marker::Brand;
 use std::net::{Net, TcpListener, TcpStream};
+use std::random::RandomSource;
 use std::rt::Files;
 use std::sync::Wait;
 use std::sync::ledger::Blank;
@@ -434,7 +435,11 @@ pub(crate) fn run_tagged<
     let (bell, parkers) = Bell::new(alloc)?;
     let (handover, jobs, requests) = new_handover(alloc)?;
     let events = Acceptor::events(alloc)?;
-    let http = if paths.http.is_some() { HTTP_WORKERS } else { 0 };
+    let http = if paths.http.is_some() {
+        HTTP_WORKERS
+    } else {
+        0
+    };
     let (directory, thread_seats) = seat_all::<S, R>(rt, alloc, start.directory, http as usize)?;
     let threads = thread_seats.news.len();
     let (dialing, turns) = Dialing::new(alloc, paths.peers, &pace, threads, observer, parkers)?;
