@@ -163,7 +163,8 @@ fn taken_for_metrics<'a>(rt: &HostRuntime, given: &ServeArguments<'a>) -> Option
     if path.is_empty() {
         return Some(FaultPlace::MetricsNowhere);
     }
-    for other in [given.log, given.sock, given.control, given.http.unwrap_or("")] {
+    let http = given.http.unwrap_or(given.control);
+    for other in [given.log, given.sock, given.control, http] {
         if writes_over(path, other) {
             return Some(FaultPlace::MetricsOver(path));
         }
