@@ -1,6 +1,6 @@
 //! The threads that answer over HTTP, each from a seat of its own.
 ghost use Rattle.std.specs.Prelude.{◌≡◌, vec_len, IfOk, IfErr};
-ghost use Rattle.sb_types.specs.Faults.{number_of};
+ghost use Rattle.std.specs.Thread.{IsSend, IsSync};
 ghost use Rattle.sb_codec.specs.declared.message.Message.{Message};
 ghost use Rattle.sb_directory.specs.Serving.{IsLater};
 ghost use Rattle.sb_run.specs.HttpReads.{AnswersQuestion, IsListed, Reads};
@@ -257,6 +257,24 @@ impl<S: RoundsTag, H: Wait + Drop, Q: Wait + Net + Clock> NodeContext<'_, S, H, 
         }
         unreachable!()
     }
+
+    /// Does so from a seat that stays in its place.
+    fn answer_in_place<O: Observer>(
+        &self,
+        dialing: &Dialing<'_, O>,
+        socket: &HttpSocket<'_>,
+        keys: RandomState,
+        seat: &mut ReaderSeat<S>,
+    ) {
+        // Both are handed in: the prover keeps no clause of a closure that captures a struct with a lifetime.
+        replace_with(
+            seat,
+            (self, dialing),
+            |seat, (node, dialing)| -> (ReaderSeat<S>, ()) {
+                node.answer_all(dialing, socket, keys, seat)
+            },
+        );
+    }
 }
 
 impl<S, H, Q> NodeContext<'_, S, H, Q>
@@ -286,15 +304,9 @@ where
             self.rt,
             &mut seats,
             count,
-            &|_, seat| -> () {
-                replace_with(
-                    seat,
-                    (self, dialing),
-                    |seat, (node, dialing)| -> (ReaderSeat<S>, ()) {
-                        node.answer_all(dialing, socket, keys, seat)
-                    },
-                )
-            },
+            &|_, seat| -> ()
+                requires { IsSend S.row × IsSync S.row × IsSend H.row × IsSync H.row × IsSync Q.row × IsSync O.row }
+            { self.answer_in_place(dialing, socket, keys, seat) },
         );
         seats
     }
