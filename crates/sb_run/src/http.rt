@@ -22,7 +22,7 @@ use std::alloc::Global;
 use std::hash::RandomState;
 use std::io::Read;
 use std::marker::Model;
-use std::net::{Net, Shutdown};
+use std::net::Shutdown;
 use std::os::unix::net::UnixStream;
 use std::sync::Wait;
 use std::thread::Threads;
@@ -181,7 +181,7 @@ fn config() -> Config {
     }
 }
 
-impl<S: RoundsTag, H: Wait + Drop, Q: Wait + Net + Clock> NodeContext<'_, S, H, Q> {
+impl<S: RoundsTag, H: Wait + Drop, Q: Wait + Clock> NodeContext<'_, S, H, Q> {
     /// Answers over one connection.
     fn answer_stream<O: Observer>(
         &self,
@@ -281,7 +281,7 @@ impl<S, H, Q> NodeContext<'_, S, H, Q>
 where
     S: RoundsTag + Send + Sync,
     H: Wait + Drop + Send + Sync,
-    Q: Threads + Wait + Net + Clock + Sync,
+    Q: Threads + Wait + Clock + Sync,
 {
     /// Answers over HTTP until the node is to end, with a thread for each seat, and gives the seats back.
     pub(crate) fn answer_http<O: Observer + Sync>(
