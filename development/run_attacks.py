@@ -28,14 +28,14 @@ def tried():
     return {(a, b) for a, b in re.findall(r"^\S+ (\w+)/(\S+): (?:refused|NOT REFUSED|BAD EDIT)", text, re.M)}
 
 def take():
-    subprocess.run(["python3", "/work/tools/take_kept.py", str(ROOT)], stdout=subprocess.DEVNULL)
+    subprocess.run(["python3", "/work/tools/take_store.py", str(ROOT)], stdout=subprocess.DEVNULL)
 
 def work(name):
     left = [f"{name}/{it.stem}" for it in sorted((ROOT / "crates" / name / "attacks").glob("*.edit")) if (name, it.stem) not in tried()]
     if not left:
         return
     begin = time.time()
-    ran = subprocess.run(["rt", "check", "--jobs", "1"], cwd=ROOT / "crates" / name, stdout=open(f"/work/logs/attacks-{name}.check", "w"), stderr=subprocess.STDOUT)
+    ran = subprocess.run(["/work/slot1", "rt", "check", "--jobs", "1"], cwd=ROOT / "crates" / name, stdout=open(f"/work/logs/attacks-{name}.check", "w"), stderr=subprocess.STDOUT)
     say(f"{name}: the crate itself: status {ran.returncode} after {time.time() - begin:.0f} s; {len(left)} edits to try")
     if ran.returncode:
         return
