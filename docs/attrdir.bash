@@ -7,7 +7,7 @@ _attrdir() {
 
   # what is completed, by tools/options
   local commands='serve set del get watch status owners log purge begin restore sim'
-  local flags='--log-time --raw --value --mark --retry --all --explain --help --version -h -V --'
+  local flags='--no-wait --log-time --raw --value --mark --retry --all --explain --help --version -h -V --'
   local paths='--log --sock --control --metrics --from --from-control'
   local -A values_of=(
     [--order]='breadth depth'
@@ -17,7 +17,7 @@ _attrdir() {
     [--format]='text json'
   )
   local -A options_of=(
-    [serve]='--name --cluster --log --sock --control --budget --order --max-version --workers --seats --rounds --pause --fanout --idle --session --dial-idle --request --max-reads --on-log-fault --purge-removals --audit --forget --log-time --metrics --metrics-owners --metrics-peers --help'
+    [serve]='--name --cluster --log --sock --control --budget --order --max-version --workers --seats --rounds --pause --fanout --idle --session --dial-idle --request --max-reads --on-log-fault --purge-removals --audit --no-wait --forget --log-time --metrics --metrics-owners --metrics-peers --help'
     [set]='--control --raw --help'
     [del]='--control --help'
     [get]='--control --owner --prefix --key --value --raw --format --help'

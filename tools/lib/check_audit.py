@@ -6,7 +6,7 @@ import time
 
 from check_metrics import awaits
 from check_purging import come_and_go
-from nodes import SECONDS, Difference, delta, digest, exchange, frame, hello, put, read_frame, run, want, weight
+from nodes import DONE, REFUSED, SECONDS, Difference, delta, digest, exchange, frame, hello, put, read_frame, run, want, weight
 
 OWNER_CONFLICT = 21
 OFTEN = ("--audit", "300", "--pause", "50")
@@ -173,7 +173,7 @@ def asks_for_its_name_alone(check):
     with socket.socket(socket.AF_UNIX, socket.SOCK_STREAM) as listener:
         listener.bind(str(folder / "b.sock"))
         listener.listen()
-        node = check.node("a", *OFTEN, folder=folder, peers=[folder / "b.sock"]).start()
+        node = check.node("a", *OFTEN, "--no-wait", folder=folder, peers=[folder / "b.sock"]).start()
         want("a write", node.put("x", 1), 1)
         end = time.monotonic() + SECONDS
         while time.monotonic() < end:
@@ -198,4 +198,88 @@ def asks_for_its_name_alone(check):
         raise Difference("no audit came")
 
 
-PARTS = (older_copy, twins, twin_while_running, no_false_alarm, never, asks_for_its_name_alone)
+def put_at_once(node):
+    """The answer to a write right after the start."""
+    return exchange(node.control, put("first", weight(9)))
+
+
+def refused_at_once(node):
+    """The first write after a start is refused, since the peer is heard before."""
+    node.start()
+    want("the kind of the first answer", put_at_once(node)[0], REFUSED)
+    want("a write after it", exchange(node.control, put("more", weight(1)))[1][0], OWNER_CONFLICT)
+    node.kill()
+
+
+def first_write(check):
+    """With a peer up, an older copy of a log and a twin get fault 21 for their first write, however soon it comes."""
+    folder, other = check.folder(), check.folder()
+    peer = check.node("b", folder=folder).start()
+    node = check.node("a", folder=folder, peers=[peer.sock]).start()
+    want("first writes", [node.put(f"k{at}", at) for at in range(1, 4)], [1, 2, 3])
+    node.kill()
+    kept = node.log.with_name("kept.log")
+    copied(node.log, kept)
+    node.start()
+    want("a later write", node.put("k4", 4), 4)
+    peer.awaits("all of them", lambda found: len(found) == 4)
+    node.kill()
+    moved_back(kept, node.log)
+    for turn in range(5):
+        refused_at_once(node)
+    alone = check.node("a", folder=folder).start()
+    want("the version once more", alone.put("new4", 4), 4)
+    alone.kill()
+    for turn in range(5):
+        refused_at_once(node)
+    twin = check.node("a", folder=other).start()
+    want("writes of a twin", [twin.put(f"k{at}", 7) for at in range(1, 5)], [1, 2, 3, 4])
+    twin.kill()
+    twin = check.node("a", folder=other, peers=[peer.sock])
+    refused_at_once(twin)
+
+
+def told_soon(node):
+    """Questions are answered while the first write waits: after how many seconds the last was."""
+    began = time.monotonic()
+    want("the rows", node.get(), [])
+    # (1 if a peer did not answer)
+    want("the status", node.command("status")[0] in (0, 1), True)
+    return time.monotonic() - began
+
+
+def seconds_of_first_write(node, begins):
+    """Starts a node, and writes at once: after how many seconds that was answered."""
+    began = time.monotonic()
+    node.start()
+    with socket.socket(socket.AF_UNIX, socket.SOCK_STREAM) as stream:
+        stream.settimeout(SECONDS)
+        stream.connect(str(node.control))
+        stream.sendall(put("x", weight(1)))
+        if begins and (took := told_soon(node)) > 1:
+            raise Difference(f"questions were answered after {took:.3} s")
+        want("the write", read_frame(stream), (DONE, (1).to_bytes(8, "big")))
+    return time.monotonic() - began
+
+
+def peers_are_down(check):
+    """A node whose peers are all down takes its first write: at once if they cannot be reached, and after two seconds if they are silent. Questions are
+    answered meanwhile. With --no-wait it waits for nobody."""
+    folder = check.folder()
+    nobody = [folder / "nobody.sock", folder / "none.sock"]
+    took = seconds_of_first_write(check.node("a", folder=check.folder(), peers=nobody), False)
+    if took > 1.5:
+        raise Difference(f"a write was answered after {took:.3} s beside peers that cannot be reached")
+    with socket.socket(socket.AF_UNIX, socket.SOCK_STREAM) as listener:
+        listener.bind(str(folder / "b.sock"))
+        listener.listen()
+        silent = [folder / "b.sock", folder / "nobody.sock"]
+        took = seconds_of_first_write(check.node("a", folder=check.folder(), peers=silent), True)
+        if not 1.9 < took < 2.9:
+            raise Difference(f"a write was answered after {took:.3} s beside a silent peer")
+        took = seconds_of_first_write(check.node("a", "--no-wait", folder=check.folder(), peers=silent), False)
+        if took > 1.5:
+            raise Difference(f"a write was answered after {took:.3} s with --no-wait")
+
+
+PARTS = (older_copy, first_write, peers_are_down, twins, twin_while_running, no_false_alarm, never, asks_for_its_name_alone)

@@ -27,7 +27,7 @@ def peers_over_slow_links(check):
     slow = [SlowProxy(folder / f"slow{at}.sock", far.sock, 1.0) for at in range(3)]
     peers = [*(it.sock for it in near), *(it.path for it in slow)]
     # (three threads for news, of which slow peers leave one to the others)
-    given = ("--dial-idle", "20000", "--fanout", "5", "--workers", "1", "--seats", "6")
+    given = ("--dial-idle", "20000", "--fanout", "5", "--workers", "1", "--seats", "6", "--no-wait")
     node = check.node("a", *given, folder=folder, peers=peers).start()
     awaits_lines(node, [f"peer {it.sock}: answers" for it in near])
     times = []

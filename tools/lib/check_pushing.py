@@ -202,7 +202,7 @@ def late_peers(check):
     """A peer that accepts late is told, and once."""
     folder = check.folder()
     peer = LatePeer(folder / "b.sock", 0.7)
-    node = check.node("a", "--pause", "8000", "--audit", "0", folder=folder, peers=[peer.path]).start()
+    node = check.node("a", "--pause", "8000", "--audit", "0", "--no-wait", folder=folder, peers=[peer.path]).start()
     answers(node, peer.path)
     node.put("k", 5)
     until("the push", lambda: len(peer.heard) == 2 and len(peer.heard[1]) == 3)
@@ -211,12 +211,32 @@ def late_peers(check):
     want("how often it was dialed", len(peer.heard), 2)
 
 
+def streams(check):
+    """Of a stream of 100 writes a second, which no burst can bring one by one, a peer is pushed each write, in some 25 pushes a second."""
+    folder = check.folder()
+    peer = LatePeer(folder / "b.sock", 0)
+    node = check.node("a", "--pause", "60000", "--audit", "0", folder=folder, peers=[peer.path]).start()
+    answers(node, peer.path)
+    times = [time.monotonic()]
+    for at in range(1, 201):
+        node.put(f"k/{at:03}", at)
+        times.append(time.monotonic())
+        time.sleep(max(0, times[0] + at / 100 - times[-1]))
+    until("the push of the last write", lambda: number(200) in b"".join(peer.pushed()))
+    want("which writes were pushed", [it for it in range(1, 201) if f"k/{it:03}".encode() in b"".join(peer.pushed())], [*range(1, 201)])
+    # (what is written 20 ms after the last write may be pushed at once)
+    late = sum(15e-3 < here - before for before, here in zip(times, times[1:]))
+    most = 30 * (times[-1] - times[0]) + 2 + late
+    if len(peer.pushed()) > most:
+        raise Difference(f"there were {len(peer.pushed())} pushes, which is more than {most:.0f}")
+
+
 def endless_peers(check):
     """A peer that takes a push and never ends it is told again, all at once; behind two such sessions it is dialed in its turns alone."""
     folder, path = check.folder(), None
     peer = LatePeer(folder / "b.sock", 0)
     path = folder / "a.prom"
-    node = check.node("a", "--pause", "4000", "--dial-idle", "300", "--audit", "0", "--metrics", str(path), folder=folder, peers=[peer.path]).start()
+    node = check.node("a", "--pause", "4000", "--dial-idle", "300", "--audit", "0", "--no-wait", "--metrics", str(path), folder=folder, peers=[peer.path]).start()
     answers(node, peer.path)
     peer.ends = False
     for at in (1, 2, 3):
@@ -239,7 +259,7 @@ def pushes_beside_releases(check):
         conversation = turns(release, "peer")
         # (the Hello of its node b, by which a session begins)
         peer = LatePeer(folder / "b.sock", 0, greeting=conversation[0][1])
-        node = check.node("a", "--pause", "60000", folder=folder, peers=[peer.path]).start()
+        node = check.node("a", "--pause", "60000", "--no-wait", folder=folder, peers=[peer.path]).start()
         answers(node, peer.path)
         node.put("k", 5)
         until("a push", lambda: len(peer.pushed()) == 1)
@@ -256,4 +276,4 @@ def pushes_beside_releases(check):
         want("how the news of it begins", peer.pushed()[1][:4], number(1, 2) + b"\x01b")
 
 
-PARTS = (pushes, gaps, late_peers, endless_peers, pushes_beside_releases)
+PARTS = (pushes, gaps, late_peers, streams, endless_peers, pushes_beside_releases)

@@ -101,7 +101,7 @@ def silent_peers(check):
     folder = check.folder()
     silent, other = Swallower(folder / "silent.sock"), check.node("b", folder=folder).start()
     peers = [folder / "silent.sock", other.sock]
-    node = check.node("a", "--pause", "50", "--dial-idle", "400", folder=folder, peers=peers).start()
+    node = check.node("a", "--pause", "50", "--dial-idle", "400", "--no-wait", folder=folder, peers=peers).start()
     began, count = time.monotonic(), 0
     while time.monotonic() - began < 4:
         seconds = seconds_until(node, "b", other.put("k", count))

@@ -466,7 +466,7 @@ const PURGE_REMOVALS: Part = Part {
     help: "With N tombstones or more the node drops them, all when it starts and the older half while it runs, 0 for never",
 };
 
-/// A node also audits each peer once, after the first round in turn in which it answers. See [Audits](#audits).
+/// A node also audits each peer once, after the first round in which the peer answers. See [Audits](#audits).
 /// Greater: Two nodes under one name, or an older copy of a log, show later.
 /// Smaller: They show sooner. Each audit costs about as much as the rows of the name.
 const AUDIT: Part = Part {
@@ -474,6 +474,18 @@ const AUDIT: Part = Part {
     kind: Kind::NumberOr(Range::Any, "60000"),
     value: "MS",
     help: "After how many milliseconds the node compares again what a peer holds of its name with its log, 0 for never",
+};
+
+/// For how long the first write of a node waits for its peers, in milliseconds.
+const HEARING_MOST: u64 = 2_000;
+
+/// Without it the first write waits until the node has heard each peer, for two seconds at most. See [The first
+/// write](#the-first-write).
+const NO_WAIT: Part = Part {
+    name: "no-wait",
+    kind: Kind::Flag,
+    value: "",
+    help: "Takes writes at once, before the node has heard its peers",
 };
 
 /// It can be given 64 times, once for each name. The node shows no row of it, and nobody hears of one from this node. See [Owners
@@ -590,6 +602,11 @@ fn pace_of(given: &ArgMatches<'_>) -> Pace {
         on_log_fault,
         purge_removals: PURGE_REMOVALS.number(given),
         audit: AUDIT.number(given),
+        hearing: if NO_WAIT.is_given(given) {
+            0
+        } else {
+            HEARING_MOST
+        },
     }
 }
 
@@ -620,6 +637,7 @@ const SERVE_TASK: Task = Task {
         ON_LOG_FAULT,
         PURGE_REMOVALS,
         AUDIT,
+        NO_WAIT,
         FORGET,
         LOG_TIME,
         METRICS,

@@ -1,10 +1,11 @@
 -- How news is on its way to peers.
-use Rattle.std.specs.Prelude.{◌≡◌, ◌≢◌, ℕ, ◌-◌, Bool, true, false, not, ◌&&◌, ◌||◌, nat_lt, List, count_by, Some, slice_get, IfSome}
+use Rattle.std.specs.List.{list_any}
+use Rattle.std.specs.Prelude.{◌≡◌, ◌≢◌, ℕ, ◌-◌, Bool, true, false, not, ◌&&◌, ◌||◌, if◌then◌else◌, nat_lt, List, count_by, Some, slice_get, IfSome}
 use Rattle.sb_run.specs.declared.schedule.Delivery.{Delivery}
 
--- no session with the peer was short yet, and there is no news for it
+-- the peer was not dialed yet: it is due, and no session with it was short
 abbrev pub at_first : Delivery
-at_first = record { is_due = false; is_open = false; is_slow = true }
+at_first = record { is_due = true; is_open = false; is_slow = true }
 
 -- a session with a slow peer is under way
 abbrev pub takes_slow_room : Delivery → Bool
@@ -13,6 +14,10 @@ takes_slow_room delivery = delivery.is_open && delivery.is_slow
 -- one more session with a slow peer leaves room for another session, or there is never room for two
 abbrev pub has_room : ℕ → List Delivery → Bool
 has_room most all = nat_lt most 2 || nat_lt (count_by takes_slow_room all) (most - 1)
+
+-- there is news for a peer that no session has begun to bring
+abbrev pub is_any_due : List Delivery → Bool
+is_any_due all = list_any (λ delivery. delivery.is_due) all
 
 -- a session for news can begin: there is news, none is under way, and there is room for a slow peer or it is not one
 abbrev pub can_begin : Bool → Delivery → Bool
@@ -51,3 +56,7 @@ Changes index change old new =
 -- another round may begin: not so many have begun as are to be made, or they have no end
 abbrev pub has_round_left : ℕ → ℕ → Bool
 has_round_left most begun = nat_lt most 1 || nat_lt begun most
+
+-- how many milliseconds after a burst begins news is gathered for the next: longer if the news of this burst was gathered
+abbrev pub gathering_time : Bool → ℕ
+gathering_time was_gathered = if was_gathered then 40 else 20

@@ -3,23 +3,28 @@ ghost use Rattle.std.specs.Prelude.{◌≡◌, IfOk, IfErr};
 ghost use Rattle.sb_run.specs.Sources.{IsNumbered};
 
 use crate::counts::Counts;
+use crate::dialer::has_come;
+use crate::first_hearing::FirstHearing;
 use crate::node::Pace;
 use crate::pool::{Source, Taken};
 use crate::sockets::{Timed, blocking_stream, limit};
 use crate::threads::EndFlag;
-use crossbeam_channel::{Receiver, Sender, bounded};
+use crossbeam_channel::{Receiver, RecvTimeoutError, Sender, bounded};
 use mio::net;
 use sb_codec::{Ask, Message};
 use sb_types::{Fault, Name};
 use std::alloc::Global;
 use std::io::{Chain, Cursor, Read};
 use std::os::unix::net::UnixStream;
-use std::sync::Wait;
 use std::sync::atomic::{AtomicU64, Ordering};
-use std::time::Clock;
+use std::sync::{Mutex, Wait};
+use std::time::{Clock, Duration};
 
-/// How many things may wait for a worker, and how many for the calling thread.
+/// How many things may wait for a worker, and how many of each kind for the calling thread.
 const HANDED_MOST: usize = 1_024;
+
+/// After how long the calling thread looks again whether the writes that wait may be made, in milliseconds.
+const HEARING_PAUSE: u64 = 10;
 
 /// What a worker is to do next.
 #[derive(Drop)]
@@ -61,9 +66,11 @@ pub(crate) struct Handover {
     handed: u64,
 }
 
-/// What hands requests to the calling thread. Questions have a way of their own, so that they delay no write.
+/// What hands requests to the calling thread. Writes have a way of their own, since they may have to wait while others are
+/// answered. So have questions, which delay no write.
 #[derive(Drop)]
 struct OwnerSender {
+    writes: Sender<Request>,
     questions: Sender<Request>,
     others: Sender<Request>,
     /// One unit for each request that was handed over, sent after it.
@@ -79,9 +86,14 @@ pub(crate) struct Jobs {
 /// The end of the calling thread.
 #[derive(Drop)]
 pub(crate) struct Requests {
+    writes: Receiver<Request>,
     questions: Receiver<Request>,
     others: Receiver<Request>,
     arrivals: Receiver<()>,
+    /// Whether writes wait no longer for the peers.
+    takes_writes: bool,
+    /// How many arrivals were of writes that had to wait.
+    held: u64,
 }
 
 /// The ways from the thread that accepts to the workers and to the calling thread. `NoMemory`.
@@ -102,18 +114,23 @@ pub(crate) fn new_handover(alloc: Global) -> Result<(Handover, Jobs, Requests), 
 fn new_owner_way(alloc: Global) -> Result<(OwnerSender, Requests), Fault>
     ensures { IfErr result (λ fault. fault ≡ Fault.NoMemory) }
 {
+    let (to_writes, writes) = bounded::<Request, Global>(alloc, HANDED_MOST)?;
     let (to_questions, questions) = bounded::<Request, Global>(alloc, HANDED_MOST)?;
     let (to_others, others) = bounded::<Request, Global>(alloc, HANDED_MOST)?;
-    let (to_arrivals, arrivals) = bounded::<(), Global>(alloc, 2 * HANDED_MOST)?;
+    let (to_arrivals, arrivals) = bounded::<(), Global>(alloc, 3 * HANDED_MOST)?;
     let sender = OwnerSender {
+        writes: to_writes,
         questions: to_questions,
         others: to_others,
         arrivals: to_arrivals,
     };
     let requests = Requests {
+        writes,
         questions,
         others,
         arrivals,
+        takes_writes: false,
+        held: 0,
     };
     Ok((sender, requests))
 }
@@ -122,6 +139,7 @@ impl OwnerSender {
     /// Hands a request to the calling thread, and says whether there was room.
     fn give<R: Wait>(&self, rt: &R, request: Request) -> bool {
         let way = match request.message {
+            Message::Put(_) => &self.writes,
             Message::Ask(_) => &self.questions,
             _ => &self.others,
         };
@@ -196,16 +214,82 @@ impl Handover {
 }
 
 impl Requests {
-    /// The next request, questions after all others; none once the node is to end.
-    pub(crate) fn next<R: Wait>(&self, rt: &R, ending: &EndFlag) -> Option<Request> {
-        let arrived = self.arrivals.recv(rt);
-        if ending.is_raised() || arrived.is_err() {
-            return None;
+    /// Whether writes may be made. They wait until the peers were heard, or until the moment up to which they wait at most.
+    fn takes_writes<R: Wait + Clock>(&mut self, rt: &R, hearing: &Mutex<FirstHearing>) -> bool {
+        if !self.takes_writes {
+            let until = hearing.lock(rt).waits_until();
+            self.takes_writes = until.is_none() || has_come(rt, until);
+        }
+        self.takes_writes
+    }
+
+    /// The first request that may be answered: of the writes if these are taken, then of the others, then of the questions.
+    fn take<R: Wait>(&self, rt: &R, takes_writes: bool) -> Option<Request> {
+        if takes_writes {
+            if let Ok(request) = self.writes.try_recv(rt) {
+                return Some(request);
+            }
         }
         match self.others.try_recv(rt) {
             Ok(request) => Some(request),
             Err(_) => self.questions.try_recv(rt).ok(),
         }
+    }
+
+    /// A request for which no arrival is to be waited for, since a write that had to wait arrived before. None if there is none.
+    fn take_held<R: Wait>(&mut self, rt: &R) -> Option<Request> {
+        if self.held == 0 {
+            return None;
+        }
+        self.held = self.held.saturating_sub(1);
+        self.take(rt, true)
+    }
+
+    /// Waits for the arrival of a request, only for a while if writes wait. Whether one arrived; none if no more can.
+    fn await_arrival<R: Wait + Clock>(&self, rt: &R) -> Option<bool> {
+        if self.held == 0 {
+            return match self.arrivals.recv(rt) {
+                Ok(()) => Some(true),
+                Err(_) => None,
+            };
+        }
+        match self
+            .arrivals
+            .recv_timeout(rt, Duration::from_millis(HEARING_PAUSE))
+        {
+            Ok(()) => Some(true),
+            Err(RecvTimeoutError::Timeout) => Some(false),
+            Err(RecvTimeoutError::Disconnected) => None,
+        }
+    }
+
+    /// The next request, questions after all others; none once the node is to end. Writes wait until the peers were heard, and
+    /// others are answered meanwhile.
+    pub(crate) fn next<R: Wait + Clock>(
+        &mut self,
+        rt: &R,
+        ending: &EndFlag,
+        hearing: &Mutex<FirstHearing>,
+    ) -> Option<Request> {
+        for _ in rt.forever() {
+            if self.held > 0 && self.takes_writes(rt, hearing) {
+                if let Some(request) = self.take_held(rt) {
+                    return Some(request);
+                }
+            }
+            let has_arrived = self.await_arrival(rt)?;
+            if ending.is_raised() {
+                return None;
+            }
+            if has_arrived {
+                let takes_writes = self.takes_writes(rt, hearing);
+                match self.take(rt, takes_writes) {
+                    Some(request) => return Some(request),
+                    None => self.held = self.held.saturating_add(1),
+                }
+            }
+        }
+        unreachable!()
     }
 }
 

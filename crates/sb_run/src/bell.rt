@@ -12,7 +12,7 @@ use std::sync::atomic::{AtomicBool, Ordering};
 pub(crate) struct Bell {
     /// Wakes the thread of the turns.
     turns: Unparker,
-    /// Wakes the thread that waits for news.
+    /// Wakes the thread that waits for news. If there is none, that of the turns does, and this wakes it.
     news: Unparker,
     /// Whether there is news that no burst has taken up.
     has_news: AtomicBool,
@@ -29,9 +29,19 @@ pub(crate) struct Parkers {
     pub(crate) news: Parker,
 }
 
+/// Wakes the thread that waits for news. The thread of the turns may be alone, and then it does.
+fn waits_for_news(parkers: &Parkers, is_alone: bool) -> &Unparker {
+    if is_alone {
+        parkers.turns.unparker()
+    } else {
+        parkers.news.unparker()
+    }
+}
+
 impl Bell {
-    /// A bell, and what the threads that it wakes wait at. `NoMemory`.
-    pub(crate) fn new(alloc: Global) -> Result<(Bell, Parkers), Fault>
+    /// A bell, and what the threads that it wakes wait at. The thread of the turns may be alone, with none for news beside it.
+    /// `NoMemory`.
+    pub(crate) fn new(alloc: Global, is_alone: bool) -> Result<(Bell, Parkers), Fault>
         ensures { IfErr result (λ fault. fault ≡ Fault.NoMemory) }
     {
         let parkers = Parkers {
@@ -40,7 +50,7 @@ impl Bell {
         };
         let bell = Bell {
             turns: parkers.turns.unparker().clone()?,
-            news: parkers.news.unparker().clone()?,
+            news: waits_for_news(&parkers, is_alone).clone()?,
             has_news: AtomicBool::new(false),
             has_new_owner: AtomicBool::new(false),
             has_gap: AtomicBool::new(false),
@@ -53,14 +63,21 @@ impl Bell {
         if is_new_owner {
             self.has_new_owner.store(true, Ordering::SeqCst);
         }
-        self.has_news.store(true, Ordering::SeqCst);
-        self.wake();
+        // Whoever rang before woke the thread that takes the news up.
+        if !self.has_news.swap(true, Ordering::SeqCst) {
+            self.wake_for_news();
+        }
+    }
+
+    /// Wakes the thread that waits for news, without news.
+    pub(crate) fn wake_for_news(&self) {
+        self.news.unpark();
     }
 
     /// Wakes the threads without news.
     pub(crate) fn wake(&self) {
         self.turns.unpark();
-        self.news.unpark();
+        self.wake_for_news();
     }
 
     /// Whether there is news that was not taken.

@@ -165,8 +165,8 @@ impl<S: RoundsTag, H: Wait + Drop, Q: Wait> NodeContext<'_, S, H, Q> {
 }
 
 impl<S: RoundsTag, H: Wait + Drop, Q: Wait + Clock> NodeContext<'_, S, H, Q> {
-    /// Answers one request after another, until the node is to end. It ends the node itself if the log takes no more writes and
-    /// the node is to exit then. If the log is closed at the start, that is before the first request.
+    /// Answers one request after another, until the node is to end. Writes wait until the peers were heard. It ends the node itself if
+    /// the log takes no more writes and the node is to exit then. If the log is closed at the start, that is before the first request.
     pub(crate) fn answer_requests<L: WriteLog + Drop, O: Observer>(
         &self,
         requests: Requests,
@@ -179,7 +179,7 @@ impl<S: RoundsTag, H: Wait + Drop, Q: Wait + Clock> NodeContext<'_, S, H, Q> {
         ensures failed { writes.has_failed ≡ true → self.now.pace.on_log_fault ≡ OnLogFault.Exit → result.has_left ≡ true }
     {
         let observer = dialing.observer();
-        let (mut writes, mut current) = (writes, seat);
+        let (mut requests, mut writes, mut current) = (requests, writes, seat);
         let mut faults: u64 = 0;
         if self.ends_with_log(&mut writes, observer) {
             return ControlEnd {
@@ -190,7 +190,7 @@ impl<S: RoundsTag, H: Wait + Drop, Q: Wait + Clock> NodeContext<'_, S, H, Q> {
         }
         let mut turns = PurgeTurns::new(self.pace.purge_removals);
         for _ in self.rt.forever() {
-            let Some(request) = requests.next(self.rt, self.ending) else {
+            let Some(request) = requests.next(self.rt, self.ending, self.hearing) else {
                 // A thread that dials ends the node too if it finds the log lost.
                 return ControlEnd {
                     seat: current,

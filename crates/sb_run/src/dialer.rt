@@ -207,8 +207,8 @@ impl<'a, O: Observer> Dialing<'a, O> {
         }
     }
 
-    /// Makes one round with the peer at this index, which has begun. A peer that answers in its turn is then audited, once in a
-    /// run. After a round for news it is not, since a slow peer would then hold up the news for others.
+    /// Makes one round with the peer at this index, which has begun. A peer that answers is then audited, once in a run. After
+    /// that the peer was heard. A slow peer counts as under way until then, so that it holds up no news for others.
     pub(crate) fn round<S: RoundsTag, H: Wait + Drop, Q: Wait + Net + Clock>(
         &self,
         node: &NodeContext<S, H, Q>,
@@ -222,14 +222,17 @@ impl<'a, O: Observer> Dialing<'a, O> {
         let path = self.schedule.lock(node.rt).path(index);
         let start = SessionStart::now(node.rt, node.pace.dial_idle);
         let (seat, state) = dial_peer(node, index, path, seat, digests.count);
-        self.end_round(node, index, cause, start.ended(node.rt, state));
-        self.look_at_log(node);
-        node.bell.wake();
-        if state.is_answer() && matches!(cause, Cause::Turn) {
+        let end = start.ended(node.rt, state);
+        let seat = if state.is_answer() {
             self.audit_first(node, seat, index)
         } else {
             seat
-        }
+        };
+        self.end_round(node, index, cause, end);
+        node.hearing.lock(node.rt).note_heard(index);
+        self.look_at_log(node);
+        node.bell.wake();
+        seat
     }
 
     /// What is to be done for the peer at this index, for which there is news.
@@ -303,8 +306,18 @@ impl<'a, O: Observer> Dialing<'a, O> {
             }
             Plan::Nothing => self.schedule.lock(node.rt).leave_out(index),
         }
-        node.bell.wake();
+        self.wake_after_news(node);
         seat
+    }
+
+    /// Wakes the threads that have something to do after a session for news. That is the one that waits for news if news is due,
+    /// and both if a peer is otherwise than before.
+    fn wake_after_news<S: RoundsTag, H: Wait + Drop, Q: Wait>(&self, node: &NodeContext<S, H, Q>) {
+        if self.schedule.lock(node.rt).has_changed() {
+            node.bell.wake();
+        } else if self.schedule.lock(node.rt).is_news_due() {
+            node.bell.wake_for_news();
+        }
     }
 
     /// Looks after a round whether the file of the log is lost, and ends the node if it is to exit then.
@@ -455,8 +468,8 @@ impl<'a> Turns<'a> {
         })
     }
 
-    /// Whether the observer is to get the status of the node: a peer is otherwise than before, or a round has ended and the last
-    /// status is a second old.
+    /// Whether the observer is to get the status of the node. It is if a peer is otherwise than before, or if a round has ended and
+    /// the last status is a second old.
     fn is_status_due<O: Observer, Q: Wait + Clock>(
         &self,
         rt: &Q,
@@ -516,6 +529,10 @@ impl<'a> Turns<'a> {
         let mut current = seat;
         // What is missing by now this round may bring.
         let _ = node.bell.take_gap();
+        if self.due.is_none() {
+            // The other threads begin with the other peers.
+            node.bell.wake();
+        }
         match next {
             Some(index) => {
                 current = dialing.round(node, current, index, Cause::Turn);
@@ -532,14 +549,23 @@ impl<'a> Turns<'a> {
         current
     }
 
+    /// When the observer is to get the status of the node, if a round has ended since it got the last one. None if it can get it
+    /// now.
+    fn next_status<Q: Wait + Clock, O: Observer>(
+        &self,
+        rt: &Q,
+        dialing: &Dialing<'a, O>,
+    ) -> Option<Instant> {
+        let ended = dialing.schedule().lock(rt).counts().ended;
+        if ended == self.reported || has_come(rt, self.status_due) {
+            return None;
+        }
+        self.status_due
+    }
+
     /// Waits until the next round in turn is due or the thread is woken, and no longer than until this moment, if it is one.
     fn park<Q: Wait + Clock>(&self, rt: &Q, until: Option<Instant>) {
-        let moment = match (self.due, until) {
-            (Some(due), Some(until)) if due <= until => Some(due),
-            (due, None) => due,
-            (_, until) => until,
-        };
-        match moment {
+        match earlier(self.due, until) {
             Some(moment) => self.parker.park_deadline(rt, moment),
             None => self.parker.park(rt),
         }
@@ -591,7 +617,7 @@ impl<'a> Turns<'a> {
                 }
                 NewsStep::Wait(until) => {
                     current = self.tell_status(node, dialing, current);
-                    self.park(node.rt, until);
+                    self.park(node.rt, earlier(until, self.next_status(node.rt, dialing)));
                 }
             }
         }
@@ -624,6 +650,14 @@ impl<'a> Turns<'a> {
             }
         }
         unreachable!()
+    }
+}
+
+/// The earlier of two moments, if both are moments, and else the one that is.
+fn earlier(one: Option<Instant>, other: Option<Instant>) -> Option<Instant> {
+    match (one, other) {
+        (Some(one), Some(other)) => Some(one.min(other)),
+        (one, other) => one.or(other),
     }
 }
 

@@ -103,6 +103,8 @@
 //!   learns of another owner, or never. The tests of `sb_run` and `tools/check-node` refuse it.
 //! - A node audits nobody, another peer, too seldom or too often, or does not report what it found. Or an audit asks for too
 //!   much, stops too soon, or goes on too long. The tests of `sb_run` and `tools/check-node` refuse it.
+//! - The first write never waits for the peers, or waits for longer than it may. Or other requests wait with it. Or the
+//!   first rounds are not made at once. The tests of `sb_run` and `tools/check-node` refuse it.
 //! - A session begins without what its peer was offered in vain in the one before, or with what another peer was. The
 //!   tests of `sb_run` and `tools/check-node` refuse it.
 //! - A node forgets what it offered, or defers nothing, as if memory were missing. The tests of `sb_run` and
@@ -123,6 +125,7 @@ mod counts;
 mod dialer;
 mod dialing;
 mod facts;
+mod first_hearing;
 mod first_message;
 mod forgetting;
 mod gate;

@@ -4,11 +4,12 @@ ghost use Rattle.sb_run.specs.Closing.{seen_by};
 ghost use Rattle.sb_run.specs.Running as spec;
 ghost use Rattle.sb_run.specs.Running.{IsReadFrom, IsRunningFault, IsOpenedFault, RunsClosed, IsTagOf, IsStarted};
 
-use crate::accepting::Acceptor;
+use crate::accepting::{Acceptor, deadline_after};
 use crate::arrivals::{Asked, new_handover};
 use crate::bell::Bell;
 use crate::counts::Counts;
 use crate::dialer::{Dialing, RoundsTag, rounds_channel};
+use crate::first_hearing::FirstHearing;
 use crate::forgetting::ForgottenOwners;
 use crate::observer::Observer;
 use crate::own_writes::{ClosableLog, OwnWrites};
@@ -27,8 +28,8 @@ use std::alloc::Global;
 use std::marker::Brand;
 use std::net::{Net, TcpListener, TcpStream};
 use std::rt::Files;
-use std::sync::Wait;
 use std::sync::ledger::Blank;
+use std::sync::{Mutex, Wait};
 use std::thread::Threads;
 use std::time::Clock;
 
@@ -78,6 +79,8 @@ pub struct Pace {
     pub purge_removals: u64,
     /// After how many milliseconds it compares again what a peer holds of its own name with its own table; 0 for never.
     pub audit: u64,
+    /// For how many milliseconds after its start its first own write waits, at most, until each peer was heard; 0 for none.
+    pub hearing: u64,
 }
 
 /// What a node is to do: its settings, its sockets and its pace, and which owners it forgets.
@@ -138,17 +141,21 @@ fn start_refusal<L: WriteLog>(settings: &Settings, log: &L) -> Option<Fault>
 /// The seats beyond two and one for each worker are for this: so many peers are dialed side by side. Without such seats they
 /// are dialed one after another, between the rounds in turn. A peer has at most one session for news at a time; news during
 /// one makes another after it. Peers whose last session took half a second or more leave one of these seats to others. News
-/// that comes within twenty milliseconds goes together. With no pause there is no need of it.
+/// that comes within twenty milliseconds goes together, in a stream within forty. With no pause there is no need of it.
 ///
 /// A push is not a round. It counts as taken only if the peer greeted and ended the connection itself. If not, the next push to
-/// this peer has the same again. If a peer's delta has writes after ones that the node lacks, the next round in turn is made at
-/// once, at most once a pause.
+/// this peer has the same again. A peer's delta can have writes after ones that the node lacks. Then the next round in turn is
+/// made at once, at most once a pause.
 ///
-/// The node audits each peer once, after the first round in turn that was made to its end. Then it audits one after another,
+/// The node audits each peer once, after the first round with it that was made to its end. Then it audits one after another,
 /// one each `audit` milliseconds. It asks the peer for the rows of its own name in a session of its own, and compares them with
 /// its own table. Say the peer has a row that the log never gave, or lacks one that it should have. Then another node or an
 /// older copy of the log writes under this name. The node refuses writes by `OwnerConflict`, and reports to the observer what
 /// it found.
+///
+/// At the start each peer is due to be dialed, side by side as for news, and also with no `fanout`. A write waits until each
+/// peer was heard: its first round ended, and so did its first audit if it answered. It waits no longer than until `hearing`
+/// milliseconds after the start. Other requests are answered meanwhile.
 ///
 /// A connection takes a worker or the calling thread only once it has something to say: a peer's whole Hello, or a client's
 /// whole request. Until then it waits, for `idle` milliseconds at `sock` and for `request` at `control`, or `idle` if that is
@@ -425,12 +432,13 @@ pub(crate) fn run_tagged<
     ensures failed { start.writes.has_failed ≡ true → pace.on_log_fault ≡ OnLogFault.Exit → IsErr result }
 {
     let (rounds_sender, rounds_receiver) = rounds_channel::<S>(alloc)?;
-    let (bell, parkers) = Bell::new(alloc)?;
     let (handover, jobs, requests) = new_handover(alloc)?;
     let events = Acceptor::events(alloc)?;
     let (directory, thread_seats) = seat_all::<S, R>(rt, alloc, start.directory)?;
     let threads = thread_seats.news.len();
+    let (bell, parkers) = Bell::new(alloc, threads == 0)?;
     let (dialing, turns) = Dialing::new(alloc, paths.peers, &pace, threads, observer, parkers)?;
+    let hearing = FirstHearing::new(alloc, paths.peers.len(), deadline_after(rt, pace.hearing))?;
     let Ok((sockets, poll)) = BoundSockets::bind(rt, paths.sock, paths.control, observer) else {
         return Err(Fault::ReadFailed);
     };
@@ -445,7 +453,7 @@ pub(crate) fn run_tagged<
     };
     let (workers, forgotten) = (directory.settings().workers(), start.forgotten);
     let (ending, counts, asked) = (EndFlag::new(), Counts::new(rt, workers), Asked::new());
-    let vain_offers = VainOffers::new(alloc);
+    let (vain_offers, hearing) = (VainOffers::new(alloc), Mutex::new(hearing));
     let node = NodeContext {
         rt,
         alloc,
@@ -457,6 +465,7 @@ pub(crate) fn run_tagged<
         asked: &asked,
         forgotten: &forgotten,
         vain_offers: &vain_offers,
+        hearing: &hearing,
         pace,
     };
     let finished = dialing.run_threads(&node, start.writes, thread_seats, links);

@@ -17,6 +17,9 @@ use std::time::{Clock, Instant};
 /// How long after a burst begins news is gathered for the next, in milliseconds.
 const NEWS_INTERVAL: u64 = 20;
 
+/// The same after a burst of news that was gathered, as in a stream of writes.
+const STREAM_INTERVAL: u64 = 40;
+
 /// How a session with a peer ended: a round, or a push.
 #[derive(Clone, Copy)]
 pub(crate) struct SessionEnd {
@@ -78,6 +81,19 @@ pub(crate) struct Schedule<'a> {
     has_changed: bool,
     /// Until when news is gathered for the next burst.
     gathers_until: Option<Instant>,
+    /// Whether there is news that was gathered.
+    has_gathered: bool,
+}
+
+/// How long after a burst begins news is gathered for the next, in milliseconds. The news of the burst was gathered or not.
+fn gathering_time(was_gathered: bool) -> u64
+    ensures { result ≡ spec.gathering_time was_gathered }
+{
+    if was_gathered {
+        STREAM_INTERVAL
+    } else {
+        NEWS_INTERVAL
+    }
 }
 
 impl<'a> Schedule<'a> {
@@ -102,6 +118,7 @@ impl<'a> Schedule<'a> {
             },
             has_changed: false,
             gathers_until: None,
+            has_gathered: false,
         })
     }
 
@@ -113,15 +130,31 @@ impl<'a> Schedule<'a> {
     }
 
     /// Begins a round in turn, if another round may begin, and gives the index of the peer whose turn it is, if there are peers.
+    /// The first round leaves each other peer due.
     pub(crate) fn begin_turn(&mut self) -> Option<Option<usize>>
         ensures none { result ≡ None → spec.has_round_left self.old.most self.old.begun ≡ false }
         ensures some { IfSome result (λ _. spec.has_round_left self.old.most self.old.begun ≡ true) }
+        ensures first { self.old.begun ≡ 0 → IfSome result (λ next. IfSome next (λ index. spec.Changes index spec.without_news self.old.deliveries.all.items self.new.deliveries.all.items)) }
     {
         if !self.has_round_left() {
             return None;
         }
+        let is_first = self.begun == 0;
         self.begun = self.begun.saturating_add(1);
-        Some(self.peers.next_in_turn())
+        let next = self.peers.next_in_turn();
+        if is_first {
+            self.leave_to_turn(next);
+        }
+        Some(next)
+    }
+
+    /// Notes that the peer at this index, if there is one, is not dialed for news: its first round is in turn.
+    fn leave_to_turn(&mut self, next: Option<usize>)
+        ensures left { IfSome next (λ index. spec.Changes index spec.without_news self.old.deliveries.all.items self.new.deliveries.all.items) }
+    {
+        if let Some(index) = next {
+            self.deliveries.forget(index);
+        }
     }
 
     /// Begins a session for news with the next peer for which there is any and with which one can begin.
@@ -146,19 +179,22 @@ impl<'a> Schedule<'a> {
         }
     }
 
-    /// What a thread that dials for news is to do next. A burst begins if there is news and no earlier news can be
-    /// brought. News that comes soon after a burst began is gathered first.
+    /// What a thread that dials for news is to do next. Once the first round in turn has begun, it dials the peers that were not
+    /// dialed yet. A burst begins if there is news and no earlier news can be brought. News that comes soon after a burst began
+    /// is gathered first, and longer in a stream.
     pub(crate) fn next_news<Q: Clock>(&mut self, clock: &Q, bell: &Bell, pace: &Pace) -> NewsStep {
-        if pace.pause == 0 || pace.fanout == 0 {
+        if pace.pause == 0 || self.begun == 0 {
             return NewsStep::Wait(None);
         }
         let mut next = self.begin_delivery();
-        if next.is_none() && bell.has_news() {
+        if next.is_none() && pace.fanout != 0 && bell.has_news() {
             if self.gathers_until.is_some() && !has_come(clock, self.gathers_until) {
+                self.has_gathered = true;
                 return NewsStep::Wait(self.gathers_until);
             }
             let _ = bell.take_news();
-            self.gathers_until = moment_after(clock, NEWS_INTERVAL);
+            self.gathers_until = moment_after(clock, gathering_time(self.has_gathered));
+            self.has_gathered = false;
             self.begin_burst(pace.fanout);
             next = self.begin_delivery();
         }
@@ -253,6 +289,20 @@ impl<'a> Schedule<'a> {
         self.counts
     }
 
+    /// Whether there is news for a peer that no session has begun to bring.
+    pub(crate) fn is_news_due(&self) -> bool
+        ensures { result ≡ spec.is_any_due self.now.deliveries.all.items }
+    {
+        self.deliveries.is_any_due()
+    }
+
+    /// Whether a peer was otherwise than before since `take_change` was last called.
+    pub(crate) fn has_changed(&self) -> bool
+        ensures { result ≡ self.now.has_changed }
+    {
+        self.has_changed
+    }
+
     /// Whether a peer was otherwise than before since this was last asked.
     pub(crate) fn take_change(&mut self) -> bool {
         let has_changed = self.has_changed;
@@ -306,7 +356,7 @@ impl<'a> Schedule<'a> {
 /// How news is on its way to one peer.
 #[derive(Clone, Copy, Drop)]
 pub(crate) struct Delivery {
-    /// There is news for it, which no session has begun to bring.
+    /// There is news for it, which no session has begun to bring, or it was never dialed.
     is_due: bool,
     /// A session for news with it is under way.
     is_open: bool,
@@ -343,15 +393,15 @@ pub(crate) struct Deliveries {
 }
 
 impl Deliveries {
-    /// Nothing is due to so many peers. So many of them can be brought news at a time. Each counts as slow until a session with
-    /// it was short. `NoMemory`.
+    /// Each of so many peers is due to be dialed, since it was not yet. So many of them can be brought news at a time. Each counts
+    /// as slow until a session with it was short. `NoMemory`.
     pub(crate) fn new(alloc: Global, count: usize, most: usize) -> Result<Deliveries, Fault>
         ensures all { IfOk result (λ deliveries. deliveries.all.items ≡ replicate count spec.at_first) }
         ensures first { IfOk result (λ deliveries. (deliveries.most ≡ most) × (deliveries.turn ≡ 0)) }
         ensures memory { IfErr result (λ fault. fault ≡ Fault.NoMemory) }
     {
         let at_first = Delivery {
-            is_due: false,
+            is_due: true,
             is_open: false,
             is_slow: true,
         };
@@ -386,6 +436,13 @@ impl Deliveries {
             }
         }
         self.most < 2 || slow < self.most - 1
+    }
+
+    /// Whether there is news for a peer that no session has begun to bring.
+    fn is_any_due(&self) -> bool
+        ensures { result ≡ spec.is_any_due self.now.all.items }
+    {
+        self.all.iter().any(|delivery| delivery.is_due)
     }
 
     /// Notes that there is news for the peer at this index.

@@ -10,6 +10,7 @@ use crate::bell::Bell;
 use crate::control_socket::ControlEnd;
 use crate::counts::Counts;
 use crate::dialer::{Dialing, Rounds, RoundsReceiver, RoundsSender, RoundsTag, Turns};
+use crate::first_hearing::FirstHearing;
 use crate::forgetting::ForgottenOwners;
 use crate::gate::{Gate, GatePoint};
 use crate::log_watch::LogWatch;
@@ -25,8 +26,8 @@ use sb_session::Ended;
 use sb_types::{Delta, Fault};
 use std::alloc::Global;
 use std::net::{Net, TcpListener, TcpStream};
-use std::sync::Wait;
 use std::sync::atomic::{AtomicBool, Ordering};
+use std::sync::{Mutex, Wait};
 use std::thread;
 use std::thread::{JoinHandle, Promise, PromisedHandle, Scope, Threads};
 use std::time::Clock;
@@ -446,6 +447,8 @@ pub(crate) struct NodeContext<'a, S: RoundsTag, H: Wait + Drop, Q> {
     pub(crate) asked: &'a Asked,
     pub(crate) forgotten: &'a ForgottenOwners,
     pub(crate) vain_offers: &'a VainOffers,
+    /// Which peers were heard.
+    pub(crate) hearing: &'a Mutex<FirstHearing>,
     pub(crate) pace: Pace,
     ghost paced: { pace.rounds ≡ S.rounds },
 }

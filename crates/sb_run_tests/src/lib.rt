@@ -21,6 +21,8 @@ mod failing;
 #[cfg(test)]
 mod forgetting;
 #[cfg(test)]
+mod hearing;
+#[cfg(test)]
 mod making;
 #[cfg(test)]
 mod owing;

@@ -50,6 +50,7 @@ pub(crate) fn pace(rounds: u64, idle: u64) -> Pace {
         on_log_fault: OnLogFault::Serve,
         purge_removals: 0,
         audit: 0,
+        hearing: 0,
     }
 }
 
