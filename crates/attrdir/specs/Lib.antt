@@ -4,6 +4,4 @@ pub mod Beginning
 pub mod Owners
 pub mod Removals
 pub mod Restoring
-pub mod Rows
-pub mod Status
 pub mod Troubles

@@ -11,7 +11,9 @@ use jiff::Timestamp;
 use sb_directory::Difference;
 use sb_run::{LogCause, LogLoss, Observer, PeerState, Status};
 use sb_types::{Fault, KEYS_MOST, Name, OWNERS_MOST};
+use std::alloc::Global;
 use std::fmt;
+use std::sync::Mutex;
 use std::sync::atomic::{AtomicBool, Ordering};
 
 /// How much a line matters.
@@ -72,6 +74,8 @@ pub(crate) struct Console<'r, 'a> {
     pub(crate) has_time: bool,
     /// The file of metrics.
     pub(crate) metrics: Option<MetricsFile<'a>>,
+    /// The metrics as they were told last, if they are asked for over HTTP.
+    pub(crate) told: Option<Mutex<Vec<u8>>>,
     /// Which metrics the file has.
     pub(crate) series: Series,
     /// When the node was started, in seconds since 1970; 0 if the clock could not be read.
@@ -249,6 +253,24 @@ impl Console<'_, '_> {
     }
 }
 
+/// Keeps the text of metrics, unless there is no memory for it, or another thread reads it now.
+fn keep_metrics(alloc: Global, told: &Mutex<Vec<u8>>, metrics: &Metrics<'_, '_>) {
+    let Ok(text) = format!(in alloc; "{metrics}") else {
+        return;
+    };
+    if let Some(mut kept) = told.try_lock() {
+        *kept = text.into_bytes();
+    }
+}
+
+/// A copy of the kept text. `NoMemory`; `Closed` if another thread writes it now.
+fn kept_metrics(alloc: Global, told: &Mutex<Vec<u8>>) -> Result<Vec<u8>, Fault> {
+    match told.try_lock() {
+        Some(kept) => Ok(Vec::from_slice(alloc, &kept)?),
+        None => Err(Fault::Closed),
+    }
+}
+
 impl Observer for Console<'_, '_> {
     fn release(&self) -> &str {
         RELEASE
@@ -349,6 +371,16 @@ impl Observer for Console<'_, '_> {
         self.report_troubles(status);
         if let Some(file) = &self.metrics {
             self.write_metrics(file, &metrics);
+        }
+        if let Some(told) = &self.told {
+            keep_metrics(self.rt.alloc(), told, &metrics);
+        }
+    }
+
+    fn metrics(&self, alloc: Global) -> Result<Vec<u8>, Fault> {
+        match &self.told {
+            Some(told) => kept_metrics(alloc, told),
+            None => Err(Fault::Closed),
         }
     }
 

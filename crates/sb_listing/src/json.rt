@@ -3,7 +3,7 @@ ghost use Rattle.std.specs.Prelude.{◌≡◌, ◌∷◌, ◌++◌, [], false, I
 ghost use Rattle.sb_types.specs.Kinds.{word_of, kind_of, content_of};
 ghost use Rattle.sb_frames.specs.Sending.{Sends, OnlyWhereFailed};
 ghost use Rattle.serde_json.specs.View.{view};
-ghost use Rattle.serde_json.specs.Written.{has_float};
+ghost use Rattle.serde_json.specs.Written.{compact_text, has_float};
 ghost use Rattle.sb_listing.specs.Json.{content_data, object_data, row_data, json_line, json_lines};
 
 use sb_codec::{Row, Rows};
@@ -67,13 +67,22 @@ fn object_of(alloc: Global, row: &Row) -> Result<Value, AllocError>
     object_with(alloc, key, kind, owner, &value, row.version())
 }
 
-fn add_json(alloc: Global, out: &mut Vec<u8>, row: &Row) -> Result<(), Fault>
-    ensures added { OnOk result (out.new.items ≡ out.old.items ++ json_line row.now) }
+/// Adds the object of a row, without spaces and without the end of a line. `NoMemory`, with nothing added.
+pub fn add_json_object(alloc: Global, out: &mut Vec<u8>, row: &Row) -> Result<(), Fault>
+    ensures added { OnOk result (out.new.items ≡ out.old.items ++ compact_text (row_data row.now)) }
     ensures memory { IfErr result (λ fault. fault ≡ Fault.NoMemory) }
 {
     let object = object_of(alloc, row)?;
     let text = object.to_vec(alloc)?;
     out.extend_from_slice(&text)?;
+    Ok(())
+}
+
+fn add_json(alloc: Global, out: &mut Vec<u8>, row: &Row) -> Result<(), Fault>
+    ensures added { OnOk result (out.new.items ≡ out.old.items ++ json_line row.now) }
+    ensures memory { IfErr result (λ fault. fault ≡ Fault.NoMemory) }
+{
+    add_json_object(alloc, out, row)?;
     out.push(b'\n')?;
     Ok(())
 }

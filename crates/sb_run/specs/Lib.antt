@@ -20,3 +20,4 @@ pub mod LogCauses
 pub mod Facts
 pub mod StatusReplies
 pub mod Auditing
+pub mod HttpReads
