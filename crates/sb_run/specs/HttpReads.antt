@@ -1,9 +1,6 @@
 -- What a seat answers over HTTP.
-use Rattle.std.specs.Prelude.{◌≡◌, ◌⊎◌, ℕ, List, length, map, codes}
+use Rattle.std.specs.Prelude.{◌≡◌, ℕ, List, length, map}
 use Rattle.std.specs.FinMap.{entries}
-use Rattle.sb_types.specs.declared.fault.Fault.{Fault}
-use Rattle.sb_types.specs.declared.fault.Fault.TheVariants.{UnknownKind}
-use Rattle.sb_types.specs.Faults.{number_of}
 use Rattle.sb_types.specs.Records.{Settings}
 use Rattle.sb_holdings.specs.Nodes.{Node}
 use Rattle.sb_codec.specs.declared.message.Message.{Message}
@@ -15,7 +12,7 @@ use Rattle.sb_directory.specs.Seats.{Seat}
 use Rattle.sb_directory.specs.Serving.{IsLater}
 use Rattle.sb_http.specs.declared.backend.HeldOwner.{HeldOwner}
 use Rattle.sb_http.specs.Acts.{Act, asks, lists, measures, fails}
-use Rattle.sb_run.specs.Control.{IsPageReply}
+use Rattle.sb_run.specs.Control.{IsPageReply, IsUnknown}
 use Rattle.sb_run.specs.StatusReplies.{IsStatusReply}
 
 -- an owner of a view: its name, the version up to which it is shown, and the number of its rows
@@ -29,15 +26,15 @@ IsListed view owners = owners ≡ map held_owner (entries view)
 abbrev pub AnswersQuestion : Node → Settings → Seat → Message → Seat → Message → Type 0
 AnswersQuestion opening settings before (kinds.Ask ask) after reply = IsPageReply opening settings.budget before ask after reply
 AnswersQuestion opening settings before (kinds.AskStatus asked) after reply = IsStatusReply opening settings before asked after reply
-AnswersQuestion opening settings before (kinds.Hello x) after reply = (after ≡ before) × (reply ≡ kinds.Refused 13)
-AnswersQuestion opening settings before (kinds.Digest x) after reply = (after ≡ before) × (reply ≡ kinds.Refused 13)
-AnswersQuestion opening settings before (kinds.Delta x) after reply = (after ≡ before) × (reply ≡ kinds.Refused 13)
-AnswersQuestion opening settings before (kinds.Bye x) after reply = (after ≡ before) × (reply ≡ kinds.Refused 13)
-AnswersQuestion opening settings before (kinds.Put x) after reply = (after ≡ before) × (reply ≡ kinds.Refused 13)
-AnswersQuestion opening settings before (kinds.Rows x) after reply = (after ≡ before) × (reply ≡ kinds.Refused 13)
-AnswersQuestion opening settings before (kinds.Done x) after reply = (after ≡ before) × (reply ≡ kinds.Refused 13)
-AnswersQuestion opening settings before (kinds.Refused x) after reply = (after ≡ before) × (reply ≡ kinds.Refused 13)
-AnswersQuestion opening settings before (kinds.NodeStatus x) after reply = (after ≡ before) × (reply ≡ kinds.Refused 13)
+AnswersQuestion opening settings before (kinds.Hello x) after reply = (after ≡ before) × IsUnknown reply
+AnswersQuestion opening settings before (kinds.Digest x) after reply = (after ≡ before) × IsUnknown reply
+AnswersQuestion opening settings before (kinds.Delta x) after reply = (after ≡ before) × IsUnknown reply
+AnswersQuestion opening settings before (kinds.Bye x) after reply = (after ≡ before) × IsUnknown reply
+AnswersQuestion opening settings before (kinds.Put x) after reply = (after ≡ before) × IsUnknown reply
+AnswersQuestion opening settings before (kinds.Rows x) after reply = (after ≡ before) × IsUnknown reply
+AnswersQuestion opening settings before (kinds.Done x) after reply = (after ≡ before) × IsUnknown reply
+AnswersQuestion opening settings before (kinds.Refused x) after reply = (after ≡ before) × IsUnknown reply
+AnswersQuestion opening settings before (kinds.NodeStatus x) after reply = (after ≡ before) × IsUnknown reply
 
 -- the owners of the view after what the seat has seen then
 abbrev pub ListsOwners : Node → Seat → List HeldOwner → Seat → Type 0

@@ -1,15 +1,14 @@
 //! The threads that answer over HTTP, each from a seat of its own.
 ghost use Rattle.std.specs.Prelude.{◌≡◌, vec_len, IfOk, IfErr};
 ghost use Rattle.std.specs.Thread.{IsSend, IsSync};
-ghost use Rattle.sb_codec.specs.declared.message.Message.{Message};
 ghost use Rattle.sb_directory.specs.Serving.{IsLater};
-ghost use Rattle.sb_run.specs.HttpReads.{AnswersQuestion, IsListed, Reads};
+ghost use Rattle.sb_run.specs.HttpReads.{AnswersQuestion, IsListed, ListsOwners};
 
 use crate::control::{refused_by, reply_to_ask};
 use crate::dialer::{Dialing, RoundsTag};
 use crate::http_socket::HttpSocket;
 use crate::observer::Observer;
-use crate::sockets::Timed;
+use crate::sockets::{Timed, limit};
 use crate::threads::NodeContext;
 use core::mem::replace_with;
 use http_server::Config;
@@ -94,7 +93,10 @@ impl<S: RoundsTag, H: Wait + Drop, Q: Wait + Clock> NodeContext<'_, S, H, Q> {
     }
 
     /// The owners that a seat sees. `NoMemory`; `Closed` if it cannot enter.
-    fn owners_seen(&self, seat: ReaderSeat<S>) -> (ReaderSeat<S>, Result<Vec<HeldOwner>, Fault>) {
+    fn owners_seen(&self, seat: ReaderSeat<S>) -> (ReaderSeat<S>, Result<Vec<HeldOwner>, Fault>)
+        ensures owners { IfOk result.1 (λ owners. ListsOwners S.opening seat owners.items result.0) }
+        ensures later { IsLater seat result.0 }
+    {
         match seat.enter() {
             Ok(entered) => {
                 let owners = owners_in(self.alloc, &entered.snapshot());
@@ -149,9 +151,10 @@ impl<S: RoundsTag, H: Wait + Drop, Q: Wait + Clock, O: Observer> Backend
         replace_with(
             &mut self.seat,
             self.node,
-            |seat, node| -> (ReaderSeat<S>, Result<Vec<HeldOwner>, Fault>) {
-                node.owners_seen(seat)
-            },
+            |seat, node| -> (ReaderSeat<S>, Result<Vec<HeldOwner>, Fault>)
+                ensures owners { IfOk result.1 (λ owners. ListsOwners S.opening seat owners.items result.0) }
+                ensures later { IsLater seat result.0 }
+            { node.owners_seen(seat) },
         )
     }
 
@@ -190,6 +193,7 @@ impl<S: RoundsTag, H: Wait + Drop, Q: Wait + Clock> NodeContext<'_, S, H, Q> {
         stream: UnixStream,
     ) -> io::Result<()> {
         let (idle, request) = (self.pace.idle, self.pace.request);
+        limit(&stream, idle)?;
         let output = stream.try_clone()?;
         let last = stream.try_clone()?;
         let mut reader = Timed::new(self.rt, stream, idle, request);
