@@ -1,10 +1,19 @@
 //! The host that a request names.
 ghost use Rattle.std.specs.Prelude.{◌≡◌};
+ghost use Rattle.std.specs.Char.{is_ascii_digit};
+ghost use Rattle.std.specs.List.{list_all};
 ghost use Rattle.std.specs.Option.{option_copied};
 ghost use Rattle.sb_http.specs.Hosts as spec;
 
 use bytes::Bytes;
 use http::{Request, header};
+
+/// Whether each of these bytes is a digit.
+fn are_digits(text: &[u8]) -> bool
+    ensures { result ≡ list_all is_ascii_digit text.now }
+{
+    text.iter().all(|byte| byte.is_ascii_digit())
+}
 
 /// Whether these bytes are a port after a colon, or nothing.
 fn is_port(text: &[u8]) -> bool
@@ -12,9 +21,7 @@ fn is_port(text: &[u8]) -> bool
 {
     match text.split_first() {
         None => true,
-        Some((mark, digits)) => {
-            *mark == b':' && digits.iter().all(|digit| digit.is_ascii_digit())
-        }
+        Some((mark, digits)) => *mark == b':' && are_digits(digits),
     }
 }
 
