@@ -74,7 +74,7 @@ pub(crate) struct Console<'r, 'a> {
     pub(crate) has_time: bool,
     /// The file of metrics.
     pub(crate) metrics: Option<MetricsFile<'a>>,
-    /// The metrics as they were told last, if they are asked for over HTTP.
+    /// The metrics of the last report, if they are asked for over HTTP.
     pub(crate) told: Option<Mutex<Vec<u8>>>,
     /// Which metrics the file has.
     pub(crate) series: Series,

@@ -46,7 +46,7 @@ pub(crate) struct ServeArguments<'a> {
     pub(crate) metrics: Option<&'a str>,
     /// Which metrics that file has.
     pub(crate) series: Series,
-    /// Where the node answers over HTTP.
+    /// The address at which the node answers over HTTP.
     pub(crate) http: Option<&'a str>,
 }
 

@@ -44,7 +44,7 @@ pub struct Paths<'a> {
     pub control: &'a str,
     /// The paths at which its peers listen.
     pub peers: &'a [&'a str],
-    /// Where it answers over HTTP: `127.0.0.1:PORT` or `[::1]:PORT`, or the path of a socket. `None` if it does not.
+    /// The address at which it answers over HTTP: `127.0.0.1:PORT` or `[::1]:PORT`, or the path of a socket. `None` if it does not.
     pub http: Option<&'a str>,
 }
 
@@ -378,7 +378,7 @@ pub(crate) struct NodeStart<L: WriteLog> {
     pub(crate) writes: OwnWrites<ClosableLog<L>>,
 }
 
-/// How many seats a node that answers over HTTP at this address has for that, if there are so many: none if it has no address.
+/// How many seats a node wants for HTTP: none if it has no address for that.
 fn http_seats(http: Option<&str>) -> usize {
     if http.is_some() {
         HTTP_WORKERS as usize
