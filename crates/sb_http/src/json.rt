@@ -50,6 +50,7 @@ fn add_rows(alloc: Global, out: &mut Vec<u8>, rows: &[Row]) -> Result<(), Fault>
 }
 
 /// The line of a page: whether more rows follow, and its rows. `NoMemory`.
+#[tactic(auto, unfolding(crate::specs::Texts::page_data))]
 pub(crate) fn page_line(alloc: Global, page: &Rows) -> Result<Vec<u8>, Fault>
     ensures { IfOk result (λ line. line.items ≡ line_of (spec.page_data page.now)) }
 {
@@ -76,6 +77,7 @@ pub(crate) fn row_line(alloc: Global, row: &Row) -> Result<Vec<u8>, Fault>
 }
 
 /// The object of an owner.
+#[tactic(auto, unfolding(crate::specs::Texts::owner_data))]
 fn object_of_owner(alloc: Global, held: &HeldOwner) -> Result<Value, AllocError>
     ensures object { IfOk result (λ json. view json ≡ spec.owner_data held.now) }
     ensures plain { IfOk result (λ json. has_float (view json) ≡ false) }
@@ -113,6 +115,7 @@ fn add_owners(alloc: Global, out: &mut Vec<u8>, owners: &[HeldOwner]) -> Result<
 }
 
 /// The line of all owners. `NoMemory`.
+#[tactic(auto, unfolding(crate::specs::Texts::owners_data))]
 pub(crate) fn owners_line(alloc: Global, owners: &[HeldOwner]) -> Result<Vec<u8>, Fault>
     ensures { IfOk result (λ line. line.items ≡ line_of (spec.owners_data owners.now)) }
 {
@@ -131,6 +134,7 @@ fn figure_of(status: &NodeStatus, kind: FigureKind) -> u64
 }
 
 /// The object of these figures.
+#[tactic(auto, unfolding(crate::specs::Texts::health_object))]
 fn object_of_health(
     alloc: Global,
     is_caught_up: bool,
@@ -164,6 +168,7 @@ pub(crate) fn error_line(alloc: Global, text: &str) -> Result<Vec<u8>, AllocErro
 }
 
 /// The object of a text about what went wrong.
+#[tactic(auto, unfolding(crate::specs::Texts::error_data))]
 fn error_object(alloc: Global, text: &str) -> Result<Value, AllocError>
     ensures object { IfOk result (λ json. view json ≡ spec.error_data text.now) }
     ensures plain { IfOk result (λ json. has_float (view json) ≡ false) }
@@ -172,6 +177,7 @@ fn error_object(alloc: Global, text: &str) -> Result<Value, AllocError>
 }
 
 /// The object of a fault with this text and number.
+#[tactic(auto, unfolding(crate::specs::Texts::fault_data))]
 fn fault_object(alloc: Global, text: &str, number: u8) -> Result<Value, AllocError>
     ensures object { IfOk result (λ json. view json ≡ spec.fault_data text.now number) }
     ensures plain { IfOk result (λ json. has_float (view json) ≡ false) }

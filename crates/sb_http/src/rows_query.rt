@@ -175,6 +175,7 @@ impl RowsQuery {
     }
 
     /// Takes all parts of a query, from the first on. `NoMemory`.
+    #[tactic(auto, using(crate::proofs::Parting::goes_on, crate::proofs::Parting::stops, crate::proofs::Parting::ends))]
     fn with_query(self, alloc: Global, query: &[u8]) -> Result<RowsQuery, Unasked>
         ensures { GivesUnless result (spec.with_query self query.now) }
     {

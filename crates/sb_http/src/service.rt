@@ -53,7 +53,8 @@ fn add_fields(response: &mut Response, kind: HeaderValue) -> Result<(), AllocErr
 /// Fills a response that has its fields.
 fn fill(response: &mut Response, status: StatusCode, body: Vec<u8>) -> Result<(), AllocError>
     requires { response.old.body.items ≡ [] }
-    ensures { OnOk result (IsResponse status (fields_of response.old) body.items response.new) }
+    ensures filled { OnOk result (IsResponse status (fields_of response.old) body.items response.new) }
+    ensures fields { fields_of response.new ≡ fields_of response.old }
 {
     response.status = status;
     response.body.push(Bytes::from_vec(body)?)
