@@ -75,7 +75,7 @@ pub(crate) struct Console<'r, 'a> {
     /// The file of metrics.
     pub(crate) metrics: Option<MetricsFile<'a>>,
     /// The metrics of the last report, if they are asked for over HTTP.
-    pub(crate) told: Option<Mutex<Vec<u8>>>,
+    pub(crate) metrics_text: Option<Mutex<Vec<u8>>>,
     /// Which metrics the file has.
     pub(crate) series: Series,
     /// When the node was started, in seconds since 1970; 0 if the clock could not be read.
@@ -254,18 +254,18 @@ impl Console<'_, '_> {
 }
 
 /// Keeps the text of metrics, unless there is no memory for it, or another thread reads it now.
-fn keep_metrics(alloc: Global, told: &Mutex<Vec<u8>>, metrics: &Metrics<'_, '_>) {
-    let Ok(text) = format!(in alloc; "{metrics}") else {
+fn keep_metrics(alloc: Global, text: &Mutex<Vec<u8>>, metrics: &Metrics<'_, '_>) {
+    let Ok(newest) = format!(in alloc; "{metrics}") else {
         return;
     };
-    if let Some(mut kept) = told.try_lock() {
-        *kept = text.into_bytes();
+    if let Some(mut kept) = text.try_lock() {
+        *kept = newest.into_bytes();
     }
 }
 
 /// A copy of the kept text. `NoMemory`; `Closed` if another thread writes it now.
-fn kept_metrics(alloc: Global, told: &Mutex<Vec<u8>>) -> Result<Vec<u8>, Fault> {
-    match told.try_lock() {
+fn kept_metrics(alloc: Global, text: &Mutex<Vec<u8>>) -> Result<Vec<u8>, Fault> {
+    match text.try_lock() {
         Some(kept) => Ok(Vec::from_slice(alloc, &kept)?),
         None => Err(Fault::Closed),
     }
@@ -372,14 +372,14 @@ impl Observer for Console<'_, '_> {
         if let Some(file) = &self.metrics {
             self.write_metrics(file, &metrics);
         }
-        if let Some(told) = &self.told {
-            keep_metrics(self.rt.alloc(), told, &metrics);
+        if let Some(text) = &self.metrics_text {
+            keep_metrics(self.rt.alloc(), text, &metrics);
         }
     }
 
     fn metrics(&self, alloc: Global) -> Result<Vec<u8>, Fault> {
-        match &self.told {
-            Some(told) => kept_metrics(alloc, told),
+        match &self.metrics_text {
+            Some(text) => kept_metrics(alloc, text),
             None => Err(Fault::Closed),
         }
     }

@@ -251,7 +251,7 @@ fn console_of<'r, 'a>(rt: &'r HostRuntime, given: &ServeArguments<'a>) -> Consol
         control: given.control,
         has_time: given.has_time,
         metrics,
-        told: match given.http {
+        metrics_text: match given.http {
             Some(_) => Some(Mutex::new(Vec::new(rt.alloc()))),
             None => None,
         },
