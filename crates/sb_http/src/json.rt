@@ -1,5 +1,6 @@
 //! The bodies of responses, as JSON.
-ghost use Rattle.std.specs.Prelude.{◌≡◌, ℕ, List, ◌++◌, ◌∷◌, [], false, OnOk, map, IfOk, IfErr};
+ghost use Rattle.std.specs.Prelude.{◌≡◌, ℕ, List, ◌++◌, ◌∷◌, [], codes, false, OnOk, map, IfOk, IfErr};
+ghost use Rattle.serde_json.specs.Data.{boolean};
 ghost use Rattle.serde_json.specs.View.{view};
 ghost use Rattle.serde_json.specs.Written.{has_float, items_text, compact_text};
 ghost use Rattle.sb_types.specs.Faults.{number_of};
@@ -49,18 +50,23 @@ fn add_rows(alloc: Global, out: &mut Vec<u8>, rows: &[Row]) -> Result<(), Fault>
     Ok(())
 }
 
+/// How the line of a page begins: with whether more rows follow.
+fn page_head(more: bool) -> &'static [u8]
+    ensures { result.now ≡ codes "{\"more\":" ++ (compact_text (boolean more) ++ codes ",\"rows\":[") }
+{
+    if more {
+        b"{\"more\":true,\"rows\":["
+    } else {
+        b"{\"more\":false,\"rows\":["
+    }
+}
+
 /// The line of a page: whether more rows follow, and its rows. `NoMemory`.
-#[tactic(auto, unfolding(crate::specs::Texts::page_data))]
 pub(crate) fn page_line(alloc: Global, page: &Rows) -> Result<Vec<u8>, Fault>
     ensures { IfOk result (λ line. line.items ≡ line_of (spec.page_data page.now)) }
 {
     let mut line = Vec::new(alloc);
-    let head: &[u8] = if page.more() {
-        b"{\"more\":true,\"rows\":["
-    } else {
-        b"{\"more\":false,\"rows\":["
-    };
-    line.extend_from_slice(head)?;
+    line.extend_from_slice(page_head(page.more()))?;
     add_rows(alloc, &mut line, page.rows())?;
     line.extend_from_slice(b"}\n")?;
     Ok(line)
@@ -115,7 +121,6 @@ fn add_owners(alloc: Global, out: &mut Vec<u8>, owners: &[HeldOwner]) -> Result<
 }
 
 /// The line of all owners. `NoMemory`.
-#[tactic(auto, unfolding(crate::specs::Texts::owners_data))]
 pub(crate) fn owners_line(alloc: Global, owners: &[HeldOwner]) -> Result<Vec<u8>, Fault>
     ensures { IfOk result (λ line. line.items ≡ line_of (spec.owners_data owners.now)) }
 {
