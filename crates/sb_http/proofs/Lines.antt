@@ -1,6 +1,7 @@
 -- The lines of bodies, from the parts that they are put together of.
 use Rattle.std.proofs.Common.{◌≡◌, ℕ, Bool, true, false, List, [], ◌∷◌, ◌++◌, map, sym, ap, append_assoc}
 use Rattle.std.specs.Prelude.{codes}
+use Rattle.json.specs.Print.{escape_byte}
 use Rattle.serde_json.specs.Data.{boolean, array, object, Items, member, no_members}
 use Rattle.serde_json.specs.Written.{compact_text, items_text}
 use Rattle.sb_codec.specs.Records.{Rows}
@@ -14,7 +15,7 @@ closed items = sym (append_assoc items (125 ∷ []) (10 ∷ []))
 
 pub owners_whole : (owners : List HeldOwner)
     → codes "{\"owners\":[" ++ (items_text false (items_of (map owner_data owners)) ++ codes "}\n") ≡ line_of (owners_data owners)
-unfolding owners_data
+unfolding owners_data escape_byte
 owners_whole owners = ap (λ (rest : List ℕ). codes "{\"owners\":[" ++ rest) (closed (items_text false (items_of (map owner_data owners))))
 
 -- how the line of a page begins
@@ -24,6 +25,7 @@ page_head more = codes "{\"more\":" ++ (compact_text (boolean more) ++ codes ",\
 by_more : (more : Bool) (rows : Items)
     → page_head more ++ (items_text false rows ++ codes "}\n")
     ≡ line_of (object (member (codes "more") (boolean more) (member (codes "rows") (array rows) no_members)))
+unfolding escape_byte
 by_more true rows = ap (λ (rest : List ℕ). codes "{\"more\":true,\"rows\":[" ++ rest) (closed (items_text false rows))
 by_more false rows = ap (λ (rest : List ℕ). codes "{\"more\":false,\"rows\":[" ++ rest) (closed (items_text false rows))
 

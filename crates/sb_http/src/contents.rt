@@ -6,7 +6,7 @@ ghost use Rattle.sb_http.specs.Answers.{Says, IsFault, IsNone, IsPage, IsRow, Is
 
 use crate::asked::Asked;
 use crate::backend::Backend;
-use crate::json::{error_line, fault_line, health_line, owners_line, page_line, row_line};
+use crate::bodies::{error_line, fault_line, health_line, owners_line, page_line, row_line};
 use http::StatusCode;
 use sb_codec::{Ask, AskStatus, Message, NodeStatus, Rows};
 use sb_query::{NoAnswer, first_at, is_ready, page_in, status_in};

@@ -25,9 +25,9 @@
 
 mod asked;
 mod backend;
+mod bodies;
 mod contents;
 mod host;
-mod json;
 mod laws;
 mod parts;
 mod rows_query;

@@ -6,7 +6,7 @@ ghost use Rattle.sb_http.specs.Answers.{AnswersAsked, AnswersRequest, Refuses, H
 use crate::asked::{Asked, Door, Unasked, asked_by};
 use crate::backend::Backend;
 use crate::contents::{Content, answer};
-use crate::json::{error_line, fault_line};
+use crate::bodies::{error_line, fault_line};
 use bytes::Bytes;
 use http::{HeaderValue, Request, StatusCode, header};
 use http_server::{Response, Service};

@@ -3,7 +3,7 @@ use Rattle.std.specs.Prelude.{MatchResult}
 use Rattle.std.specs.Result.{result_unwrap_or}
 use Rattle.std.specs.Str.{IsUtf8}
 use Rattle.sb_listing.proofs.Texts.{name-utf8}
-use Rattle.sb_http.proofs.json.name_text.Goals as goal
+use Rattle.sb_http.proofs.bodies.name_text.Goals as goal
 
 unwrapped : {E : Type 0} (Q : E → Type 0) (r : Result (Bor (List ℕ)) E) (text : List ℕ) (d : Bor (List ℕ)) → IsUtf8 text → MatchResult r (λ s. (s.now ≡ text) × IsUtf8 text) (λ e. (IsUtf8 text → ⊥) × Q e) → (result_unwrap_or r d).now ≡ text
 unwrapped Q (Ok s) text d utf8 h = h.0

@@ -3,7 +3,7 @@ use Rattle.std.specs.Prelude.{codes}
 use Rattle.serde_json.specs.Written.{items_text}
 use Rattle.sb_http.specs.Texts.{items_of, owner_data}
 use Rattle.sb_http.proofs.Lines.{owners_whole}
-use Rattle.sb_http.proofs.json.owners_line.Goals as goal
+use Rattle.sb_http.proofs.bodies.owners_line.Goals as goal
 
 pub returns : goal.returns
 returns c =

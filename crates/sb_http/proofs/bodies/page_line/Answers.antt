@@ -5,7 +5,7 @@ use Rattle.sb_codec.specs.Records.{Row}
 use Rattle.sb_listing.specs.Json.{row_data}
 use Rattle.sb_http.specs.Texts.{items_of}
 use Rattle.sb_http.proofs.Lines.{page_head, page_whole}
-use Rattle.sb_http.proofs.json.page_line.Goals as goal
+use Rattle.sb_http.proofs.bodies.page_line.Goals as goal
 
 pub returns : goal.returns
 returns c =
