@@ -460,8 +460,8 @@ pub(crate) fn part_seats<S: DirectoryTag>(
     let Some(control) = news.pop() else {
         unreachable!();
     };
-    let most = news.len();
-    let http = news.split_off(if http < most { most - http } else { 0 })?;
+    let left = news.len().saturating_sub(http);
+    let http = news.split_off(left)?;
     Ok(ThreadSeats {
         workers: front,
         news,
@@ -471,25 +471,39 @@ pub(crate) fn part_seats<S: DirectoryTag>(
     })
 }
 
+/// Adds seats to a list that has room for them.
+fn with_seats<S: DirectoryTag>(
+    all: Vec<ReaderSeat<S>>,
+    seats: Vec<ReaderSeat<S>>,
+) -> Vec<ReaderSeat<S>>
+    requires { vec_len all + vec_len seats ≤ vec_capacity all }
+    ensures len { vec_len result ≡ vec_len all + vec_len seats }
+    ensures room { vec_capacity all ≤ vec_capacity result }
+{
+    let mut all = all;
+    let mut seats = seats;
+    match all.append(&mut seats) {
+        Ok(()) => all,
+        Err(_) => unreachable!(),
+    }
+}
+
 /// All seats, those for news first.
 pub(crate) fn gather_seats<S: DirectoryTag>(thread_seats: ThreadSeats<S>) -> Vec<ReaderSeat<S>>
     requires { vec_len thread_seats.news + vec_len thread_seats.http + (vec_len thread_seats.workers + 2) ≤ vec_capacity thread_seats.news }
     ensures { vec_len result ≡ vec_len thread_seats.news + vec_len thread_seats.http + (vec_len thread_seats.workers + 2) }
 {
     let ThreadSeats {
-        mut workers,
+        workers,
         news,
-        mut http,
+        http,
         dialing,
         control,
     } = thread_seats;
     let mut all = news;
     all.push_reserved(control);
     all.push_reserved(dialing);
-    let (Ok(()), Ok(())) = (all.append(&mut http), all.append(&mut workers)) else {
-        unreachable!();
-    };
-    all
+    with_seats(with_seats(all, http), workers)
 }
 
 /// A running node, which its threads share.
