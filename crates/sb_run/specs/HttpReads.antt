@@ -5,6 +5,7 @@ use Rattle.sb_types.specs.Records.{Settings}
 use Rattle.sb_holdings.specs.Nodes.{Node}
 use Rattle.sb_codec.specs.declared.message.Message.{Message}
 use Rattle.sb_codec.specs.declared.message.Message.TheVariants as kinds
+use Rattle.sb_views.specs.declared.event.Event.{Event}
 use Rattle.sb_views.specs.NodeViews.{NodeView, OwnerView}
 use Rattle.sb_views.specs.Histories.{node_after}
 use Rattle.sb_views.specs.Publishing.{IsView}
@@ -36,14 +37,13 @@ AnswersQuestion opening settings before (kinds.Done x) after reply = (after ≡ 
 AnswersQuestion opening settings before (kinds.Refused x) after reply = (after ≡ before) × IsUnknown reply
 AnswersQuestion opening settings before (kinds.NodeStatus x) after reply = (after ≡ before) × IsUnknown reply
 
--- the owners of the view after what the seat has seen then
-abbrev pub ListsOwners : Node → Seat → List HeldOwner → Seat → Type 0
-ListsOwners opening before owners after =
-    IsLater before after × ((view : NodeView) × IsView (node_after opening after.seen) view × IsListed view owners)
+-- the owners of the view after these events
+abbrev pub AreOwnersAfter : Node → List Event → List HeldOwner → Type 0
+AreOwnersAfter opening seen owners = (view : NodeView) × IsView (node_after opening seen) view × IsListed view owners
 
 -- what a call over HTTP reads, and what the seat has seen then
 abbrev pub Reads : Node → Settings → Seat → Act → Seat → Type 0
 Reads opening settings before (asks request reply) after = AnswersQuestion opening settings before request after reply
-Reads opening settings before (lists owners) after = ListsOwners opening before owners after
+Reads opening settings before (lists owners) after = IsLater before after × AreOwnersAfter opening after.seen owners
 Reads opening settings before (measures text) after = after ≡ before
 Reads opening settings before (fails fault) after = IsLater before after

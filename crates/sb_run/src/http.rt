@@ -2,7 +2,7 @@
 ghost use Rattle.std.specs.Prelude.{◌≡◌, vec_len, IfOk, IfErr};
 ghost use Rattle.std.specs.Thread.{IsSend, IsSync};
 ghost use Rattle.sb_directory.specs.Serving.{IsLater};
-ghost use Rattle.sb_run.specs.HttpReads.{AnswersQuestion, IsListed, ListsOwners};
+ghost use Rattle.sb_run.specs.HttpReads.{AnswersQuestion, AreOwnersAfter, IsListed};
 
 use crate::control::{refused_by, reply_to_ask};
 use crate::dialer::{Dialing, RoundsTag};
@@ -13,13 +13,13 @@ use crate::threads::NodeContext;
 use core::mem::replace_with;
 use http_server::Config;
 use sb_codec::Message;
-use sb_directory::ReaderSeat;
+use sb_directory::{EnteredSeat, ReaderSeat};
 use sb_http::{Backend, Door, HeldOwner, HttpService, serve_connection};
 use sb_types::{
     Fault, KIND_BYE, KIND_DELTA, KIND_DIGEST, KIND_DONE, KIND_HELLO, KIND_NODE_STATUS, KIND_PUT,
     KIND_REFUSED, KIND_ROWS,
 };
-use sb_views::Snapshot;
+use sb_views::{NodeTag, Snapshot};
 use std::alloc::Global;
 use std::hash::RandomState;
 use std::io::Read;
@@ -75,6 +75,16 @@ fn owners_in(alloc: Global, snapshot: &Snapshot<'_>) -> Result<Vec<HeldOwner>, F
     Ok(owners)
 }
 
+/// The owners of the snapshot that a seat has entered. `NoMemory`.
+fn owners_of<S: NodeTag>(
+    alloc: Global,
+    entered: &EnteredSeat<S>,
+) -> Result<Vec<HeldOwner>, Fault>
+    ensures { IfOk result (λ owners. AreOwnersAfter S.opening entered.now.seen owners.items) }
+{
+    owners_in(alloc, &entered.snapshot())
+}
+
 impl<S: RoundsTag, H: Wait + Drop, Q: Wait + Clock> NodeContext<'_, S, H, Q> {
     /// The answer to a question at the control socket; `UnknownKind` to any other message.
     fn reply_to_question<O: Observer>(
@@ -102,12 +112,12 @@ impl<S: RoundsTag, H: Wait + Drop, Q: Wait + Clock> NodeContext<'_, S, H, Q> {
 
     /// The owners that a seat sees. `NoMemory`; `Closed` if it cannot enter.
     fn owners_seen(&self, seat: ReaderSeat<S>) -> (ReaderSeat<S>, Result<Vec<HeldOwner>, Fault>)
-        ensures owners { IfOk result.1 (λ owners. ListsOwners S.opening seat owners.items result.0) }
+        ensures owners { IfOk result.1 (λ owners. AreOwnersAfter S.opening result.0.seen owners.items) }
         ensures later { IsLater seat result.0 }
     {
         match seat.enter() {
             Ok(entered) => {
-                let owners = owners_in(self.alloc, &entered.snapshot());
+                let owners = owners_of(self.alloc, &entered);
                 (entered.leave(), owners)
             }
             Err(seat) => (seat, Err(Fault::Closed)),
@@ -160,7 +170,7 @@ impl<S: RoundsTag, H: Wait + Drop, Q: Wait + Clock, O: Observer> Backend
             &mut self.seat,
             self.node,
             |seat, node| -> (ReaderSeat<S>, Result<Vec<HeldOwner>, Fault>)
-                ensures owners { IfOk result.1 (λ owners. ListsOwners S.opening seat owners.items result.0) }
+                ensures owners { IfOk result.1 (λ owners. AreOwnersAfter S.opening result.0.seen owners.items) }
                 ensures later { IsLater seat result.0 }
             { node.owners_seen(seat) },
         )
