@@ -367,7 +367,10 @@ const WORKERS: Part = Part {
 /// Smaller: With workers and 2, peers get news one after another. Less: Fault 5.
 pub(crate) const SEATS: Part = Part {
     name: "seats",
-    kind: Kind::NumberElse(Range::Seats(SEATS_MOST), "workers, fanout and 2; with --http 8 more"),
+    kind: Kind::NumberElse(
+        Range::Seats(SEATS_MOST),
+        "workers, fanout and 2; with --http 8 more",
+    ),
     value: "S",
     help: "How many threads read and write the directory",
 };

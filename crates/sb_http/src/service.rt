@@ -5,8 +5,8 @@ ghost use Rattle.sb_http.specs.Answers.{AnswersAsked, AnswersRequest, Refuses, H
 
 use crate::asked::{Asked, Door, Unasked, asked_by};
 use crate::backend::Backend;
-use crate::contents::{Content, answer};
 use crate::bodies::{error_line, fault_line};
+use crate::contents::{Content, answer};
 use bytes::Bytes;
 use http::{HeaderValue, Request, StatusCode, header};
 use http_server::{Response, Service};

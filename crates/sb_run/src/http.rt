@@ -76,10 +76,7 @@ fn owners_in(alloc: Global, snapshot: &Snapshot<'_>) -> Result<Vec<HeldOwner>, F
 }
 
 /// The owners of the snapshot that a seat has entered. `NoMemory`.
-fn owners_of<S: NodeTag>(
-    alloc: Global,
-    entered: &EnteredSeat<S>,
-) -> Result<Vec<HeldOwner>, Fault>
+fn owners_of<S: NodeTag>(alloc: Global, entered: &EnteredSeat<S>) -> Result<Vec<HeldOwner>, Fault>
     ensures { IfOk result (λ owners. AreOwnersAfter S.opening entered.now.seen owners.items) }
 {
     owners_in(alloc, &entered.snapshot())
