@@ -85,7 +85,8 @@ def lacks_curl(check):
 
 
 def node_at(check, name, place, *options, folder=None, peers=()):
-    node = check.node(name, "--http", str(place), *options, folder=folder, peers=peers).start()
+    address = f"127.0.0.1:{place}" if isinstance(place, int) else str(place)
+    node = check.node(name, "--http", address, *options, folder=folder, peers=peers).start()
     return node, Asked(place)
 
 
