@@ -157,7 +157,7 @@ impl<S: RoundsTag, H: Wait + Drop, Q: Wait + Clock, O: Observer> Backend
             &mut self.seat,
             (node, dialing, request),
             |seat, (node, dialing, request)| -> (ReaderSeat<S>, Message)
-                ensures { AnswersQuestion S.opening S.settings seat request.now result.0 result.1 }
+                ensures { AnswersQuestion S.opening S.settings seat request.entry.now result.0 result.1 }
             { node.reply_to_question(dialing, request, seat) },
         )
     }
