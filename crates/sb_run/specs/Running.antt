@@ -1,5 +1,6 @@
 -- With what a node opens, what it starts from, and why it does not run.
-use Rattle.std.specs.Prelude.{◌≡◌, ◌⊎◌, ◌+◌, ◌≤◌, ℕ, true, nat_eq, nat_lt, if◌then◌else◌, List, Bor, Option, Some, None, is_some, Result, Err, IfErr, IsErr}
+use Rattle.std.specs.Prelude.{◌≡◌, ◌⊎◌, ◌+◌, ◌≤◌, ℕ, true, nat_eq, nat_lt, if◌then◌else◌, List, Option, Some, None, is_some, Result, Err, IfErr, IsErr}
+use Rattle.std.specs.Borrow.{Bor}
 use Rattle.std.specs.Cmp.Lexicographic.{pointwise}
 use Rattle.sb_types.specs.declared.fault.Fault.{Fault}
 use Rattle.sb_types.specs.declared.fault.Fault.TheVariants.{NoMemory, BadSetting, ReadFailed, StoreFailed, WrongCluster}
