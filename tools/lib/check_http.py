@@ -147,9 +147,11 @@ def http_health(check):
     if lacks_curl(check):
         return
     folder = check.folder()
-    other = check.node("b", folder=folder)
-    node, place = node_at(check, "a", free_port(), "--pause", "200", folder=folder, peers=[other.sock, folder / "nobody"])
-    want("before its first round", place.json("/healthz"), (503, {"caught_up": False, "conflict": 0, "log_fault": 0, "ready": False}))
+    with socket.socket(socket.AF_UNIX) as listener:
+        listener.bind(str(folder / "b.sock"))
+        listener.listen()
+        node, place = node_at(check, "a", free_port(), "--pause", "200", "--dial-idle", "60000", folder=folder, peers=[folder / "b.sock", folder / "nobody"])
+        want("beside a silent peer", place.json("/healthz"), (503, {"caught_up": False, "conflict": 0, "log_fault": 0, "ready": False}))
     want("its exit status", node.command("status", "--wait", "10000")[0], 0)
     want("once it is ready", place.json("/healthz"), (200, {"caught_up": True, "conflict": 0, "log_fault": 0, "ready": True}))
     node.log.unlink()
@@ -243,14 +245,21 @@ def http_crowd(check):
     port = free_port()
     node, place = node_at(check, "a", port, "--request", "2000", "--idle", "2000", "--pause", "100", folder=folder)
     other = check.node("b", "--pause", "100", folder=folder, peers=[node.sock]).start()
+
+    def seconds_of_twenty_writes():
+        began = time.monotonic()
+        for count in range(20):
+            node.put("k", count)
+        return time.monotonic() - began
+
+    alone = seconds_of_twenty_writes()
     streams = [place.connect() for _ in range(40)]
     for stream in streams[::2]:
         stream.sendall(b"GET /v1/owners HTTP/1.1\r\nHost: localhost\r\nx: ")
-    began = time.monotonic()
-    for count in range(20):
-        node.put("k", count)
-    want("whether twenty writes took a second", time.monotonic() - began < 1, True)
-    other.awaits("the last write", lambda rows: rows == ["a k 20 weight 19"])
+    took = seconds_of_twenty_writes()
+    if took > 4 * alone + 1:
+        raise Difference(f"twenty writes took {alone:.3} s alone, and {took:.3} s beside silent connections")
+    other.awaits("the last write", lambda rows: rows == ["a k 40 weight 19"])
     slow, end = streams[0], time.monotonic() + SECONDS
     try:
         while time.monotonic() < end:

@@ -369,7 +369,7 @@ pub(crate) const SEATS: Part = Part {
     name: "seats",
     kind: Kind::NumberElse(
         Range::Seats(SEATS_MOST),
-        "workers, fanout and 2; with --http 8 more",
+        "workers, fanout and 2, and 8 with --http",
     ),
     value: "S",
     help: "How many threads read and write the directory",
