@@ -121,6 +121,26 @@ pub(crate) const FORMAT: Part = Part {
     help: "Prints the words of each row, or a JSON object for each row",
 };
 
+/// It is the member `age`, in milliseconds. See [Ages](#ages).
+/// Left out: no ages
+pub(crate) const AGES: Part = Part {
+    name: "ages",
+    kind: Kind::FlagBeside("format", "key"),
+    value: "",
+    help: "Shows in each JSON object how long ago the node heard the owner; needs --format json",
+};
+
+/// An owner is heard if a new write of it comes. See [Ages](#ages).
+/// Greater: Rows of owners that have ended stay longer.
+/// Smaller: An owner that writes little is left out although it lives, unless it has a beat.
+/// Left out: rows of any age
+pub(crate) const MAX_AGE: Part = Part {
+    name: "max-age",
+    kind: Kind::Number(Range::Any),
+    value: "SECONDS",
+    help: "Leaves out the rows of owners that the node did not hear for longer",
+};
+
 pub(crate) const STATUS_FORMAT: Part = Part {
     name: "format",
     kind: Kind::OneOf(&["text", "json"], "text"),
@@ -138,11 +158,15 @@ pub(crate) const WAIT: Part = Part {
     help: "For how many milliseconds it asks again until the node is ready",
 };
 
+/// It waits for a change after that. With `--count` it does not, and asks each so many milliseconds. It does that too if the
+/// node tells it nothing: if 64 others wait there, or if the node is of an older release.
+/// Greater: Changes are printed later, and more of them at once.
+/// Smaller: If much changes, it asks more often.
 pub(crate) const EVERY: Part = Part {
     name: "every",
-    kind: Kind::NumberOr(Range::Any, "200"),
+    kind: Kind::NumberElse(Range::Any, "20 (200 with --count)"),
     value: "MS",
-    help: "How many milliseconds it waits before it asks again",
+    help: "How many milliseconds it waits at least before it asks again",
 };
 
 pub(crate) const COUNT: Part = Part {
@@ -182,6 +206,14 @@ pub(crate) const ASKING_NAME: Part = Part {
     kind: Kind::ValueOr("attrdir-owners"),
     value: "N",
     help: "The name under which it asks; it must differ from the node's name",
+};
+
+/// Left out: no ages
+pub(crate) const AGES_FROM: Part = Part {
+    name: "ages-from",
+    kind: Kind::Value,
+    value: "PATH",
+    help: "The --control of the same node: prints after each version how many milliseconds ago the owner was heard",
 };
 
 pub(crate) const LOG: Part = Part {
@@ -488,6 +520,25 @@ const NO_WAIT: Part = Part {
     help: "Takes writes at once, before the node has heard its peers",
 };
 
+/// Each beat is an own write: the flag true. With it the version of a node that lives rises, so that [ages](#ages) tell who
+/// lives. The first is made at once. With a closed log, or while another node writes under its name, there is none.
+/// Greater: A node that has ended shows later.
+/// Smaller: It shows sooner. Each beat goes to all nodes.
+const BEAT: Part = Part {
+    name: "beat",
+    kind: Kind::NumberOr(Range::Any, "0"),
+    value: "SECONDS",
+    help: "After how many seconds the node writes its beat again, by which others hear that it lives, 0 for never",
+};
+
+/// The key counts as one of the node.
+const BEAT_KEY: Part = Part {
+    name: "beat-key",
+    kind: Kind::ValueOr("beat"),
+    value: "K",
+    help: "The key of the beat",
+};
+
 /// It can be given 64 times, once for each name. The node shows no row of it, and nobody hears of one from this node. See [Owners
 /// used up](RUNBOOK.md#owners-used-up).
 const FORGET: Part = Part {
@@ -549,6 +600,8 @@ pub(crate) fn serve_arguments<'a>(
         peers: PEERS.values(alloc, given)?,
         forgotten: FORGET.values(alloc, given)?,
         pace: pace_of(given),
+        beat: BEAT.number(given),
+        beat_key: BEAT_KEY.value(given),
         purge_removals: PURGE_REMOVALS.number(given),
         has_time: LOG_TIME.is_given(given),
         metrics: METRICS.value_if_any(given),
@@ -607,6 +660,7 @@ fn pace_of(given: &ArgMatches<'_>) -> Pace {
         } else {
             HEARING_MOST
         },
+        beat: None,
     }
 }
 
@@ -638,6 +692,8 @@ const SERVE_TASK: Task = Task {
         PURGE_REMOVALS,
         AUDIT,
         NO_WAIT,
+        BEAT,
+        BEAT_KEY,
         FORGET,
         LOG_TIME,
         METRICS,
@@ -671,6 +727,8 @@ const GET_TASK: Task = Task {
         ONE_KEY,
         VALUE_ALONE,
         RAW_VALUE,
+        MAX_AGE,
+        AGES,
         FORMAT,
     ],
 };
@@ -686,7 +744,7 @@ const OWNERS_TASK: Task = Task {
     name: "owners",
     about: "Prints up to which version a node holds each owner",
     more: help::OWNERS,
-    parts: &[PEER_SOCK, LOG_CLUSTER, ASKING_NAME],
+    parts: &[PEER_SOCK, LOG_CLUSTER, ASKING_NAME, AGES_FROM],
 };
 
 const STATUS_TASK: Task = Task {

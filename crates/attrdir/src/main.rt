@@ -25,10 +25,12 @@
 #![tactic(auto)]
 
 mod advice;
+mod ages;
 mod arguments;
 mod asking;
 mod batch;
 mod beginning;
+mod change_source;
 mod command_line;
 mod commands;
 mod console;
@@ -51,6 +53,7 @@ mod reaches;
 mod release;
 mod restoring;
 mod serving;
+mod socket_stamp;
 mod status;
 mod troubles;
 mod watching;

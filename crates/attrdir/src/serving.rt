@@ -10,9 +10,9 @@ use crate::troubles::TroubleLines;
 use crate::words::name_of;
 use jiff::Timestamp;
 use sb_log::{LogError, WriteLog};
-use sb_run::{NodeConfig, Pace, Paths, Ran, Runtime, run_closed_node, run_node};
+use sb_run::{Beat, NodeConfig, Pace, Paths, Ran, Runtime, run_closed_node, run_node};
 use sb_table::Table;
-use sb_types::{Fault, Name, RawSettings, Settings};
+use sb_types::{Fault, Key, Name, RawSettings, Settings};
 use std::alloc::Global;
 use std::fs::{remove_file, symlink_metadata};
 use std::io::ErrorKind;
@@ -36,7 +36,11 @@ pub(crate) struct ServeArguments<'a> {
     pub(crate) peers: Vec<&'a str>,
     /// The names of the owners that the node forgets.
     pub(crate) forgotten: Vec<&'a str>,
+    /// Without a beat.
     pub(crate) pace: Pace,
+    /// After how many seconds the node beats again; 0 for never.
+    pub(crate) beat: u64,
+    pub(crate) beat_key: &'a str,
     /// From how many tombstones in its log on the node drops them before it starts. 0 is for never.
     pub(crate) purge_removals: u64,
     /// Whether each line on standard error begins with the time.
@@ -45,6 +49,14 @@ pub(crate) struct ServeArguments<'a> {
     pub(crate) metrics: Option<&'a str>,
     /// Which metrics that file has.
     pub(crate) series: Series,
+}
+
+/// What was checked of the command line of a node.
+#[derive(Drop)]
+struct Checked {
+    settings: Settings,
+    forgotten: Vec<Name>,
+    beat: Option<Beat>,
 }
 
 /// Prints what the node did. `WriteFailed` if standard output does not take it.
@@ -197,6 +209,21 @@ fn forgotten_of<'a>(
     Ok(names)
 }
 
+/// The beat of a node, if it has one. `BadKey` if its word is not a key.
+fn beat_of<'a>(given: &ServeArguments<'a>) -> Result<Option<Beat>, Failure<'a>> {
+    let word = given.beat_key;
+    let Ok(key) = Key::read(word.as_bytes()) else {
+        return Err(Failure::at(FaultPlace::Word("--beat-key", word), Fault::BadKey));
+    };
+    match given.beat {
+        0 => Ok(None),
+        seconds => Ok(Some(Beat {
+            pause: seconds.saturating_mul(1_000),
+            key,
+        })),
+    }
+}
+
 /// What prints the lines of a node, which has printed none yet.
 fn console_of<'r, 'a>(rt: &'r HostRuntime, given: &ServeArguments<'a>) -> Console<'r, 'a> {
     let metrics = match given.metrics {
@@ -229,11 +256,12 @@ fn run<'a, L: WriteLog + Drop, R: Runtime + Net<Listener = TcpListener, Stream =
     rt: &HostRuntime,
     runtime: &R,
     given: &ServeArguments<'a>,
-    settings: Settings,
-    forgotten: &[Name],
+    checked: Checked,
     log: L,
 ) -> Result<(), Failure<'a>> {
     let mut log = log;
+    let mut pace = given.pace;
+    pace.beat = checked.beat;
     let paths = Paths {
         sock: given.sock,
         control: given.control,
@@ -242,10 +270,10 @@ fn run<'a, L: WriteLog + Drop, R: Runtime + Net<Listener = TcpListener, Stream =
     let console = console_of(rt, given);
     let left = purge_first(rt, &console, given, &mut log)?;
     let config = NodeConfig {
-        settings,
+        settings: checked.settings,
         paths,
-        pace: given.pace,
-        forgotten,
+        pace,
+        forgotten: checked.forgotten.as_slice(),
     };
     let ran = match left {
         None => run_node(runtime, rt.alloc(), config, log, &console),
@@ -265,6 +293,7 @@ fn run<'a, L: WriteLog + Drop, R: Runtime + Net<Listener = TcpListener, Stream =
 ///
 /// - `BadName` of its name.
 /// - `BadSetting`, also for too few seats, and for a name that it cannot forget.
+/// - `BadKey` of the key of its beat.
 /// - `ReadFailed` if the path of a peer cannot be that of a socket.
 /// - `WriteFailed` if metrics would replace something else.
 ///
@@ -284,6 +313,7 @@ pub(crate) fn serve<'a, R: Runtime + Net<Listener = TcpListener, Stream = TcpStr
         return Err(Failure::at(SEATS.place(), Fault::BadSetting));
     }
     let forgotten = forgotten_of(rt.alloc(), given, &name)?;
+    let beat = beat_of(given)?;
     if let Some(path) = unreachable_peer(given) {
         return Err(Failure::at(FaultPlace::Peer(path), Fault::ReadFailed));
     }
@@ -292,5 +322,10 @@ pub(crate) fn serve<'a, R: Runtime + Net<Listener = TcpListener, Stream = TcpStr
     }
     let (cluster, max_version) = (settings.cluster(), settings.max_version());
     let log = open_log(rt, given.log, name, cluster, max_version)?;
-    run(rt, runtime, given, settings, &forgotten, log)
+    let checked = Checked {
+        settings,
+        forgotten,
+        beat,
+    };
+    run(rt, runtime, given, checked, log)
 }

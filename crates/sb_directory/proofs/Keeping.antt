@@ -34,7 +34,7 @@ use Rattle.sb_views.proofs.Growing.{grown-on, own-grown, delta-grown}
 use Rattle.sb_views.proofs.Leading.{own-leads}
 use Rattle.sb_views.proofs.Purged.{purged-grown}
 use Rattle.sb_directory.specs.Lacking.{LackingOwners, since_of, with_owner, HasOwners, AreSince}
-use Rattle.sb_directory.specs.Notes.{note_of, with_notes, entered_of, versions_of, is_held}
+use Rattle.sb_directory.specs.Notes.{note_of, with_notes, notes_of_blocks, versions_of, is_held}
 use Rattle.sb_directory.specs.ViewedNodes.{ViewedNode, IsViewedNode, after_own, after_purge, after_delta, with_published, with_hub}
 use Rattle.sb_directory.proofs.Lacking.{add-has, added-since, own-since, purge-since, delta-since}
 use Rattle.sb_directory.proofs.Noting.{noted-held, since-held}
@@ -104,7 +104,7 @@ own-held held e next =
     sym (own-leads held e next held.me).held
     ∙ ap (λ (b : Bool). (table_with_all (shown_of held held.me) (map (λ (p : List ℕ × Change). p.1) (cond b ((held.me, Enter e) ∷ []) []))).held) (text_same held.me held.me refl)
 
-own-noted : (held : Held) (e : Entry) → e.version ≡ (shown_of held held.me).held + 1 → is_held (held_after_write held e) (note_of (held.me, e)) ≡ true
+own-noted : (held : Held) (e : Entry) → e.version ≡ (shown_of held held.me).held + 1 → is_held (held_after_write held e) (note_of held.me e) ≡ true
 own-noted held e next = le-leb e.version (shown_of (held_after_write held e) held.me).held (omega (arith, own-held held e next))
 
 module _ (opening : Node) (queued : List Event) (lacking : LackingOwners) (old : ViewedNode) (is : IsViewedNode opening queued lacking old) (holds : IsHoldings old.core.node.held) where
@@ -119,14 +119,14 @@ module _ (opening : Node) (queued : List Event) (lacking : LackingOwners) (old :
       begins = begins-longer queued old.history (TookOwn e) is.begins;
       grown = grown-on (node_after opening queued).held old.core.node.held (held_after_write old.core.node.held e) is.grown (own-grown old.core.node.held e holds);
       since = own-since lacking (node_after opening queued).held old.core.node.held e has is.since;
-      notes = noted-held (held_after_write old.core.node.held e) old.hub ((old.core.node.held.me, e) ∷ [])
+      notes = noted-held (held_after_write old.core.node.held e) old.hub (note_of old.core.node.held.me e ∷ [])
           (notes-raised old.core.node.held (held_after_write old.core.node.held e) old.hub (own-grown old.core.node.held e holds) is.notes)
           (own-noted old.core.node.held e next, tt);
     }
 
     -- so it is wherever the core, the history and the watches are these
     pub own-there : (core : Core) (history : List Event) (hub : Hub) (published : List Event) → core ≡ with_node old.core (node_after_event old.core.node (Wrote e))
-        → history ≡ old.history ++ TookOwn e ∷ [] → hub ≡ with_notes old.hub ((old.core.node.held.me, e) ∷ [])
+        → history ≡ old.history ++ TookOwn e ∷ [] → hub ≡ with_notes old.hub (note_of old.core.node.held.me e ∷ [])
         → IsViewedNode opening queued lacking (record { core = core; hub = hub; history = history; published = published })
     own-there core history hub published taken longer seen =
         subst (IsViewedNode opening queued lacking) (λ i. record { core = sym taken i; hub = sym seen i; history = sym longer i; published = published }) (own-locked published)
@@ -161,14 +161,14 @@ module _ (opening : Node) (queued : List Event) (lacking : LackingOwners) (old :
           begins = begins-longer queued old.history (Applied blocks ends) is.begins;
           grown = grown-on (node_after opening queued).held old.core.node.held new.held is.grown grown;
           since = delta-since lacking (node_after opening queued).held old.core.node blocks ends has is.since;
-          notes = noted-held new.held old.hub (entered_of blocks old.core.node.held new.held)
+          notes = noted-held new.held old.hub (notes_of_blocks blocks old.core.node.held new.held)
               (notes-raised old.core.node.held new.held old.hub grown is.notes)
               (since-held new.held (versions_of old.core.node.held blocks) after);
         }
 
     pub delta-there : (core : Core) (history : List Event) (hub : Hub) (published : List Event) → core ≡ with_node old.core (replay_node old.core.node (took_each blocks ends))
         → history ≡ old.history ++ Applied blocks ends ∷ []
-        → hub ≡ with_notes old.hub (entered_of blocks old.core.node.held (replay_node old.core.node (took_each blocks ends)).held)
+        → hub ≡ with_notes old.hub (notes_of_blocks blocks old.core.node.held (replay_node old.core.node (took_each blocks ends)).held)
         → IsViewedNode opening queued lacking (record { core = core; hub = hub; history = history; published = published })
     delta-there core history hub published taken longer seen =
         subst (IsViewedNode opening queued lacking) (λ i. record { core = sym taken i; hub = sym seen i; history = sym longer i; published = published }) (delta-locked published)

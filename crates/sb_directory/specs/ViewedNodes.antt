@@ -16,7 +16,7 @@ use Rattle.sb_views.specs.declared.event.Event.TheVariants.{TookOwn, Applied, Pu
 use Rattle.sb_views.specs.Growing.{AreGrown}
 use Rattle.sb_views.specs.Histories.{node_after}
 use Rattle.sb_directory.specs.Lacking.{LackingOwners, AreSince}
-use Rattle.sb_directory.specs.Notes.{with_notes, entered_of, is_held}
+use Rattle.sb_directory.specs.Notes.{with_notes, note_of, notes_of_blocks, is_held}
 
 pub record ViewedNode : Type 0 where
   pub core : Core
@@ -39,7 +39,7 @@ unless_spent history (Ok u) = if are_spent history then Err TurnsSpent else Ok u
 abbrev pub after_own : ViewedNode → Entry → List Event → ViewedNode
 after_own l e published = record {
   core = with_node l.core (node_after_event l.core.node (Wrote e));
-  hub = with_notes l.hub ((l.core.node.held.me, e) ∷ []);
+  hub = with_notes l.hub (note_of l.core.node.held.me e ∷ []);
   history = l.history ++ TookOwn e ∷ [];
   published = published;
 }
@@ -53,13 +53,13 @@ after_purge l floor published = record {
   published = published;
 }
 
--- the delta's blocks ended so, what they entered is noted in watches, and it is the last event of the history
+-- the delta's blocks ended so, what they changed is noted in watches, and it is the last event of the history
 abbrev pub after_delta : ViewedNode → List Block → List BlockEnd → List Event → ViewedNode
 after_delta l blocks ends published = (
     let node = replay_node l.core.node (took_each blocks ends) in
     record {
       core = with_node l.core node;
-      hub = with_notes l.hub (entered_of blocks l.core.node.held node.held);
+      hub = with_notes l.hub (notes_of_blocks blocks l.core.node.held node.held);
       history = l.history ++ Applied blocks ends ∷ [];
       published = published;
     }

@@ -14,7 +14,7 @@ ghost use Rattle.sb_views.specs.declared.event.Event.TheVariants as events;
 ghost use Rattle.sb_watch.specs.declared.note.Polled.TheVariants as answers;
 ghost use Rattle.sb_watch.specs.declared.note.Note.{Note};
 ghost use Rattle.sb_watch.specs.Records.{Hub};
-ghost use Rattle.sb_watch.specs.Hubs.{new_hub, next_id, has_watch, answer_at};
+ghost use Rattle.sb_watch.specs.Hubs.{new_hub, next_id, has_watch, has_note_at, answer_at};
 ghost use Rattle.sb_directory.specs.Audits.{Audits};
 ghost use Rattle.sb_directory.specs.Purging as purging;
 ghost use Rattle.sb_directory.specs.Seats as spec;
@@ -160,8 +160,8 @@ impl<S: DirectoryTag, R: Wait + Drop> Directory<S, R> {
         self.node.lock(rt).take_own(seat, committed)
     }
 
-    /// Takes each block of a delta in turn, notes each entry that it entered in watches, and publishes all that happened. It gives
-    /// how the blocks ended, and says whether the seat has seen it. If it has not, the next call that publishes makes up for it.
+    /// Takes each block of a delta in turn, notes in watches each entry that it entered and each table that it replaced, and
+    /// publishes all that happened. It gives how the blocks ended, and says whether the seat has seen it. If it has not, the next call that publishes makes up for it.
     /// `TurnsSpent` after 2^64 - 1 events; `NoMemory` if there is no room for the ends, or to note whose writes watches and views
     /// lack. Each changes nothing except the seat's last call.
     pub fn apply<Q: Wait>(
@@ -332,12 +332,25 @@ impl<S: DirectoryTag, R: Wait + Drop> Directory<S, R> {
     }
 
     /// Adds a watch with room for 1 to 1,024 notes, and gives its id, by which any seat may poll it. `BadSetting` if the room is
-    /// outside these; `WatchesFull` if there are 64 watches, or all ids were used; `NoMemory`. Each leaves everything as it was. The
-    /// command `attrdir watch` uses no watch: it asks for pages.
+    /// outside these; `WatchesFull` if there are 64 watches, or all ids were used; `NoMemory`. Each leaves everything as it was.
     pub fn watch<Q: Wait>(&self, rt: &Q, filter: Filter, capacity: usize) -> Result<WatchId, Fault>
         ensures { (hub : Hub) × Gives result (next_id hub capacity) × ((fault : Fault) → next_id hub capacity ≡ Err fault → result ≡ Err fault) }
     {
         self.node.lock(rt).watch(filter, capacity)
+    }
+
+    /// Whether any watch has a note. It takes no memory, and is not noted as a call of a seat.
+    pub fn has_notes<Q: Wait>(&self, rt: &Q) -> bool {
+        self.node.lock(rt).has_notes()
+    }
+
+    /// Publishes all that happened, and says whether a watch has a note: of a write, or of an owner whose table was replaced.
+    /// So whoever reads then sees what is noted. `NoWatch` if there is no watch with the id, before anything is published; `NoMemory`
+    /// if there is none to publish what happened. It is not noted as a call of a seat.
+    pub fn has_note<Q: Wait>(&self, rt: &Q, id: WatchId) -> Result<bool, Fault>
+        ensures { (hub : Hub) × Gives result (has_note_at hub id) × IfErr (has_note_at hub id) (λ fault. result ≡ Err fault) }
+    {
+        self.node.lock(rt).has_note(id)
     }
 
     /// Drops a watch with its notes. `NoWatch` if there is no watch with the id, which changes nothing.

@@ -64,6 +64,8 @@
 //! - `Directory::unwatch` drops nothing and returns `Ok`. Tests refuse it.
 //! - `Directory::poll` returns that there is no note, repeats one, makes one up with a held version, or drops its
 //!   watch. Tests refuse it. Private clauses cover one call under the lock, not a second that nobody asked for.
+//! - `Directory::has_note` or `has_notes` says that there is no note, or that there is one. Tests refuse it. Private clauses
+//!   cover one call under the lock.
 //! - `Directory::take_news` leaves out an owner whose held version rose, has one whose version did not rise, or has a
 //!   wrong version. A delta for any backlog is honest. Clauses of `add_risen` and tests in
 //!   `crates/sb_directory_tests` refuse it.

@@ -9,7 +9,7 @@ ghost use Rattle.sb_holdings.specs.Treats.{Treats};
 ghost use Rattle.sb_session.specs.Handlers.{IsRefusal};
 ghost use Rattle.sb_watch.specs.declared.note.Note.{Note};
 ghost use Rattle.sb_watch.specs.declared.note.Polled.TheVariants as answers;
-ghost use Rattle.sb_watch.specs.Hubs.{new_hub, next_id, has_watch, answer_at, with_watch, with_answer, without_watch};
+ghost use Rattle.sb_watch.specs.Hubs.{new_hub, next_id, has_watch, has_note_at, has_notes, answer_at, with_watch, with_answer, without_watch};
 ghost use Rattle.sb_views.specs.declared.event.Event.TheVariants as events;
 ghost use Rattle.sb_views.specs.Histories.{node_after};
 ghost use Rattle.sb_directory.specs.ViewedNodes as nodes;
@@ -148,7 +148,7 @@ impl<S: DirectoryTag, R: Wait + Drop> ViewedNode<S, R> {
         })
     }
 
-    /// Takes each block of a delta for a seat, notes each entry that it entered in watches, and publishes all that happened. Its faults
+    /// Takes each block of a delta for a seat, notes in watches what it changed, and publishes all that happened. Its faults
     /// are those of `Directory::apply`.
     pub(crate) fn apply(
         &mut self,
@@ -344,6 +344,33 @@ impl<S: DirectoryTag, R: Wait + Drop> ViewedNode<S, R> {
         ensures left { self.new ≡ nodes.with_hub self.old (without_watch self.old.hub id) }
     {
         self.hub.drop_watch(id)
+    }
+
+    /// Whether any watch has a note.
+    pub(crate) fn has_notes(&self) -> bool
+        ensures { result ≡ has_notes self.now.hub }
+    {
+        self.hub.has_notes()
+    }
+
+    /// Publishes all that happened, and says whether a watch has a note. So what is noted is published by then.
+    pub(crate) fn has_note(&mut self, id: WatchId) -> Result<bool, Fault>
+        ensures answer { Gives result (has_note_at self.old.hub id) }
+        ensures refused { IfErr (has_note_at self.old.hub id) (λ fault. result ≡ Err fault) }
+        ensures left { self.new ≡ nodes.with_published self.old self.new.published }
+        ensures shown { OnOk result (self.new.published ≡ self.new.history) }
+        ensures none { result ≡ Err Fault.NoWatch → self.new ≡ self.old }
+    {
+        match self.hub.has_note(id) {
+            Ok(has_note) => {
+                if self.publish() {
+                    Ok(has_note)
+                } else {
+                    Err(Fault::NoMemory)
+                }
+            }
+            Err(fault) => Err(fault),
+        }
     }
 
     /// Publishes all that happened, and says whether there was memory for it. If there was none, what is published stays, and what

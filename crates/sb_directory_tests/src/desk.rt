@@ -12,7 +12,7 @@ use sb_holdings::{BlockEnd, Report};
 use sb_log::{Committed, PlainLog};
 use sb_table::Table;
 use sb_types::{Delta, Fault, Name};
-use sb_watch::{Filter, Note, Polled, WatchId};
+use sb_watch::{Filter, Note, Polled, Subject, WatchId};
 use std::alloc::Global;
 use std::process::Abort;
 use std::sync::Wait;
@@ -45,6 +45,8 @@ pub(crate) enum Call {
     Unwatch(usize),
     /// The watch that was added at this place is polled.
     Poll(usize),
+    /// The watch that was added at this place is asked whether it has a note, and then whether any watch has one.
+    HasNote(usize),
     Refresh,
     Conflict,
     /// The keys of its own table are counted.
@@ -78,6 +80,8 @@ pub(crate) enum Answer {
     /// What happened is not shown, because memory was missing.
     NotShown,
     Polled(Polled),
+    /// Whether the watch has a note, and whether any has one.
+    HasNote(bool, bool),
     Conflict(Option<u64>),
     Keys(usize),
     /// How many events the reader has seen, and how far a and b are held.
@@ -109,7 +113,16 @@ pub(crate) struct Desk<S: DirectoryTag, H: Wait + Drop> {
 pub(crate) fn noted(rt: &impl Abort, owner: &[u8], text: &[u8], version: u64) -> Answer {
     Answer::Polled(Polled::Note(Note {
         owner: name(rt, owner),
-        key: key(rt, text),
+        subject: Subject::Key(key(rt, text)),
+        version,
+    }))
+}
+
+/// The answer if a watch gives the note that the table of an owner was replaced, up to this version.
+pub(crate) fn cleared(rt: &impl Abort, owner: &[u8], version: u64) -> Answer {
+    Answer::Polled(Polled::Note(Note {
+        owner: name(rt, owner),
+        subject: Subject::Table,
         version,
     }))
 }
@@ -203,6 +216,7 @@ impl<S: DirectoryTag, H: Wait + Drop> Desk<S, H> {
             Call::Watches(count) => self.watch_all(rt, count),
             Call::Unwatch(place) => self.unwatch(rt, place),
             Call::Poll(place) => self.poll(rt, place),
+            Call::HasNote(place) => self.has_note(rt, place),
             Call::Refresh => shown(self.node.refresh(rt), Answer::Shown),
             Call::Conflict => Answer::Conflict(self.node.conflict(rt)),
             Call::Keys => Answer::Keys(self.node.key_count(rt)),
@@ -349,6 +363,14 @@ impl<S: DirectoryTag, H: Wait + Drop> Desk<S, H> {
         let id = self.id_at(rt, place);
         match self.node.poll(rt, id) {
             Ok(polled) => Answer::Polled(polled),
+            Err(fault) => Answer::Refused(fault),
+        }
+    }
+
+    fn has_note<Q: Wait + Abort>(&mut self, rt: &Q, place: usize) -> Answer {
+        let id = self.id_at(rt, place);
+        match self.node.has_note(rt, id) {
+            Ok((one, any)) => Answer::HasNote(one, any),
             Err(fault) => Answer::Refused(fault),
         }
     }

@@ -180,6 +180,18 @@ impl<S: DirectoryTag, H: Wait + Drop> Seated<S, H> {
         self.directory.poll(rt, seat, id)
     }
 
+    /// Whether a watch has a note, and whether any has one.
+    pub(crate) fn has_note<Q: Wait + Abort>(
+        &mut self,
+        rt: &Q,
+        id: WatchId,
+    ) -> Result<(bool, bool), Fault> {
+        match self.directory.has_note(rt, id) {
+            Ok(has_note) => Ok((has_note, self.directory.has_notes(rt))),
+            Err(fault) => Err(fault),
+        }
+    }
+
     pub(crate) fn refresh<Q: Wait + Abort>(&mut self, rt: &Q) -> bool {
         let seat = there(rt, self.seat.as_mut());
         self.directory.refresh(rt, seat)

@@ -10,6 +10,7 @@ use crate::dialer::RoundsTag;
 use crate::first_message::{FIRST_MOST, is_enough, name_of};
 use crate::sockets::WAKER_TOKEN;
 use crate::threads::NodeContext;
+use crate::watchers::WatcherList;
 use mio::net::UnixStream;
 use mio::{Events, Interest, Poll, Registry, Token};
 use sb_codec::Message;
@@ -58,6 +59,7 @@ enum Left {
 struct Backlog {
     peers: WaitingList,
     callers: WaitingList,
+    watchers: WatcherList,
     handover: Handover,
     /// The number of the last connection, above those of the sockets and the waker.
     last_number: usize,
@@ -172,7 +174,7 @@ impl Backlog {
     }
 
     /// Hands on the connection of this number, if it has said enough.
-    fn take_up<S: RoundsTag, H: Wait + Drop, Q: Wait>(
+    fn take_up<S: RoundsTag, H: Wait + Drop, Q: Wait + Clock>(
         &mut self,
         node: &NodeContext<S, H, Q>,
         registry: &Registry,
@@ -188,14 +190,29 @@ impl Backlog {
             .callers
             .take_request::<Brand>(registry, number, Blank::new(1))?;
         match whole {
+            Some((Message::AskChange(asked), stream)) => self
+                .watchers
+                .admit(node, registry, number, &asked, stream),
             Some((request, stream)) => {
                 let given = self
                     .handover
                     .give_request(node.rt, node.asked, request, stream);
                 note_given(node.counts, given)
             }
-            None => Ok(()),
+            None => {
+                self.watchers.hear(node, registry, number);
+                Ok(())
+            }
         }
+    }
+
+    /// Tells those who wait for a change that came, or whose time is over.
+    fn tell_watchers<S: RoundsTag, H: Wait + Drop, Q: Wait + Clock>(
+        &mut self,
+        node: &NodeContext<S, H, Q>,
+    ) {
+        let untold = self.watchers.answer(node);
+        self.faults = self.faults.saturating_add(untold);
     }
 
     /// Closes those whose time is over.
@@ -212,15 +229,20 @@ impl Backlog {
 
     /// How long it is until the time of a connection is over; none if no connection has one.
     fn time_left<Q: Clock>(&self, clock: &Q) -> Option<Duration> {
-        let first = match (self.peers.first_until(), self.callers.first_until()) {
-            (Some(one), Some(other)) => Some(one.min(other)),
-            (one, other) => one.or(other),
-        };
-        let until = first?;
+        let lists = earlier(self.peers.first_until(), self.callers.first_until());
+        let until = earlier(lists, self.watchers.first_until())?;
         match Instant::now(clock) {
             Ok(now) => Some(until.saturating_duration_since(now)),
             Err(_) => Some(Duration::from_millis(ACCEPT_PAUSE)),
         }
+    }
+}
+
+/// The earlier of two moments, if there is one.
+pub(crate) fn earlier(one: Option<Instant>, other: Option<Instant>) -> Option<Instant> {
+    match (one, other) {
+        (Some(one), Some(other)) => Some(one.min(other)),
+        (one, other) => one.or(other),
     }
 }
 
@@ -260,6 +282,7 @@ impl Acceptor {
             backlog: Backlog {
                 peers: WaitingList::new(alloc),
                 callers: WaitingList::new(alloc),
+                watchers: WatcherList::new(alloc),
                 handover,
                 last_number: WAKER_TOKEN,
                 faults: 0,
@@ -299,6 +322,7 @@ impl Acceptor {
                 }
             }
             backlog.close_late(node.rt);
+            backlog.tell_watchers(node);
         }
         unreachable!()
     }

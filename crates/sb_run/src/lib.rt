@@ -109,6 +109,10 @@
 //!   tests of `sb_run` and `tools/check-node` refuse it.
 //! - A node forgets what it offered, or defers nothing, as if memory were missing. The tests of `sb_run` and
 //!   `tools/check-node` refuse it.
+//! - A caller that waits for a change never hears of one, hears of one that did not come, or hears too late. Or a watch for it stays after
+//!   it left. The tests of `sb_run` and `tools/check-node` refuse it.
+//! - An owner has a wrong age, or a beat is missing or comes too often. No proof is about ages. The tests of `sb_run` and
+//!   `tools/check-node` refuse it.
 //! - A peer that dials counts as one that is not known, although its Hello has its name. `tools/check-node` refuses it.
 //! - `OwnWrites::put`, `serve_control`, `ask_control`, `serve_pool` or `run_node` never returns. Tests end.
 #![tactic(auto)]
@@ -118,6 +122,7 @@ mod arrivals;
 mod audit_turns;
 mod auditing;
 mod backlogs;
+mod beating;
 mod bell;
 mod control;
 mod control_socket;
@@ -129,6 +134,7 @@ mod first_hearing;
 mod first_message;
 mod forgetting;
 mod gate;
+mod heard;
 mod laws;
 mod log_watch;
 mod node;
@@ -144,12 +150,15 @@ mod status_reply;
 mod status_texts;
 mod threads;
 mod vain_offers;
+mod watchers;
 
 pub use control::ask_control;
 pub use forgetting::ForgottenOwners;
 pub use gate::{Gate, GatePoint, Open};
 pub use laws::{forgotten_owners_stay_out, running_nodes_keep_truth, running_nodes_tell_truth};
-pub use node::{NodeConfig, OnLogFault, Pace, Paths, Ran, Runtime, run_closed_node, run_node};
+pub use node::{
+    Beat, NodeConfig, OnLogFault, Pace, Paths, Ran, Runtime, run_closed_node, run_node,
+};
 pub use observer::{LogCause, LogLoss, Nobody, Observer, PushCounts, Status, Troubles};
 pub use own_writes::{OwnWrites, Stored};
 pub use peers::{DownReason, Peer, PeerState};

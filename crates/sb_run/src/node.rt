@@ -11,6 +11,7 @@ use crate::counts::Counts;
 use crate::dialer::{Dialing, RoundsTag, rounds_channel};
 use crate::first_hearing::FirstHearing;
 use crate::forgetting::ForgottenOwners;
+use crate::heard::HeardTimes;
 use crate::observer::Observer;
 use crate::own_writes::{ClosableLog, OwnWrites};
 use crate::sockets::BoundSockets;
@@ -18,11 +19,12 @@ use crate::threads::{
     EndFlag, Links, NodeContext, ThreadSeats, ThreadsEnd, gather_seats, part_seats,
 };
 use crate::vain_offers::VainOffers;
+use crate::watchers::WatcherCount;
 use sb_directory::Directory;
 use sb_log::WriteLog;
 use sb_node::NodeCore;
 use sb_table::Table;
-use sb_types::{Fault, Name, Settings};
+use sb_types::{Fault, Key, Name, Settings};
 use sb_views::NewHistory;
 use std::alloc::Global;
 use std::marker::Brand;
@@ -81,6 +83,16 @@ pub struct Pace {
     pub audit: u64,
     /// For how many milliseconds after its start its first own write waits, at most, until each peer was heard; 0 for none.
     pub hearing: u64,
+    /// How it shows that it lives, while nobody else writes; none if it does not.
+    pub beat: Option<Beat>,
+}
+
+/// A write that a node makes of itself again and again, so that its peers hear of it: true, under a key of its own.
+#[derive(Clone, Copy, Debug)]
+pub struct Beat {
+    /// How long it waits after each such write, in milliseconds, at least 1.
+    pub pause: u64,
+    pub key: Key,
 }
 
 /// What a node is to do: its settings, its sockets and its pace, and which owners it forgets.
@@ -156,6 +168,12 @@ fn start_refusal<L: WriteLog>(settings: &Settings, log: &L) -> Option<Fault>
 /// At the start each peer is due to be dialed, side by side as for news, and also with no `fanout`. A write waits until each
 /// peer was heard: its first round ended, and so did its first audit if it answered. It waits no longer than until `hearing`
 /// milliseconds after the start. Other requests are answered meanwhile.
+///
+/// A client that waits for a change holds no thread. Its connection waits where those wait that have said nothing yet, and the
+/// thread that accepts reports the change to it. At most 64 clients may wait so; one more is refused by `WatchesFull`.
+///
+/// With a `beat` the calling thread writes the flag true under its key, at once and then after each pause. It is an own write
+/// like any other. None is made once the log is closed, or while another node writes under the own name.
 ///
 /// A connection takes a worker or the calling thread only once it has something to say: a peer's whole Hello, or a client's
 /// whole request. Until then it waits, for `idle` milliseconds at `sock` and for `request` at `control`, or `idle` if that is
@@ -454,6 +472,8 @@ pub(crate) fn run_tagged<
     let (workers, forgotten) = (directory.settings().workers(), start.forgotten);
     let (ending, counts, asked) = (EndFlag::new(), Counts::new(rt, workers), Asked::new());
     let (vain_offers, hearing) = (VainOffers::new(alloc), Mutex::new(hearing));
+    let (watchers, heard) = (WatcherCount::new(), HeardTimes::new(alloc));
+    heard.note(rt, directory.name());
     let node = NodeContext {
         rt,
         alloc,
@@ -466,6 +486,8 @@ pub(crate) fn run_tagged<
         forgotten: &forgotten,
         vain_offers: &vain_offers,
         hearing: &hearing,
+        watchers: &watchers,
+        heard: &heard,
         pace,
     };
     let finished = dialing.run_threads(&node, start.writes, thread_seats, links);

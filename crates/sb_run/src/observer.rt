@@ -3,6 +3,7 @@ ghost use Rattle.std.specs.Prelude.{◌≡◌};
 ghost use Rattle.sb_run.specs.LogCauses as spec;
 
 use crate::peers::{Peer, PeerState};
+use sb_codec::OwnerAge;
 use sb_directory::Difference;
 use sb_log::StoreCause;
 use sb_types::Name;
@@ -207,6 +208,9 @@ pub struct Status<'a> {
     /// The owners that it held at version 0 shortly before, in ascending order: those with nothing but a stage, and itself before
     /// its first write. None is listed if memory is missing. The snapshot may show some of them by now.
     pub owners_at_zero: &'a [Name],
+    /// How long ago the held version of each owner rose last, in ascending order of the names. The node's own time begins at its
+    /// start. An owner that was not heard since then is not listed.
+    pub ages: &'a [OwnerAge],
     /// Whom it dials.
     pub peers: &'a [Peer<'a>],
 }

@@ -51,6 +51,7 @@ pub(crate) fn pace(rounds: u64, idle: u64) -> Pace {
         purge_removals: 0,
         audit: 0,
         hearing: 0,
+        beat: None,
     }
 }
 

@@ -5,6 +5,7 @@
 ghost use Rattle.std.specs.Prelude.{◌≤◌};
 
 #[cfg(test)]
+mod ages;
 mod codec;
 #[cfg(test)]
 mod digest;

@@ -18,7 +18,7 @@ use std::marker::Model;
 /// ```
 /// let mut hub = Hub::new(alloc);
 /// let id = hub.add(Filter { owner: None, prefix: Prefix::read(b"net/")? }, 2)?;
-/// hub.push(&Note { owner: Name::read(b"a")?, key: Key::read(b"net/b")?, version: 2 });
+/// hub.push(&Note { owner: Name::read(b"a")?, subject: Subject::Key(Key::read(b"net/b")?), version: 2 });
 /// assert!(rt; matches!(hub.take(id), Ok(Polled::Note(note)) if note.version == 2));
 /// assert_eq!(rt; hub.take(id), Ok(Polled::Empty));
 /// ```
@@ -95,6 +95,24 @@ impl Hub {
         ensures hub { spec.IsHub self.now }
     {
         place_of(&self.watches, id).is_some()
+    }
+
+    /// Returns whether a watch has a note to hand out, or lost one: then its next answer is not `Empty`. Returns `NoWatch`
+    /// if there is no watch of this id.
+    pub fn has_note(&self, id: WatchId) -> Result<bool, Fault>
+        ensures answer { result ≡ spec.has_note_at self.now id }
+    {
+        match place_of(&self.watches, id) {
+            Some(place) => Ok(self.watches[place].has_note()),
+            None => Err(Fault::NoWatch),
+        }
+    }
+
+    /// Returns whether any watch has a note to hand out, or lost one.
+    pub fn has_notes(&self) -> bool
+        ensures answer { result ≡ spec.has_notes self.now }
+    {
+        self.watches.iter().any(|watch| watch.has_note())
     }
 
     /// Returns the answer of a watch, which is the first of these that applies:

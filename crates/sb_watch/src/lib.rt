@@ -1,8 +1,8 @@
 //! Watches: the last notes of the writes that a node took, for those who ask.
 //!
 //! A watch has a filter and a ring of notes. It is polled: it wakes nobody. A watch that is polled too late reports how
-//! many notes it lost. The crate uses only `sb_types`. `sb_directory` has a hub, and gives it a note of each write.
-//! `run_node` uses no watches.
+//! many notes it lost. The crate uses only `sb_types`. `sb_directory` has a hub, and gives it a note of each write
+//! and of each owner whose table was replaced. `run_node` has a watch for each caller that waits for a change.
 //!
 //! ```rust
 //! /// What a watch of the keys under `net/` answers behind a write of `net/b`.
@@ -10,10 +10,10 @@
 //!     let mut hub = Hub::new(alloc);
 //!     let (owner, prefix) = (None, Prefix::read(b"net/")?);
 //!     let id = hub.add(Filter { owner, prefix }, 2)?;
-//!     let (owner, key, version) = (Name::read(b"a")?, Key::read(b"net/b")?, 7);
+//!     let (owner, subject, version) = (Name::read(b"a")?, Subject::Key(Key::read(b"net/b")?), 7);
 //!     hub.push(&Note {
 //!         owner,
-//!         key,
+//!         subject,
 //!         version,
 //!     });
 //!     Ok([hub.take(id)?, hub.take(id)?])
@@ -23,7 +23,7 @@
 //! # What no contract refuses
 //!
 //! - `Hub::add` reports `NoMemory` without need. Tests run it with ample memory, and once at full size. They compare
-//!   exact answers. `push`, `take` and `drop_watch` cannot: their results have no such case.
+//!   exact answers. `push`, `take`, `has_note` and `drop_watch` cannot: their results have no such case.
 //! - The list of watches takes more room than it needs, or a call takes longer than it should. Nothing refuses it;
 //!   `attrdir_bench` measures.
 //! - `Debug` prints another text. Nothing refuses it.
@@ -43,4 +43,4 @@ pub use laws::{
     limits_are_these_numbers, notes_keep_what_holds, watches_stand_alone,
 };
 pub use limits::{RING_MOST, WATCHES_MOST};
-pub use note::{Filter, Note, Polled, WatchId};
+pub use note::{Filter, Note, Polled, Subject, WatchId};

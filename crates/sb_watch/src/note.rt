@@ -6,16 +6,26 @@ ghost use Rattle.sb_watch.specs.Watches as spec;
 use sb_types::{Key, Name, Prefix};
 use std::marker::Model;
 
-/// What a watch receives of a write: the owner, the key and the version. The value is read where values are read.
+/// What a note is about.
+#[derive(Clone, Copy, Debug, PartialEq, Eq)]
+pub enum Subject {
+    /// What the owner has under this key.
+    Key(Key),
+    /// All that the owner has: its table was replaced, so each key may have changed, or be gone.
+    Table,
+}
+
+/// What a watch receives of a change: whose it is, what it is about, and the version. Values are read where values are
+/// read.
 #[derive(Clone, Copy, Debug, PartialEq, Eq)]
 pub struct Note {
     pub owner: Name,
-    pub key: Key,
+    pub subject: Subject,
     pub version: u64,
 }
 
-/// Which notes a watch is for: those whose keys begin with the prefix, of this owner, or of all owners if none is
-/// named.
+/// Which notes a watch is for: those whose keys begin with the prefix, and those of whole tables, of this owner, or of all
+/// owners if none is named.
 #[derive(Clone, Copy, Debug)]
 pub struct Filter {
     pub owner: Option<Name>,
@@ -32,7 +42,10 @@ impl Filter {
                 return false;
             }
         }
-        note.key.bytes().starts_with(self.prefix.bytes())
+        match &note.subject {
+            Subject::Key(key) => key.bytes().starts_with(self.prefix.bytes()),
+            Subject::Table => true,
+        }
     }
 }
 

@@ -8,7 +8,7 @@ use Rattle.sb_views.specs.declared.event.Event.{Event}
 use Rattle.sb_views.specs.declared.event.Event.TheVariants.{Applied}
 use Rattle.sb_views.specs.Histories.{node_after}
 use Rattle.sb_directory.specs.Lacking.{HasOwners, AreSince}
-use Rattle.sb_directory.specs.Notes.{with_notes, entries_since, versions_of, entered_of}
+use Rattle.sb_directory.specs.Notes.{with_notes, notes_since, versions_of, notes_of_blocks}
 use Rattle.sb_directory.specs.ViewedNodes.{ViewedNode, IsViewedNode}
 use Rattle.sb_directory.proofs.Keeping.{noted, delta-there}
 use Rattle.sb_directory.proofs.viewed_node.ViewedNode.apply.Goals as goal
@@ -37,8 +37,8 @@ invariant_of-self-2 g c =
     let versions : c.in_ok-versions.versions.items ≡ versions_of node.held blocks =
     c.in_ok-versions.ensures.versions ∙ (λ i. versions_of (c.holdings.ensures.held i) (c.blocks-blocks.ensures.blocks i)) in
     let held : c.holdings-4.result.now ≡ new.held = c.holdings-4.ensures.held ∙ ap (λ (k : Core). k.node.held) taken in
-    let seen : c.push_notes_since.new.hub ≡ with_notes inside.hub (entered_of blocks node.held new.held) =
-    c.push_notes_since.ensures ∙ (λ i. with_notes inside.hub (entries_since (versions i) (held i))) in (
+    let seen : c.push_notes_since.new.hub ≡ with_notes inside.hub (notes_of_blocks blocks node.held new.held) =
+    c.push_notes_since.ensures ∙ (λ i. with_notes inside.hub (notes_since (versions i) (held i))) in (
       delta-there opening queued more old noting c.holdings.ensures.holdings blocks ends c.in_ok-ends.ensures.delta c.in_ok-ends.ensures.ends after has
           c.apply.new.self c.add.new.self c.push_notes_since.new.hub inside.views.published taken longer seen,
       omega (arith, c.count.ensures.total, is.1, ap (λ (l : List Event). length l) longer, length-append inside.history (Applied blocks ends ∷ [])),

@@ -1,0 +1,142 @@
+//! Callers that wait for a change at a running node, ages of owners, and beats.
+
+use crate::asking::asked;
+use crate::making::{key, name};
+use crate::peers::{next_of, node_with, put_is_done, reach, talk};
+use crate::running::{pace, paths_of, run_a};
+use crate::{got, holds, same};
+use sb_codec::{Ages, Message};
+use sb_query::ages_in;
+use sb_run::{Beat, Pace, Paths};
+use std::alloc::Global;
+use std::io::{Read, Write};
+use std::net::Net;
+use std::os::unix::net::{UnixListener, UnixStream};
+use std::process::Abort;
+use std::{fs, thread};
+
+/// Asks for the next change under w, within 30,000 milliseconds.
+const UNDER_W: &[u8] = b"\xa7\x03\x00\x00\x00\x0c\x17\x00\x01w\x00\x00\x00\x00\x00\x00\x75\x30";
+
+/// Asks for the next change under x, within one millisecond.
+const UNDER_X: &[u8] = b"\xa7\x03\x00\x00\x00\x0c\x17\x00\x01x\x00\x00\x00\x00\x00\x00\x00\x01";
+
+/// Asks for the next change under b, within 30,000 milliseconds.
+const UNDER_B: &[u8] = b"\xa7\x03\x00\x00\x00\x0c\x17\x00\x01b\x00\x00\x00\x00\x00\x00\x75\x30";
+
+/// A connection to the node, over which this was asked.
+fn asked_over<R: Net + Abort>(rt: &R, control: &str, request: &[u8]) -> UnixStream {
+    let mut stream = reach(rt, control);
+    got(rt, stream.write_all(request));
+    stream
+}
+
+/// The number of the next notice.
+fn heard(rt: &impl Abort, stream: &UnixStream) -> u8 {
+    let mut reader = stream;
+    let mut notice = [0u8; 8];
+    got(rt, reader.read_exact(&mut notice));
+    same(
+        rt,
+        &&notice[..7],
+        &b"\xa7\x03\x00\x00\x00\x02\x18".as_slice(),
+    );
+    notice[7]
+}
+
+/// What two callers hear, of whom one waits for a change that comes.
+fn notices<R: Net + Abort>(rt: &R, control: &str) -> [u8; 4] {
+    let under_w = asked_over(rt, control, UNDER_W);
+    let first = heard(rt, &under_w);
+    let under_x = asked_over(rt, control, UNDER_X);
+    let second = heard(rt, &under_x);
+    let third = heard(rt, &under_x);
+    holds(rt, "the Put is done", put_is_done(rt, control));
+    [first, second, third, heard(rt, &under_w)]
+}
+
+/// How long ago the node heard owners.
+fn ages_at<R: Net + Abort>(rt: &R, alloc: Global, control: &str) -> Ages {
+    let stream = reach(rt, control);
+    let (mut reader, mut writer) = (&stream, &stream);
+    let answer = got(
+        rt,
+        asked(alloc, &mut reader, &mut writer, &Message::AskAges, 9),
+    );
+    match ages_in(answer) {
+        Ok(ages) => ages,
+        Err(_) => panic!(rt; "error: no ages"),
+    }
+}
+
+/// Serves two rounds as b. In the first it waits for a change at the node, and in the second it asks for ages.
+fn serve_and_wait<R: Net + Abort>(
+    rt: &R,
+    alloc: Global,
+    listener: &UnixListener,
+    paths: &Paths,
+) -> ([u8; 4], Ages) {
+    let mut of_b = node_with(rt, alloc, b"b", b"w");
+    let first_stream = next_of(rt, listener);
+    let found = notices(rt, paths.control);
+    talk(rt, alloc, &mut of_b, &first_stream, None);
+    let second_stream = next_of(rt, listener);
+    let ages = ages_at(rt, alloc, paths.control);
+    talk(rt, alloc, &mut of_b, &second_stream, None);
+    (found, ages)
+}
+
+#[test]
+fn callers_hear_of_changes_and_ages(rt: HostRuntime) {
+    let paths = paths_of("wait.sock", "wait.control", &["wait.b"]);
+    let alloc = rt.alloc();
+    let listener = got(&rt, UnixListener::bind(&rt, "wait.b"));
+    let (ran, (found, ages)) = thread::join(
+        &rt,
+        || run_a(&rt, alloc, &paths, pace(2, 0)),
+        || serve_and_wait(&rt, alloc, &listener, &paths),
+    );
+    got(&rt, fs::remove_file(&rt, "wait.b"));
+    same(&rt, &got(&rt, ran).rounds, &2);
+    same(&rt, &found, &[1, 1, 3, 2]);
+    let owners = match ages.list() {
+        [first, second] => [first.owner, second.owner],
+        _ => [name(&rt, b"none"); 2],
+    };
+    same(&rt, &owners, &[name(&rt, b"a"), name(&rt, b"b")]);
+}
+
+/// Serves a round as b, once a beat was heard at the node.
+fn serve_after_a_beat<R: Net + Abort>(
+    rt: &R,
+    alloc: Global,
+    listener: &UnixListener,
+    paths: &Paths,
+) -> [u8; 2] {
+    let mut of_b = node_with(rt, alloc, b"b", b"w");
+    let stream = next_of(rt, listener);
+    let under_b = asked_over(rt, paths.control, UNDER_B);
+    let found = [heard(rt, &under_b), heard(rt, &under_b)];
+    talk(rt, alloc, &mut of_b, &stream, None);
+    found
+}
+
+#[test]
+fn a_node_beats(rt: HostRuntime) {
+    let paths = paths_of("beat.sock", "beat.control", &["beat.b"]);
+    let alloc = rt.alloc();
+    let listener = got(&rt, UnixListener::bind(&rt, "beat.b"));
+    let mut beating: Pace = pace(1, 0);
+    beating.beat = Some(Beat {
+        pause: 1,
+        key: key(&rt, b"beat"),
+    });
+    let (ran, found) = thread::join(
+        &rt,
+        || run_a(&rt, alloc, &paths, beating),
+        || serve_after_a_beat(&rt, alloc, &listener, &paths),
+    );
+    got(&rt, fs::remove_file(&rt, "beat.b"));
+    same(&rt, &got(&rt, ran).rounds, &1);
+    same(&rt, &found, &[1, 2]);
+}

@@ -1,0 +1,177 @@
+"""The parts of tools/check-node that look at watches that wait: how soon a line comes, tables that were replaced, restarts, more callers than a
+node watches for, the messages themselves, the ages of owners, and beats."""
+import json
+import statistics
+import time
+
+from check_scripts import tell
+from check_watch import Watching
+from nodes import BYE, SECONDS, Difference, connect, delta, frame, hello, number, read_frame, run, text, want
+
+# how many milliseconds may pass from `set` at a node to the line of `watch` at its peer, at the median
+MEDIAN_MOST = 10
+WRITES = 200
+
+
+def ask_change(owner, prefix, wait):
+    return frame(0x17, text(owner) + text(prefix) + number(wait, 8))
+
+
+def ask_for_change(node, owner="", prefix="", wait=10_000):
+    """A connection on which a node is asked to tell of a change, and its first answer."""
+    stream = connect(node.control)
+    stream.settimeout(SECONDS)
+    stream.sendall(ask_change(owner, prefix, wait))
+    return stream, read_frame(stream)
+
+
+def pair_of_nodes(check, *options):
+    """Two nodes that dial each other."""
+    folder = check.folder()
+    names = [folder / "a.sock", folder / "b.sock"]
+    first = check.node("a", *options, folder=folder, peers=names[1:])
+    second = check.node("b", *options, folder=folder, peers=names[:1])
+    return first.start(), second.start()
+
+
+def soon(check):
+    """The line of a watch at a peer comes soon after `set` at a node."""
+    near, far = pair_of_nodes(check)
+    near.put("first", 1)
+    watch = Watching(far, "--owner", "a", "--every", "0")
+    try:
+        watch.awaits(["set a first 1 weight 1"])
+        times = []
+        for at in range(WRITES):
+            began = time.monotonic()
+            near.put("w", at)
+            watch.awaits([f"set a w {at + 2} weight {at}"])
+            times.append((time.monotonic() - began) * 1000)
+            # (so that a write does not wait for the news of the one before)
+            time.sleep(0.03)
+    finally:
+        watch.stop()
+    if statistics.median(times) >= MEDIAN_MOST:
+        raise Difference(f"a line came after {statistics.median(times):.1f} ms at the median, {max(times):.1f} at the most")
+
+
+def notices(check):
+    """A caller hears first that the node watches, and then of the change that it asked for, or that there was none."""
+    node = check.node("a").start()
+    streams = [ask_for_change(node, *words) for words in (("", "w/"), ("a", ""), ("b", ""), ("", "x", 300), ("", "", 0))]
+    want("the first answers", [it for _, it in streams], [(0x18, b"\x01")] * 5)
+    under, own, other, short, none = (it for it, _ in streams)
+    want("the answer of no wait", read_frame(none), (0x18, b"\x03"))
+    want("the answer of a short wait", read_frame(short), (0x18, b"\x03"))
+    want("set", node.put("w/a", 1), 1)
+    want("the answer under a prefix", read_frame(under), (0x18, b"\x02"))
+    want("the answer of an owner", read_frame(own), (0x18, b"\x02"))
+    want("the ends", [read_frame(under), read_frame(own)], [None, None])
+    tell(node, "b", 0, ("k", 1, 5))
+    want("the answer of another owner", read_frame(other), (0x18, b"\x02"))
+    stream, first = ask_for_change(node)
+    want("the first answer", first, (0x18, b"\x01"))
+    want("del", node.command("del", "w/a"), (0, "version 2\n", ""))
+    want("the answer to a removal", read_frame(stream), (0x18, b"\x02"))
+    for it, _ in streams:
+        it.close()
+
+
+def many(check):
+    """A node watches for 64 callers; one more is refused, and its watch asks by the clock; a caller that leaves makes room."""
+    node = check.node("a").start()
+    streams = [ask_for_change(node) for _ in range(64)]
+    want("64 answers", {it for _, it in streams}, {(0x18, b"\x01")})
+    want("one more", ask_for_change(node)[1], (0x14, bytes([27])))
+    watch = Watching(node, "--every", "20")
+    try:
+        watch.awaits([])
+        want("set", node.put("k", 1), 1)
+        watch.awaits(["set a k 1 weight 1"])
+    finally:
+        watch.stop()
+    want("the answers", {read_frame(it) for it, _ in streams}, {(0x18, b"\x02")})
+    left = [ask_for_change(node)[0] for _ in range(64)]
+    for it in left[:10]:
+        it.close()
+    end = time.monotonic() + SECONDS
+    while ask_for_change(node)[1] != (0x18, b"\x01"):
+        if time.monotonic() > end:
+            raise Difference("callers that left make no room")
+        time.sleep(0.02)
+
+
+def cleared(check):
+    """A table that is replaced without a new entry is a change of its owner under each prefix."""
+    node = check.node("a").start()
+    tell(node, "p", 0, ("x", 1, 10), ("y", 2, 20))
+    watch = Watching(node, "--prefix", "x")
+    try:
+        watch.awaits(["set p x 1 weight 10"])
+        stream, _ = ask_for_change(node, "p", "q")
+        with connect(node.sock) as peer:
+            # (all that p set up to version 3 is removed)
+            peer.sendall(hello("teller") + delta("p", 0, [], floor=3, upto=3) + BYE)
+            while read_frame(peer):
+                pass
+        want("the answer", read_frame(stream), (0x18, b"\x02"))
+        watch.awaits(["gone p x"])
+    finally:
+        watch.stop()
+
+
+def over_restarts(check):
+    """A watch that goes on is told by a node that was started again too, and by another at its socket."""
+    node = check.node("a").start()
+    want("set", node.put("k", 1), 1)
+    watch = Watching(node, "--retry", "--every", "0")
+    try:
+        watch.awaits(["set a k 1 weight 1"])
+        for at in range(2, 5):
+            node.kill()
+            node.start()
+            want("set", node.put("k", at), at)
+            watch.awaits([f"set a k {at} weight {at}"])
+    finally:
+        watch.stop()
+
+
+def owner_ages(check):
+    """Ages say how long ago a version rose; old rows are left out; and a beat keeps an owner young."""
+    node = check.node("a").start()
+    tell(node, "p", 0, ("x", 1, 10))
+    time.sleep(1.2)
+    tell(node, "q", 0, ("x", 1, 10))
+    ages = {it["owner"]: it["age"] for it in map(json.loads, node.get("--format", "json", "--ages"))}
+    want("whose ages", sorted(ages), ["p", "q"])
+    if not (1200 <= ages["p"] <= 5000 and ages["q"] <= 1000):
+        raise Difference(f"ages: {ages}")
+    want("rows of a second", node.get("--max-age", "1"), ["q x 1 weight 10"])
+    want("rows of an hour", node.get("--max-age", "3600"), ["p x 1 weight 10", "q x 1 weight 10"])
+    tell(node, "p", 0, ("x", 1, 10))
+    want("rows of a second, after a repeat", node.get("--max-age", "1"), ["q x 1 weight 10"])
+    tell(node, "p", 1, ("y", 2, 20))
+    want("rows of a second, after a write", node.get("--max-age", "1"), ["p x 1 weight 10", "p y 2 weight 20", "q x 1 weight 10"])
+    words = ["owners", "--sock", str(node.sock), "--cluster", "c", "--ages-from", str(node.control)]
+    status, printed, said = run(node.program, *words)
+    lines = [it.split() for it in printed.splitlines()]
+    want("owners with ages", (status, said, [it[:2] for it in lines]), (0, "", [["a", "0"], ["p", "2"], ["q", "1"]]))
+    want("ages in lines", [it[2].isdigit() for it in lines], [True] * 3)
+    want("ages without JSON", node.command("get", "--ages")[:2], (2, ""))
+
+
+def beats(check):
+    """A node with a beat writes it again and again, under the key that is given."""
+    node = check.node("a", "--beat", "1").start()
+    other = check.node("b", "--beat", "1", "--beat-key", "lives").start()
+    node.awaits("the third beat", lambda rows: rows == ["a beat 3 flag true"])
+    other.awaits("the second beat", lambda rows: rows[:1] != [] and rows[0].startswith("b lives ") and rows[0] != "b lives 1 flag true")
+    silent = check.node("c").start()
+    time.sleep(0.1)
+    want("a node without", silent.get(), [])
+    wrong = check.node("d", "--beat-key", "K")
+    found = run(check.program, *map(str, wrong.words()[1:]))
+    want("a word that is no key", (found[0], found[1], found[2].splitlines()[0]), (3, "", "fault 3"))
+
+
+PARTS = (notices, many, cleared, over_restarts, soon, owner_ages, beats)
