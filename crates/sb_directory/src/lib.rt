@@ -79,6 +79,7 @@
 
 mod difference;
 mod directory;
+mod directory_watch;
 mod lacked;
 mod lacking_owners;
 mod laws;
@@ -93,6 +94,7 @@ mod viewed_node;
 
 pub use difference::{Difference, ForeignEntry};
 pub use directory::Directory;
+pub use directory_watch::DirectoryWatch;
 pub use laws::held_never_falls;
 pub use receipt::{Applied, Closing, Purge, Receipt};
 pub use seat::{EnteredSeat, ReaderSeat};

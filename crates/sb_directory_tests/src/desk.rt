@@ -7,12 +7,12 @@ use crate::reached::Seated;
 use crate::{got, same_at, there};
 use sb_budget::Backlog;
 use sb_digest::Digest;
-use sb_directory::{Difference, DirectoryTag};
+use sb_directory::{Difference, DirectoryTag, DirectoryWatch};
 use sb_holdings::{BlockEnd, Report};
 use sb_log::{Committed, PlainLog};
 use sb_table::Table;
 use sb_types::{Delta, Fault, Name};
-use sb_watch::{Filter, Note, Polled, Subject, WatchId};
+use sb_watch::{Filter, Note, Polled, Subject};
 use std::alloc::Global;
 use std::process::Abort;
 use std::sync::Wait;
@@ -105,7 +105,7 @@ pub(crate) struct Desk<S: DirectoryTag, H: Wait + Drop> {
     node: Seated<S, H>,
     log: PlainLog,
     committed: Option<Committed>,
-    watches: Vec<WatchId>,
+    watches: Vec<DirectoryWatch<S>>,
     alloc: Global,
 }
 
@@ -328,8 +328,8 @@ impl<S: DirectoryTag, H: Wait + Drop> Desk<S, H> {
 
     fn watch<Q: Wait + Abort>(&mut self, rt: &Q, text: &[u8], capacity: usize) -> Answer {
         match self.node.watch(rt, filter_of(rt, text), capacity) {
-            Ok(id) => {
-                got(rt, self.watches.push(id));
+            Ok(watch) => {
+                got(rt, self.watches.push(watch));
                 Answer::Done
             }
             Err(fault) => Answer::Refused(fault),
@@ -346,30 +346,25 @@ impl<S: DirectoryTag, H: Wait + Drop> Desk<S, H> {
         Answer::Done
     }
 
-    /// The id of the watch that was added at this place.
-    fn id_at(&self, rt: &impl Abort, place: usize) -> WatchId {
-        *there(rt, self.watches.get(place))
-    }
-
     fn unwatch<Q: Wait + Abort>(&mut self, rt: &Q, place: usize) -> Answer {
-        let id = self.id_at(rt, place);
-        match self.node.unwatch(rt, id) {
+        let watch = there(rt, self.watches.get(place));
+        match self.node.unwatch(rt, watch) {
             Ok(()) => Answer::Done,
             Err(fault) => Answer::Refused(fault),
         }
     }
 
     fn poll<Q: Wait + Abort>(&mut self, rt: &Q, place: usize) -> Answer {
-        let id = self.id_at(rt, place);
-        match self.node.poll(rt, id) {
+        let watch = there(rt, self.watches.get_mut(place));
+        match self.node.poll(rt, watch) {
             Ok(polled) => Answer::Polled(polled),
             Err(fault) => Answer::Refused(fault),
         }
     }
 
     fn has_note<Q: Wait + Abort>(&mut self, rt: &Q, place: usize) -> Answer {
-        let id = self.id_at(rt, place);
-        match self.node.has_note(rt, id) {
+        let watch = there(rt, self.watches.get(place));
+        match self.node.has_note(rt, watch) {
             Ok((one, any)) => Answer::HasNote(one, any),
             Err(fault) => Answer::Refused(fault),
         }

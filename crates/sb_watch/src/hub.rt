@@ -1,6 +1,6 @@
 //! All watches of a node.
 
-ghost use Rattle.std.specs.Prelude.{◌≡◌, false, [], if◌then◌else◌, map, position, Ok, Err, IfOk, OnOk, OnErr};
+ghost use Rattle.std.specs.Prelude.{◌≡◌, ◌<◌, ◌-◌, ◌^◌, false, [], length, if◌then◌else◌, map, position, Ok, Err, IfOk, IfSome, IfNone, OnOk, OnErr};
 ghost use Rattle.sb_types.specs.Faults.{Gives};
 ghost use Rattle.sb_watch.specs.Watches.{watch_after_note};
 ghost use Rattle.sb_watch.specs.Hubs as spec;
@@ -54,6 +54,22 @@ impl Hub {
         }
     }
 
+    /// Returns why no watch with this room can be added: `BadSetting` or `WatchesFull`, as `add` returns them. Returns `None`
+    /// if only memory can be missing.
+    pub fn refusal(&self, capacity: usize) -> Option<Fault>
+        ensures some { IfSome result (λ fault. spec.next_id self.now capacity ≡ Err fault) }
+        ensures none { IfNone result (spec.next_id self.now capacity ≡ Ok self.now.next) }
+        ensures room { IfNone result ((length self.now.watches < WATCHES_MOST) × (self.now.next < 2 ^ 64 - 1)) }
+    {
+        if capacity < 1 || capacity > RING_MOST {
+            return Some(Fault::BadSetting);
+        }
+        if self.watches.len() >= WATCHES_MOST || self.next == u64::MAX {
+            return Some(Fault::WatchesFull);
+        }
+        None
+    }
+
     /// Adds a watch with room for 1 to 1,024 notes, and returns its id. No other watch of this hub had this id, or will
     /// have it. Its faults, in this order. Each leaves the hub as it was:
     ///
@@ -67,11 +83,8 @@ impl Hub {
         ensures ok { OnOk result (self.new ≡ spec.with_watch self.old filter capacity) }
         ensures err { OnErr result (self.new ≡ self.old) }
     {
-        if capacity < 1 || capacity > RING_MOST {
-            return Err(Fault::BadSetting);
-        }
-        if self.watches.len() >= WATCHES_MOST || self.next == u64::MAX {
-            return Err(Fault::WatchesFull);
+        if let Some(fault) = self.refusal(capacity) {
+            return Err(fault);
         }
         let id = self.next;
         self.watches

@@ -28,7 +28,7 @@ pub invariant_of-self-3 : goal.invariant_of-self-3
 invariant_of-self-3 g c =
     let inside = c.self-2.inside in
     let held = inside.core.node.held in
-    let old : ViewedNode = record { core = inside.core; hub = inside.hub; history = inside.history; published = inside.views.published } in
+    let old : ViewedNode = record { core = inside.core; hub = inside.hub; watches = inside.watches.items; history = inside.history; published = inside.views.published } in
     let notes : AllNotes (is_held held) c.take.new.self =
     subst (AllNotes (is_held held)) (sym c.take.ensures.left) (taken_keeps (λ (note : Note). is_held held note ≡ true) inside.hub c.args.id c.self-2.invariant.0.notes) in
     let is = c.self-2.invariant in
