@@ -59,7 +59,6 @@ enum Left {
 struct Backlog {
     peers: WaitingList,
     callers: WaitingList,
-    watchers: WatcherList,
     handover: Handover,
     /// The number of the last connection, above those of the sockets and the waker.
     last_number: usize,
@@ -177,6 +176,7 @@ impl Backlog {
     fn take_up<S: RoundsTag, H: Wait + Drop, Q: Wait + Clock>(
         &mut self,
         node: &NodeContext<S, H, Q>,
+        watchers: &mut WatcherList<S>,
         registry: &Registry,
         number: usize,
     ) -> Result<(), Fault> {
@@ -190,9 +190,9 @@ impl Backlog {
             .callers
             .take_request::<Brand>(registry, number, Blank::new(1))?;
         match whole {
-            Some((Message::AskChange(asked), stream)) => self
-                .watchers
-                .admit(node, registry, number, &asked, stream),
+            Some((Message::AskChange(asked), stream)) => {
+                watchers.admit(node, registry, number, &asked, stream)
+            }
             Some((request, stream)) => {
                 let given = self
                     .handover
@@ -200,18 +200,19 @@ impl Backlog {
                 note_given(node.counts, given)
             }
             None => {
-                self.watchers.hear(node, registry, number);
+                watchers.hear(node, registry, number);
                 Ok(())
             }
         }
     }
 
     /// Tells those who wait for a change that came, or whose time is over.
-    fn tell_watchers<S: RoundsTag, H: Wait + Drop, Q: Wait + Clock>(
+    fn tell<S: RoundsTag, H: Wait + Drop, Q: Wait + Clock>(
         &mut self,
         node: &NodeContext<S, H, Q>,
+        watchers: &mut WatcherList<S>,
     ) {
-        let untold = self.watchers.answer(node);
+        let untold = watchers.answer(node);
         self.faults = self.faults.saturating_add(untold);
     }
 
@@ -227,10 +228,10 @@ impl Backlog {
         self.faults = self.faults.saturating_add(closed);
     }
 
-    /// How long it is until the time of a connection is over; none if no connection has one.
-    fn time_left<Q: Clock>(&self, clock: &Q) -> Option<Duration> {
+    /// How long it is until the time of a connection is over, or until this moment; none if there is no moment.
+    fn time_left<Q: Clock>(&self, clock: &Q, until: Option<Instant>) -> Option<Duration> {
         let lists = earlier(self.peers.first_until(), self.callers.first_until());
-        let until = earlier(lists, self.watchers.first_until())?;
+        let until = earlier(lists, until)?;
         match Instant::now(clock) {
             Ok(now) => Some(until.saturating_duration_since(now)),
             Err(_) => Some(Duration::from_millis(ACCEPT_PAUSE)),
@@ -282,7 +283,6 @@ impl Acceptor {
             backlog: Backlog {
                 peers: WaitingList::new(alloc),
                 callers: WaitingList::new(alloc),
-                watchers: WatcherList::new(alloc),
                 handover,
                 last_number: WAKER_TOKEN,
                 faults: 0,
@@ -301,13 +301,15 @@ impl Acceptor {
             mut events,
             mut backlog,
         } = self;
+        let mut watchers = WatcherList::new(node.alloc);
         for _ in node.rt.forever() {
             let registry = poll.registry();
             let left = [
                 backlog.accept_at(node, registry, At::Sock),
                 backlog.accept_at(node, registry, At::Control),
             ];
-            let patience = patience(left, backlog.time_left(node.rt));
+            let time_left = backlog.time_left(node.rt, watchers.first_until());
+            let patience = patience(left, time_left);
             if poll.poll(&mut events, patience).is_err() {
                 thread::sleep(node.rt, Duration::from_millis(ACCEPT_PAUSE));
             }
@@ -316,13 +318,14 @@ impl Acceptor {
             }
             for event in &events {
                 let number = event.token().0;
-                if let Err(fault) = backlog.take_up(node, poll.registry(), number) {
+                let taken = backlog.take_up(node, &mut watchers, poll.registry(), number);
+                if let Err(fault) = taken {
                     node.counts.note_version(&fault);
                     backlog.note_fault();
                 }
             }
             backlog.close_late(node.rt);
-            backlog.tell_watchers(node);
+            backlog.tell(node, &mut watchers);
         }
         unreachable!()
     }

@@ -8,9 +8,10 @@ use crate::threads::NodeContext;
 use mio::net::UnixStream;
 use mio::{Interest, Registry, Token};
 use sb_codec::{AskChange, Message, Notice};
+use sb_directory::DirectoryWatch;
 use sb_frames::send;
 use sb_types::Fault;
-use sb_watch::{Filter, WatchId};
+use sb_watch::Filter;
 use std::alloc::Global;
 use std::io;
 use std::io::Read;
@@ -56,16 +57,15 @@ impl WatcherCount {
 
 /// A caller that waits for a change.
 #[derive(Drop)]
-struct Watcher {
+struct Watcher<S: RoundsTag> {
     number: usize,
     stream: UnixStream,
-    /// Its watch at the directory.
-    id: WatchId,
+    watch: DirectoryWatch<S>,
     /// When its time is over; never if the clock could not be read.
     until: Option<Instant>,
 }
 
-impl Watcher {
+impl<S: RoundsTag> Watcher<S> {
     /// Whether its time is over.
     fn is_late(&self, now: Option<Instant>) -> bool {
         match (self.until, now) {
@@ -102,13 +102,13 @@ impl Watcher {
 
 /// The callers that wait for a change, each with a watch of its own. The directory has no more than 64.
 #[derive(Drop)]
-pub(crate) struct WatcherList {
-    all: Vec<Watcher>,
+pub(crate) struct WatcherList<S: RoundsTag> {
+    all: Vec<Watcher<S>>,
 }
 
-impl WatcherList {
+impl<S: RoundsTag> WatcherList<S> {
     /// Nobody waits.
-    pub(crate) fn new(alloc: Global) -> WatcherList {
+    pub(crate) fn new(alloc: Global) -> WatcherList<S> {
         WatcherList {
             all: Vec::new(alloc),
         }
@@ -116,7 +116,7 @@ impl WatcherList {
 
     /// Watches for a caller, reports that to it, and lets it wait. If the directory has no watch for it, it gets that fault, and its
     /// connection is closed. `ReadFailed`, `WriteFailed` or `NoMemory` if it cannot get an answer; each closes its connection.
-    pub(crate) fn admit<S: RoundsTag, H: Wait + Drop, Q: Wait + Clock>(
+    pub(crate) fn admit<H: Wait + Drop, Q: Wait + Clock>(
         &mut self,
         node: &NodeContext<S, H, Q>,
         registry: &Registry,
@@ -131,8 +131,8 @@ impl WatcherList {
             owner: asked.owner,
             prefix: asked.prefix,
         };
-        let id = match node.directory.watch(node.rt, filter, NOTES_OF_ONE) {
-            Ok(id) => id,
+        let watch = match node.directory.watch(node.rt, filter, NOTES_OF_ONE) {
+            Ok(watch) => watch,
             Err(fault) => {
                 node.watchers.remove();
                 let mut stream = &stream;
@@ -143,7 +143,7 @@ impl WatcherList {
         let mut watcher = Watcher {
             number,
             stream,
-            id,
+            watch,
             until,
         };
         match begin(node, registry, &mut watcher) {
@@ -152,14 +152,14 @@ impl WatcherList {
                 Ok(())
             }
             Err(fault) => {
-                node.forget_watch(watcher.id);
+                node.forget_watch(&watcher.watch);
                 Err(fault)
             }
         }
     }
 
     /// Closes the connection of this number, if there is one, if its caller has left, or if it cannot be waited for any more.
-    pub(crate) fn hear<S: RoundsTag, H: Wait + Drop, Q: Wait>(
+    pub(crate) fn hear<H: Wait + Drop, Q: Wait>(
         &mut self,
         node: &NodeContext<S, H, Q>,
         registry: &Registry,
@@ -172,13 +172,13 @@ impl WatcherList {
         if !watcher.has_left() && watcher.wait_on(registry).is_ok() {
             self.all.push_reserved(watcher);
         } else {
-            node.forget_watch(watcher.id);
+            node.forget_watch(&watcher.watch);
         }
     }
 
     /// Answers each caller for whom something changed, and each whose time is over, and closes their connections. Returns how many
     /// did not get their answer.
-    pub(crate) fn answer<S: RoundsTag, H: Wait + Drop, Q: Wait + Clock>(
+    pub(crate) fn answer<H: Wait + Drop, Q: Wait + Clock>(
         &mut self,
         node: &NodeContext<S, H, Q>,
     ) -> u64 {
@@ -194,9 +194,9 @@ impl WatcherList {
             }
             let watcher = self.all.remove(0);
             let is_late = watcher.is_late(now);
-            match answer_to(node, watcher.id, has_notes, is_late) {
+            match answer_to(node, &watcher.watch, has_notes, is_late) {
                 Some(message) => {
-                    node.forget_watch(watcher.id);
+                    node.forget_watch(&watcher.watch);
                     let is_told = watcher.tell(node.alloc, &message).is_ok();
                     faults = faults.saturating_add(u64::from(!is_told));
                 }
@@ -216,18 +216,19 @@ impl WatcherList {
     }
 }
 
-/// Has the registry report the connection of a caller, and tells it that the node watches.
-fn begin<S: RoundsTag, H: Wait + Drop, Q>(
+/// Has the registry report the connection of a caller, and tells it that the node watches. What changed before is published then.
+fn begin<S: RoundsTag, H: Wait + Drop, Q: Wait>(
     node: &NodeContext<S, H, Q>,
     registry: &Registry,
-    watcher: &mut Watcher,
+    watcher: &mut Watcher<S>,
 ) -> Result<(), Fault> {
     watcher.wait_on(registry)?;
+    let _ = node.directory.has_note(node.rt, &watcher.watch)?;
     watcher.tell(node.alloc, &Message::Notice(Notice::Watching))
 }
 
 /// The place of the one of this number.
-fn place_of(all: &[Watcher], number: usize) -> Option<usize>
+fn place_of<S: RoundsTag>(all: &[Watcher<S>], number: usize) -> Option<usize>
     ensures { IfSome result (λ place. place < length all.now) }
 {
     all.iter().position(|watcher| watcher.number == number)
@@ -237,15 +238,15 @@ fn place_of(all: &[Watcher], number: usize) -> Option<usize>
 /// could not be published, it waits on until its time is over.
 fn answer_to<S: RoundsTag, H: Wait + Drop, Q: Wait>(
     node: &NodeContext<S, H, Q>,
-    id: WatchId,
+    watch: &DirectoryWatch<S>,
     has_notes: bool,
     is_late: bool,
 ) -> Option<Message> {
     if !has_notes && !is_late {
         return None;
     }
-    match node.directory.has_note(node.rt, id) {
-        Ok(true) => Some(Message::Notice(Notice::Changed)),
+    match node.directory.has_note(node.rt, watch) {
+        Ok(true) | Err(Fault::NoWatch) => Some(Message::Notice(Notice::Changed)),
         Ok(false) if is_late => Some(Message::Notice(Notice::Same)),
         Err(fault) if is_late => Some(refused_by(fault)),
         _ => None,
@@ -254,8 +255,8 @@ fn answer_to<S: RoundsTag, H: Wait + Drop, Q: Wait>(
 
 impl<S: RoundsTag, H: Wait + Drop, Q: Wait> NodeContext<'_, S, H, Q> {
     /// Drops the watch of a caller.
-    fn forget_watch(&self, id: WatchId) {
-        let _ = self.directory.unwatch(self.rt, id);
+    fn forget_watch(&self, watch: &DirectoryWatch<S>) {
+        let _ = self.directory.unwatch(self.rt, watch);
         self.watchers.remove();
     }
 
