@@ -10,7 +10,7 @@ ghost use Rattle.sb_holdings.specs.Treats.{Treats};
 ghost use Rattle.sb_session.specs.Handlers.{IsRefusal};
 ghost use Rattle.sb_watch.specs.declared.note.Note.{Note};
 ghost use Rattle.sb_watch.specs.declared.note.Polled.TheVariants as answers;
-ghost use Rattle.sb_watch.specs.Hubs.{new_hub, has_watch, has_notes, answer_at, with_watch, without_watch};
+ghost use Rattle.sb_watch.specs.Hubs.{new_hub, has_watch, has_note_at, has_notes, answer_at, with_watch, without_watch};
 ghost use Rattle.sb_views.specs.declared.event.Event.TheVariants as events;
 ghost use Rattle.sb_views.specs.Histories.{node_after};
 ghost use Rattle.sb_directory.specs.ViewedNodes as nodes;
@@ -342,8 +342,8 @@ impl<S: DirectoryTag, R: Wait + Drop> ViewedNode<S, R> {
         ensures ok { IfOk result (λ watch. self.new ≡ nodes.with_watches self.old (with_watch self.old.hub filter capacity) (self.old.watches ++ watch ∷ [])) }
         ensures err { OnErr result (self.new ≡ self.old) }
     {
-        if let Some(fault) = self.hub.refusal(capacity) {
-            return Err(fault);
+        if let Some(refusal) = self.hub.refusal(capacity) {
+            return Err(refusal);
         }
         self.watches.reserve(1)?;
         let id = self.hub.add(filter, capacity)?;
@@ -374,17 +374,18 @@ impl<S: DirectoryTag, R: Wait + Drop> ViewedNode<S, R> {
         ensures fault { IfErr result (λ fault. fault ≢ Fault.NoWatch → fault ≡ Fault.NoMemory) }
         ensures none { (Contains self.old.watches watch.now → ⊥) → result ≡ Err Fault.NoWatch }
         ensures known { result ≡ Err Fault.NoWatch → Contains self.old.watches watch.now → ⊥ }
+        ensures refused { IfErr (has_note_at self.old.hub watch.now.id) (λ fault. result ≡ Err fault) }
         ensures left { self.new ≡ nodes.with_published self.old self.new.published }
         ensures shown { OnOk result (self.new.published ≡ self.new.history) }
         ensures same { result ≡ Err Fault.NoWatch → self.new ≡ self.old }
     {
         if !is_one_of(&self.watches, watch) {
-            return Err(Fault::NoWatch);
+            Err(Fault::NoWatch)
+        } else if self.publish() {
+            self.hub.has_note(watch.id())
+        } else {
+            Err(Fault::NoMemory)
         }
-        if !self.publish() {
-            return Err(Fault::NoMemory);
-        }
-        self.hub.has_note(watch.id())
     }
 
     /// Publishes all that happened, and says whether there was memory for it. If there was none, what is published stays, and what
@@ -438,6 +439,7 @@ impl<S: DirectoryTag, R: Wait + Drop> ViewedNode<S, R> {
         ensures fault { IfErr result (λ fault. fault ≢ Fault.NoWatch → fault ≡ Fault.NoMemory) }
         ensures unknown { (Contains self.old.watches watch.old → ⊥) → result ≡ Err Fault.NoWatch }
         ensures known { result ≡ Err Fault.NoWatch → Contains self.old.watches watch.old → ⊥ }
+        ensures refused { IfErr (answer_at self.old.hub watch.old.id) (λ fault. result ≡ Err fault) }
         ensures held { (note : Note) → result ≡ Ok (answers.Note note) → note.version ≤ (shown_of (node_after S.opening seat.new.seen).held note.owner).held }
         ensures ok { OnOk result (self.new ≡ nodes.with_published (nodes.after_poll self.old watch.old) self.old.history) }
         ensures watch { OnOk result (watch.new ≡ watch_after self.new.hub self.old.history watch.old) }
