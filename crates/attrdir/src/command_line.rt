@@ -8,13 +8,14 @@ use crate::commands::{
     AFTER, AGES, AGES_FROM, ALL, ASKED_CONTROL, ASKED_SOCK, ASKING_NAME, CONTROL, COUNT, EVERY,
     EXPLAIN, FLOOR, FORMAT, FROM, KEY, KIND, LOG, LOG_CLUSTER, LOG_NAME, MARK, MAX_AGE, ONE_KEY,
     OWNER, PEER_SOCK, PREFIX, RAW, RAW_VALUE, REMOVED_KEY, RETRY, STATUS_FORMAT, VALUE,
-    VALUE_ALONE, WAIT, lacks_control, repeated_option, serve_arguments, wrong_number,
+    VALUE_ALONE, WAIT, lacks_control, repeated_option, wrong_number,
 };
 use crate::failure::Failure;
 use crate::log_file::{Floor, print_log, purge_log};
 use crate::one_row::{Portion, RowQuery, print_one};
 use crate::owners::print_owners;
 use crate::restoring::{AskedNode, restore_log};
+use crate::serve_command::serve_arguments;
 use crate::serving::ServeArguments;
 use crate::status::print_status;
 use crate::watching::{WatchQuery, watch, watch_on};

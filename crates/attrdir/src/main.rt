@@ -52,6 +52,7 @@ mod pausing;
 mod reaches;
 mod release;
 mod restoring;
+mod serve_command;
 mod serving;
 mod socket_stamp;
 mod status;

@@ -60,13 +60,17 @@ pub(crate) struct HeardTimes {
 }
 
 impl HeardTimes {
-    /// Nobody was heard yet.
-    pub(crate) fn new(alloc: Global) -> HeardTimes {
+    /// The node itself is heard now, and nobody else was heard yet.
+    pub(crate) fn new<Q: Clock>(rt: &Q, alloc: Global, me: &Name) -> HeardTimes {
+        let mut owners = HeardList {
+            all: Vec::new(alloc),
+        };
+        if let Ok(now) = Instant::now(rt) {
+            owners.note(me, now);
+        }
         HeardTimes {
             alloc,
-            owners: Mutex::new(HeardList {
-                all: Vec::new(alloc),
-            }),
+            owners: Mutex::new(owners),
         }
     }
 

@@ -449,7 +449,7 @@ pub(crate) fn run_tagged<
     ensures fault { IfErr result (IsOpenedFault pace.on_log_fault) }
     ensures failed { start.writes.has_failed ≡ true → pace.on_log_fault ≡ OnLogFault.Exit → IsErr result }
 {
-    let (rounds_sender, rounds_receiver) = rounds_channel::<S>(alloc)?;
+    let rounds = rounds_channel::<S>(alloc)?;
     let (handover, jobs, requests) = new_handover(alloc)?;
     let events = Acceptor::events(alloc)?;
     let (directory, thread_seats) = seat_all::<S, R>(rt, alloc, start.directory)?;
@@ -461,19 +461,12 @@ pub(crate) fn run_tagged<
         return Err(Fault::ReadFailed);
     };
     observer.listening();
-    let links = Links {
-        acceptor: Acceptor::new(alloc, poll, events, handover),
-        jobs,
-        turns,
-        requests,
-        rounds_sender,
-        rounds_receiver,
-    };
+    let acceptor = Acceptor::new(alloc, poll, events, handover);
+    let links = Links::new(acceptor, jobs, requests, turns, rounds);
     let (workers, forgotten) = (directory.settings().workers(), start.forgotten);
     let (ending, counts, asked) = (EndFlag::new(), Counts::new(rt, workers), Asked::new());
     let (vain_offers, hearing) = (VainOffers::new(alloc), Mutex::new(hearing));
-    let (watchers, heard) = (WatcherCount::new(), HeardTimes::new(alloc));
-    heard.note(rt, directory.name());
+    let (watchers, heard) = (WatcherCount::new(), HeardTimes::new(rt, alloc, directory.name()));
     let node = NodeContext {
         rt,
         alloc,

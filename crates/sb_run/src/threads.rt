@@ -46,12 +46,35 @@ pub(crate) struct ThreadsEnd<S: RoundsTag> {
 /// What the threads of a node have beside their seats: one thread each has a part of it.
 #[derive(Drop)]
 pub(crate) struct Links<'a, S: RoundsTag> {
-    pub(crate) acceptor: Acceptor,
-    pub(crate) jobs: Jobs,
-    pub(crate) turns: Turns<'a>,
-    pub(crate) requests: Requests,
-    pub(crate) rounds_sender: RoundsSender<S>,
-    pub(crate) rounds_receiver: RoundsReceiver<S>,
+    acceptor: Acceptor,
+    jobs: Jobs,
+    turns: Turns<'a>,
+    requests: Requests,
+    rounds_sender: RoundsSender<S>,
+    rounds_receiver: RoundsReceiver<S>,
+}
+
+impl<'a, S: RoundsTag> Links<'a, S> {
+    /// What the threads are given. The dialing thread sends its rounds over the last.
+    pub(crate) fn new(
+        acceptor: Acceptor,
+        jobs: Jobs,
+        requests: Requests,
+        turns: Turns<'a>,
+        rounds: (RoundsSender<S>, RoundsReceiver<S>),
+    ) -> Links<'a, S>
+        ensures { result.turns ≡ turns }
+    {
+        let (rounds_sender, rounds_receiver) = rounds;
+        Links {
+            acceptor,
+            jobs,
+            turns,
+            requests,
+            rounds_sender,
+            rounds_receiver,
+        }
+    }
 }
 
 /// The seats of the threads that dial.
