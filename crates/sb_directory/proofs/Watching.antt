@@ -1,14 +1,14 @@
 -- A watch reports what changed since: the notes of each event are pushed into the hub.
-use Rattle.std.proofs.Common.{◌≡◌, ◌≢◌, ℕ, ◌+◌, ◌-◌, ◌<◌, ◌==◌, Bool, true, false, not, cond, ◌&&◌, ◌||◌, List, [], ◌∷◌, ◌++◌, length, drop, map, filter, find, flat_map, Option, Some, None, Result, Ok, Err, refl, sym, ap, ap₂, subst, ◌∙◌, arith, append_assoc, append-nil, true≢false, nat_le}
-use Rattle.std.specs.List.{list_any, AllByRecursion, Contains}
+use Rattle.std.proofs.Common.{◌≡◌, ◌≢◌, ℕ, ◌+◌, ◌-◌, ◌<◌, ◌==◌, Bool, true, false, not, cond, ◌&&◌, ◌||◌, List, [], ◌∷◌, ◌++◌, length, drop, map, filter, find, flat_map, Option, Some, None, Result, Ok, Err, refl, sym, ap, ap₂, subst, ◌∙◌, arith, append_assoc, append-nil, true≢false, nat_le, ◌⊎◌, inl, inr}
+use Rattle.std.specs.List.{list_any, AllByRecursion}
 use Rattle.std.specs.Option.{option_map, option_or}
 use Rattle.std.specs.Result.{result_unwrap_or}
 use Rattle.std.proofs.lemmas.Bool.{cond-true, and_parts, leb-true, eqb-true, eq-eqb, ne_eqb}
 use Rattle.std.proofs.lemmas.Grind.{flat_map-append}
 use Rattle.std.proofs.lemmas.List.{length-append, length-drop}
-use Rattle.std.proofs.lemmas.List.Elements.{All-from_recursion, All-contains}
 use Rattle.std.proofs.lemmas.List.Folds.{find-append, list_any-append}
 use Rattle.circular_buffer.specs.Buffer.{keep_last}
+use Rattle.sb_types.specs.Runs.{Stands}
 use Rattle.sb_types.specs.Text.{is_between}
 use Rattle.sb_types.specs.declared.fault.Fault.{Fault}
 use Rattle.sb_types.specs.declared.fault.Fault.TheVariants.{BadSetting, WatchesFull}
@@ -326,9 +326,9 @@ all-after opening history hub watches watch is all =
 -- ---- what a watch of the directory says
 
 pub one-watched : (opening : Node) (history : List Event) (hub : Hub) (watches : List DirectoryWatch) (watch : DirectoryWatch) → AllByRecursion (IsWatched opening history hub) watches
-    → Contains watches watch → IsWatched opening history hub watch
-one-watched opening history hub watches watch all among =
-    All-contains (IsWatched opening history hub) watches watch (All-from_recursion (IsWatched opening history hub) watches all) among
+    → Stands watches watch → IsWatched opening history hub watch
+one-watched opening history hub (w ∷ ws) watch all (inl same) = subst (IsWatched opening history hub) same all.0
+one-watched opening history hub (w ∷ ws) watch all (inr rest) = one-watched opening history hub ws watch all.1 rest
 
 pub says-note : (opening : Node) (history : List Event) (hub : Hub) (watch : DirectoryWatch) (b : Bool) → IsWatched opening history hub watch → has_note_at hub watch.id ≡ Ok b
     → SaysOf opening history watch b
@@ -351,3 +351,26 @@ given-id hub capacity id answer = go (is_between 1 RING_MOST capacity) (is_full 
         (omega (arith, least), cc)
     go true true between same = absurd cc
     go false full between same = absurd cc
+
+-- ---- one by one through the watches
+
+pub record IsLooking (watch : DirectoryWatch) (all rest : List DirectoryWatch) : Type 0 where
+  pub back : Stands rest watch → Stands all watch
+  pub only : Stands all watch → Stands rest watch
+
+pub looking-begins : (watch : DirectoryWatch) (all rest : List DirectoryWatch) → rest ≡ all → IsLooking watch all rest
+looking-begins watch all rest is =
+    record { back = subst (λ (ws : List DirectoryWatch). Stands ws watch) is; only = subst (λ (ws : List DirectoryWatch). Stands ws watch) (sym is) }
+
+pub looking-goes_on : (watch one : DirectoryWatch) (all rest : List DirectoryWatch) → IsLooking watch all (one ∷ rest) → one ≢ watch → IsLooking watch all rest
+looking-goes_on watch one all rest is other = record { back = λ among. is.back (inr among); only = λ among. go (is.only among) }
+  where
+    go : (one ≡ watch) ⊎ Stands rest watch → Stands rest watch
+    go (inl same) = absurd (other same)
+    go (inr among) = among
+
+pub looking-finds : (watch one : DirectoryWatch) (all rest : List DirectoryWatch) → IsLooking watch all (one ∷ rest) → one ≡ watch → Stands all watch
+looking-finds watch one all rest is same = is.back (inl same)
+
+pub looking-ends : (watch : DirectoryWatch) (all rest : List DirectoryWatch) → rest ≡ [] → IsLooking watch all rest → Stands all watch → ⊥
+looking-ends watch all rest done is among = subst (λ (ws : List DirectoryWatch). Stands ws watch) done (is.only among)

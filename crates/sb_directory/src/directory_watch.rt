@@ -1,6 +1,6 @@
 //! Watches at a directory, as their callers keep them.
 ghost use Rattle.std.specs.Prelude.{◌≡◌, ◌≢◌, MatchBool, map};
-ghost use Rattle.std.specs.List.{Contains};
+ghost use Rattle.sb_types.specs.Runs.{Stands};
 ghost use Rattle.sb_directory.specs.Watching as spec;
 
 use crate::tag::DirectoryTag;
@@ -68,6 +68,15 @@ impl<S: DirectoryTag> DirectoryWatch<S> {
         self.since = history.copy();
     }
 
+    /// Does the same if this is its id.
+    fn renew_if(&mut self, id: WatchId, history: &HistoryPrefix<S>)
+        ensures { self.new ≡ spec.renewed id history.now self.old }
+    {
+        if self.id == id {
+            self.renew(history);
+        }
+    }
+
     /// Whether another watch is the same, with the same history.
     fn is_same(&self, other: &DirectoryWatch<S>) -> bool
         ensures { MatchBool result (self.now ≡ other.now) (self.now ≢ other.now) }
@@ -83,7 +92,7 @@ pub(crate) fn is_one_of<S: DirectoryTag>(
     watches: &[DirectoryWatch<S>],
     watch: &DirectoryWatch<S>,
 ) -> bool
-    ensures { MatchBool result (Contains watches.now watch.now) (Contains watches.now watch.now → ⊥) }
+    ensures { MatchBool result (Stands watches.now watch.now) (Stands watches.now watch.now → ⊥) }
 {
     for one in watches {
         if one.is_same(watch) {
@@ -102,9 +111,7 @@ fn renew<S: DirectoryTag>(
     ensures { watches.new ≡ map (spec.renewed id history.now) watches.old }
 {
     for watch in watches.iter_mut() {
-        if watch.id == id {
-            watch.renew(history);
-        }
+        watch.renew_if(id, history);
     }
 }
 

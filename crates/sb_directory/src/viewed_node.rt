@@ -1,9 +1,9 @@
 //! What the lock of a directory guards: a node with its history, its views, its watches and the book of its seats.
 ghost use Rattle.std.specs.Prelude.{◌≡◌, ◌≢◌, ◌≤◌, ◌+◌, ◌++◌, ◌∷◌, [], true, false, length, if◌then◌else◌, None, Ok, Err, IfOk, IfErr, IfSome, IsSome, OnOk, OnErr};
 ghost use Rattle.std.specs.Option.{option_map};
-ghost use Rattle.std.specs.List.{Contains};
 ghost use mathlib.Core.List.{IsPrefix};
 ghost use Rattle.sb_types.specs.Faults.{Gives};
+ghost use Rattle.sb_types.specs.Runs.{Stands};
 ghost use Rattle.sb_holdings.specs.Held.{shown_of};
 ghost use Rattle.sb_holdings.specs.Plain.{IsHoldings};
 ghost use Rattle.sb_holdings.specs.Treats.{Treats};
@@ -372,8 +372,8 @@ impl<S: DirectoryTag, R: Wait + Drop> ViewedNode<S, R> {
     pub(crate) fn has_note(&mut self, watch: &DirectoryWatch<S>) -> Result<bool, Fault>
         ensures says { IfOk result (SaysOf S.opening self.old.history watch.now) }
         ensures fault { IfErr result (λ fault. fault ≢ Fault.NoWatch → fault ≡ Fault.NoMemory) }
-        ensures none { (Contains self.old.watches watch.now → ⊥) → result ≡ Err Fault.NoWatch }
-        ensures known { result ≡ Err Fault.NoWatch → Contains self.old.watches watch.now → ⊥ }
+        ensures none { (Stands self.old.watches watch.now → ⊥) → result ≡ Err Fault.NoWatch }
+        ensures known { result ≡ Err Fault.NoWatch → Stands self.old.watches watch.now → ⊥ }
         ensures refused { IfErr (has_note_at self.old.hub watch.now.id) (λ fault. result ≡ Err fault) }
         ensures left { self.new ≡ nodes.with_published self.old self.new.published }
         ensures shown { OnOk result (self.new.published ≡ self.new.history) }
@@ -437,8 +437,8 @@ impl<S: DirectoryTag, R: Wait + Drop> ViewedNode<S, R> {
         ensures answer { OnOk result (result ≡ answer_at self.old.hub watch.old.id) }
         ensures says { IfOk result (λ polled. SaysOf S.opening self.old.history watch.old (reports polled)) }
         ensures fault { IfErr result (λ fault. fault ≢ Fault.NoWatch → fault ≡ Fault.NoMemory) }
-        ensures unknown { (Contains self.old.watches watch.old → ⊥) → result ≡ Err Fault.NoWatch }
-        ensures known { result ≡ Err Fault.NoWatch → Contains self.old.watches watch.old → ⊥ }
+        ensures unknown { (Stands self.old.watches watch.old → ⊥) → result ≡ Err Fault.NoWatch }
+        ensures known { result ≡ Err Fault.NoWatch → Stands self.old.watches watch.old → ⊥ }
         ensures refused { IfErr (answer_at self.old.hub watch.old.id) (λ fault. result ≡ Err fault) }
         ensures held { (note : Note) → result ≡ Ok (answers.Note note) → note.version ≤ (shown_of (node_after S.opening seat.new.seen).held note.owner).held }
         ensures ok { OnOk result (self.new ≡ nodes.with_published (nodes.after_poll self.old watch.old) self.old.history) }
