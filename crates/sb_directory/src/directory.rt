@@ -369,7 +369,7 @@ impl<S: DirectoryTag, R: Wait + Drop> Directory<S, R> {
     pub fn unwatch<Q: Wait>(&self, rt: &Q, watch: &DirectoryWatch<S>) -> Result<(), Fault>
         ensures { (hub : Hub) × (result ≡ (if has_watch hub watch.now.id then Ok tt else Err Fault.NoWatch)) }
     {
-        self.node.lock(rt).unwatch(watch)
+        self.node.lock(rt).unwatch(watch.id())
     }
 
     /// Publishes all that happened, and says whether the seat has seen it. Then it has seen at least as many events as its own calls

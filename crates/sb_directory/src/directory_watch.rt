@@ -131,8 +131,8 @@ pub(crate) fn renew_unless_owed<S: DirectoryTag>(
     }
 }
 
-/// Drops the watch of an id.
-pub(crate) fn drop_watch<S: DirectoryTag>(watches: &mut Vec<DirectoryWatch<S>>, id: WatchId)
+/// Leaves out the watch of an id.
+pub(crate) fn leave_out<S: DirectoryTag>(watches: &mut Vec<DirectoryWatch<S>>, id: WatchId)
     ensures { watches.new.items ≡ spec.others id watches.old.items }
 {
     watches.retain(|watch| watch.id != id);

@@ -21,7 +21,7 @@ ghost use Rattle.sb_directory.specs.Seats as spec;
 ghost use Rattle.sb_directory.specs.Watching.{SaysOf, reports, watch_given, watch_after, others};
 
 use crate::difference::{Difference, difference_of, mark_of};
-use crate::directory_watch::{DirectoryWatch, drop_watch, is_one_of, renew_unless_owed};
+use crate::directory_watch::{DirectoryWatch, is_one_of, leave_out, renew_unless_owed};
 use crate::lacked::catch_up;
 use crate::lacking_owners::LackingOwners;
 use crate::notes::{push_note, push_notes_since, versions_of};
@@ -353,12 +353,12 @@ impl<S: DirectoryTag, R: Wait + Drop> ViewedNode<S, R> {
     }
 
     /// Drops a watch with its notes.
-    pub(crate) fn unwatch(&mut self, watch: &DirectoryWatch<S>) -> Result<(), Fault>
-        ensures answer { result ≡ (if has_watch self.old.hub watch.now.id then Ok tt else Err Fault.NoWatch) }
-        ensures left { self.new ≡ nodes.with_watches self.old (without_watch self.old.hub watch.now.id) (others watch.now.id self.old.watches) }
+    pub(crate) fn unwatch(&mut self, id: WatchId) -> Result<(), Fault>
+        ensures answer { result ≡ (if has_watch self.old.hub id then Ok tt else Err Fault.NoWatch) }
+        ensures left { self.new ≡ nodes.with_watches self.old (without_watch self.old.hub id) (others id self.old.watches) }
     {
-        drop_watch(&mut self.watches, watch.id());
-        self.hub.drop_watch(watch.id())
+        leave_out(&mut self.watches, id);
+        self.hub.drop_watch(id)
     }
 
     /// Whether any watch has a note.
