@@ -355,8 +355,7 @@ impl<S: DirectoryTag, R: Wait + Drop> Directory<S, R> {
     }
 
     /// Publishes all that happened, and says whether anything changed that a watch is for. So whoever reads then sees the change.
-    /// What counts is what came after the history at which the watch was added, or at which a poll left it without notes. `NoWatch`
-    /// if it is not a watch of this directory, before anything is published; `NoMemory` if there is none to publish what happened. It
+    /// What counts is what came since the watch was added, or since a poll left it without notes. `NoWatch` if it is not a watch of this directory, before anything is published; `NoMemory` if there is none to publish what happened. It
     /// is not noted as a call of a seat.
     pub fn has_note<Q: Wait>(&self, rt: &Q, watch: &DirectoryWatch<S>) -> Result<bool, Fault>
         ensures says { IfOk result (λ has_note. (history : List Event) × SaysOf S.opening history watch.now has_note) }
@@ -387,8 +386,8 @@ impl<S: DirectoryTag, R: Wait + Drop> Directory<S, R> {
 
     /// Publishes all that happened, lets the seat see it, and gives the watch's next answer, one a call. If the watch lost notes
     /// since its last `Lagged`, the answer is `Lagged` with how many. Else it is `Note` with its oldest note, which it then no longer has;
-    /// else `Empty`. It is `Empty` exactly if no event changed anything that the watch is for, after the history at which it was added,
-    /// or at which a poll left it without notes. `NoWatch` if it is not a watch of this directory, before anything is published: it is
+    /// else `Empty`. It is `Empty` exactly if nothing that the watch is for changed since it was added, or since a poll left it
+    /// without notes. `NoWatch` if it is not a watch of this directory, before anything is published: it is
     /// the seat's last call, and nothing else changes. `NoMemory` if there is none to publish what happened, or the seat can't enter:
     /// then the note is still to come.
     pub fn poll<Q: Wait>(

@@ -48,7 +48,7 @@ use std::sync::ledger::{Book, Share};
 pub(crate) struct ViewedNode<S: DirectoryTag, R: Wait + Drop> {
     core: NodeCore,
     hub: Hub,
-    /// The watches of callers, each of which is also in the hub.
+    /// The watches of callers, which are also in the hub.
     watches: Vec<DirectoryWatch<S>>,
     history: History<S>,
     views: ViewWriter<S, R>,

@@ -272,8 +272,8 @@ impl Requests {
         Some(Work::Request(request))
     }
 
-    /// Waits for the arrival of a request, no longer than until the next beat, and only for a while if a write or a beat has to wait.
-    /// Whether one arrived; none if no more can.
+    /// Waits for the arrival of a request, and no longer than until the next beat. If a write or a beat has to wait, it waits only
+    /// for a while. Whether one arrived; none if no more can.
     fn await_arrival<R: Wait + Clock>(
         &self,
         rt: &R,

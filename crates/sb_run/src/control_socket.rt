@@ -41,8 +41,8 @@ pub(crate) struct ControlEnd<S: RoundsTag> {
 }
 
 impl<S: RoundsTag, H: Wait + Drop, Q: Wait + Clock> NodeContext<'_, S, H, Q> {
-    /// Writes the answer to a request: the status of the node to an AskStatus, the ages of owners to an AskAges, and the answer of
-    /// `Serving` to any other request.
+    /// Writes the answer to a request. To an AskStatus it is the status of the node, to an AskAges the ages of owners, and to any
+    /// other the answer of `Serving`.
     /// `WriteFailed`, with how many bytes of the answer are written; `NoMemory`, with none.
     fn write_answer<W: Write, L: WriteLog, O: Observer>(
         &self,

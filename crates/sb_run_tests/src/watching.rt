@@ -44,7 +44,7 @@ fn heard(rt: &impl Abort, stream: &UnixStream) -> u8 {
     notice[7]
 }
 
-/// What two callers hear, of whom one waits for a change that comes.
+/// What two callers hear. One of them waits for a change that comes.
 fn notices<R: Net + Abort>(rt: &R, control: &str) -> [u8; 4] {
     let under_w = asked_over(rt, control, UNDER_W);
     let first = heard(rt, &under_w);

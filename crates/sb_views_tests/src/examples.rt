@@ -14,7 +14,7 @@ use sb_watch::{Filter, Hub, Note, Polled, Subject};
 use std::alloc::Global;
 use std::process::Abort;
 
-/// What a watch of the keys under `net/` answers behind a write of `net/b`.
+/// What a watch of the keys under `net/` answers after a write of `net/b`.
 fn watch_once(alloc: Global) -> Result<[Polled; 2], Fault> {
     let mut hub = Hub::new(alloc);
     let (owner, prefix) = (None, Prefix::read(b"net/")?);

@@ -5,7 +5,7 @@
 //! and of each owner whose table was replaced. `run_node` has a watch for each caller that waits for a change.
 //!
 //! ```rust
-//! /// What a watch of the keys under `net/` answers behind a write of `net/b`.
+//! /// What a watch of the keys under `net/` answers after a write of `net/b`.
 //! fn watch_once(alloc: Global) -> Result<[Polled; 2], Fault> {
 //!     let mut hub = Hub::new(alloc);
 //!     let (owner, prefix) = (None, Prefix::read(b"net/")?);

@@ -24,8 +24,8 @@ pub struct Note {
     pub version: u64,
 }
 
-/// Which notes a watch is for: those whose keys begin with the prefix, and those of whole tables, of this owner, or of all
-/// owners if none is named.
+/// Which notes a watch is for: those whose keys begin with the prefix, and those of whole tables. They are of this owner, or
+/// of all owners if none is named.
 #[derive(Clone, Copy, Debug)]
 pub struct Filter {
     pub owner: Option<Name>,
