@@ -1,8 +1,12 @@
 -- A watch reports what changed since: the notes of each event are pushed into the hub.
-use Rattle.std.proofs.Common.{◌≡◌, ◌≢◌, ℕ, ◌+◌, ◌-◌, ◌<◌, ◌==◌, Bool, true, false, not, cond, ◌&&◌, ◌||◌, List, [], ◌∷◌, ◌++◌, length, drop, map, filter, find, flat_map, Option, Some, None, Result, Ok, Err, refl, sym, ap, ap₂, subst, ◌∙◌, arith, append_assoc, append-nil, true≢false, nat_le, ◌⊎◌, inl, inr}
+use Rattle.std.proofs.Common.{◌≡◌, ◌≢◌, ℕ, ◌+◌, ◌-◌, ◌<◌, ◌==◌, Bool, true, false, not, cond, ◌&&◌, ◌||◌, List, [], ◌∷◌, ◌++◌, length, drop, map, filter, find, flat_map, Option, Some, None, Result, Ok, Err, refl, sym, ap, ap₂, subst, ◌∙◌, arith, append_assoc, append-nil, true≢false, nat_le, nat_eq, unwrap_or, ◌⊎◌, inl, inr}
 use Rattle.std.specs.List.{list_any, AllByRecursion}
-use Rattle.std.specs.Option.{option_map, option_or}
+use Rattle.std.specs.Option.{option_map, option_or, option_eq}
 use Rattle.std.specs.Result.{result_unwrap_or}
+use Rattle.std.specs.Bool.{Decides, MatchBool}
+use Rattle.std.specs.Cmp.{unsigned_Decides}
+use Rattle.std.specs.Cmp.Lexicographic.{pointwise, pointwise_decides}
+use Rattle.std.proofs.lemmas.Option.{none-some}
 use Rattle.std.proofs.lemmas.Bool.{cond-true, and_parts, leb-true, eqb-true, eq-eqb, ne_eqb}
 use Rattle.std.proofs.lemmas.Grind.{flat_map-append}
 use Rattle.std.proofs.lemmas.List.{length-append, length-drop}
@@ -374,3 +378,23 @@ looking-finds watch one all rest is same = is.back (inl same)
 
 pub looking-ends : (watch : DirectoryWatch) (all rest : List DirectoryWatch) → rest ≡ [] → IsLooking watch all rest → Stands all watch → ⊥
 looking-ends watch all rest done is among = subst (λ (ws : List DirectoryWatch). Stands ws watch) done (is.only among)
+
+-- ---- filters that are one
+
+texts-one : (a b : List ℕ) → Decides (pointwise nat_eq a b) (a ≡ b)
+texts-one a b = pointwise_decides nat_eq unsigned_Decides a b
+
+owners-one : (a b : Option (List ℕ)) → Decides (option_eq (pointwise nat_eq) a b) (a ≡ b)
+owners-one None None = (λ e. refl, λ e. refl)
+owners-one None (Some y) = (λ e. absurd (true≢false (sym e)), λ e. absurd (none-some y e))
+owners-one (Some x) None = (λ e. absurd (true≢false (sym e)), λ e. absurd (none-some x (sym e)))
+owners-one (Some x) (Some y) = (λ e. ap (λ (t : List ℕ). Some t) ((texts-one x y).0 e), λ e. (texts-one x y).1 (ap (λ (o : Option (List ℕ)). unwrap_or o x) e))
+
+pub filters-one : (one other : Filter) → MatchBool (option_eq (pointwise nat_eq) one.owner other.owner && pointwise nat_eq one.prefix other.prefix) (one ≡ other) (one ≢ other)
+filters-one one other =
+    go (option_eq (pointwise nat_eq) one.owner other.owner) (pointwise nat_eq one.prefix other.prefix) (owners-one one.owner other.owner) (texts-one one.prefix other.prefix)
+  where
+    go : (a b : Bool) → Decides a (one.owner ≡ other.owner) → Decides b (one.prefix ≡ other.prefix) → MatchBool (a && b) (one ≡ other) (one ≢ other)
+    go true true owner prefix = λ i. record { owner = owner.0 refl i; prefix = prefix.0 refl i }
+    go true false owner prefix = λ same. true≢false (sym (prefix.1 (ap (λ (f : Filter). f.prefix) same)))
+    go false b owner prefix = λ same. true≢false (sym (owner.1 (ap (λ (f : Filter). f.owner) same)))
