@@ -18,9 +18,9 @@ use Rattle.sb_watch.specs.Hubs.{AllNotes, with_push}
 use Rattle.sb_watch.proofs.KeptNotes.{pushed_keeps}
 use Rattle.sb_directory.specs.Notes.{note_of, clear_of, with_notes, entry_notes, clear_notes, owner_notes, notes_since, is_held}
 
-pub notes-append : (hub : Hub) (xs ys : List Note) → with_notes hub (xs ++ ys) ≡ with_notes (with_notes hub xs) ys
-notes-append hub [] ys = refl
-notes-append hub (x ∷ xs) ys = notes-append (with_push hub x) xs ys
+pub notes_append : (hub : Hub) (xs ys : List Note) → with_notes hub (xs ++ ys) ≡ with_notes (with_notes hub xs) ys
+notes_append hub [] ys = refl
+notes_append hub (x ∷ xs) ys = notes_append (with_push hub x) xs ys
 
 -- ---- one owner
 
@@ -61,7 +61,7 @@ telling_all-goes_on held from all hub new p rest t is found step =
     let same : t ≡ shown_of held p.0 = held-table (get held.owners p.0) t found in
     record {
       left = ap (λ (h : Hub). with_notes h (notes_since rest held)) (step ∙ ap (λ (u : Table). with_notes hub (owner_notes p.1 p.0 u)) same)
-          ∙ sym (notes-append hub (owner_notes p.1 p.0 (shown_of held p.0)) (notes_since rest held)) ∙ is.left;
+          ∙ sym (notes_append hub (owner_notes p.1 p.0 (shown_of held p.0)) (notes_since rest held)) ∙ is.left;
     }
 
 -- an owner that is not held has no floor

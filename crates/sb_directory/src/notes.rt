@@ -42,7 +42,7 @@ fn push_notes_above(hub: &mut Hub, owner: &Name, table: &Table, version: u64)
 }
 
 /// Notes in watches what changed of an owner that was held up to a version.
-#[tactic(auto, using(crate::proofs::Noting::notes-append))]
+#[tactic(auto, using(crate::proofs::Noting::notes_append))]
 fn push_owner(hub: &mut Hub, owner: &Name, table: &Table, version: u64)
     ensures { hub.new ≡ spec.with_notes hub.old (spec.owner_notes version owner.now table.now) }
 {
