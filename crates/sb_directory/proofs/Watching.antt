@@ -1,5 +1,5 @@
 -- A watch reports what changed since: the notes of each event are pushed into the hub.
-use Rattle.std.proofs.Common.{◌≡◌, ◌≢◌, ℕ, ◌+◌, ◌-◌, ◌<◌, ◌==◌, Bool, true, false, not, cond, ◌&&◌, ◌||◌, List, [], ◌∷◌, ◌++◌, length, drop, map, filter, find, flat_map, Option, Some, None, Result, Ok, Err, refl, sym, ap, ap₂, subst, ◌∙◌, arith, append_assoc, append-nil, true≢false, nat_le, nat_eq, unwrap_or, ◌⊎◌, inl, inr}
+use Rattle.std.proofs.Common.{◌≡◌, ◌≢◌, ℕ, ◌+◌, ◌-◌, ◌<◌, ◌==◌, Bool, true, false, not, cond, ◌&&◌, ◌||◌, List, [], ◌∷◌, ◌++◌, length, drop, map, filter, find, flat_map, Option, Some, None, Result, Ok, Err, IfErr, refl, sym, ap, ap₂, subst, ◌∙◌, arith, append_assoc, append-nil, true≢false, nat_le, nat_eq, unwrap_or, ◌⊎◌, inl, inr}
 use Rattle.std.specs.List.{list_any, AllByRecursion}
 use Rattle.std.specs.Option.{option_map, option_or, option_eq}
 use Rattle.std.specs.Result.{result_unwrap_or}
@@ -15,7 +15,7 @@ use Rattle.circular_buffer.specs.Buffer.{keep_last}
 use Rattle.sb_types.specs.Runs.{Stands}
 use Rattle.sb_types.specs.Text.{is_between}
 use Rattle.sb_types.specs.declared.fault.Fault.{Fault}
-use Rattle.sb_types.specs.declared.fault.Fault.TheVariants.{BadSetting, WatchesFull}
+use Rattle.sb_types.specs.declared.fault.Fault.TheVariants.{BadSetting, WatchesFull, NoWatch}
 use Rattle.sb_holdings.specs.Nodes.{Node, replay_node}
 use Rattle.sb_holdings.proofs.Nodes.{replay_node-append}
 use Rattle.sb_watch.specs.declared.limits.TheConstants.{RING_MOST}
@@ -398,3 +398,25 @@ filters-one one other =
     go true true owner prefix = λ i. record { owner = owner.0 refl i; prefix = prefix.0 refl i }
     go true false owner prefix = λ same. true≢false (sym (prefix.1 (ap (λ (f : Filter). f.prefix) same)))
     go false b owner prefix = λ same. true≢false (sym (owner.1 (ap (λ (f : Filter). f.owner) same)))
+
+-- ---- what a call answers of a watch that is there, and of one that is not
+
+pub note-there : (opening : Node) (history : List Event) (hub : Hub) (watch : DirectoryWatch) (is : IsWatched opening history hub watch) → has_note_at hub watch.id ≡ Ok (not (owes_nothing is.kept))
+note-there opening history hub watch is = ap note_if_found is.found
+
+pub answer-there : (opening : Node) (history : List Event) (hub : Hub) (watch : DirectoryWatch) (is : IsWatched opening history hub watch) → answer_at hub watch.id ≡ Ok (answer_of is.kept)
+answer-there opening history hub watch is = ap answer_if_found is.found
+
+pub no-note : (hub : Hub) (id : ℕ) → IfErr (has_note_at hub id) (λ fault. Err NoWatch ≡ Err fault)
+no-note hub id = go (watch_at hub id)
+  where
+    go : (found : Option Watch) → IfErr (note_if_found found) (λ fault. Err NoWatch ≡ Err fault)
+    go None = refl
+    go (Some w) = tt
+
+pub no-answer : (hub : Hub) (id : ℕ) → IfErr (answer_at hub id) (λ fault. Err NoWatch ≡ Err fault)
+no-answer hub id = go (watch_at hub id)
+  where
+    go : (found : Option Watch) → IfErr (answer_if_found found) (λ fault. Err NoWatch ≡ Err fault)
+    go None = refl
+    go (Some w) = tt
