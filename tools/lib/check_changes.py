@@ -47,8 +47,8 @@ def soon(check):
             near.put("w", at)
             watch.awaits([f"set a w {at + 2} weight {at}"])
             times.append((time.monotonic() - began) * 1000)
-            # (so that a write does not wait for the news of the one before)
-            time.sleep(0.03)
+            # (news is gathered for 40 ms at the most after the burst before)
+            time.sleep(0.05)
     finally:
         watch.stop()
     if statistics.median(times) >= MEDIAN_MOST:
