@@ -1,12 +1,8 @@
 -- A watch reports what changed since: the notes of each event are pushed into the hub.
-use Rattle.std.proofs.Common.{◌≡◌, ◌≢◌, ℕ, ◌+◌, ◌-◌, ◌<◌, ◌==◌, Bool, true, false, not, cond, ◌&&◌, ◌||◌, List, [], ◌∷◌, ◌++◌, length, drop, map, filter, find, flat_map, Option, Some, None, Result, Ok, Err, IfErr, refl, sym, ap, ap₂, subst, ◌∙◌, arith, append_assoc, append-nil, true≢false, nat_le, nat_eq, unwrap_or, ◌⊎◌, inl, inr}
+use Rattle.std.proofs.Common.{◌≡◌, ◌≢◌, ℕ, ◌+◌, ◌-◌, ◌<◌, ◌==◌, Bool, true, false, not, cond, ◌&&◌, ◌||◌, List, [], ◌∷◌, ◌++◌, length, drop, map, filter, find, flat_map, Option, Some, None, Result, Ok, Err, IfErr, refl, sym, ap, ap₂, subst, ◌∙◌, arith, append_assoc, append-nil, true≢false, nat_le, ◌⊎◌, inl, inr}
 use Rattle.std.specs.List.{list_any, AllByRecursion}
-use Rattle.std.specs.Option.{option_map, option_or, option_eq}
+use Rattle.std.specs.Option.{option_map, option_or}
 use Rattle.std.specs.Result.{result_unwrap_or}
-use Rattle.std.specs.Bool.{Decides, MatchBool}
-use Rattle.std.specs.Cmp.{unsigned_Decides}
-use Rattle.std.specs.Cmp.Lexicographic.{pointwise, pointwise_decides}
-use Rattle.std.proofs.lemmas.Option.{none-some}
 use Rattle.std.proofs.lemmas.Bool.{cond-true, and_parts, leb-true, eqb-true, eq-eqb, ne_eqb}
 use Rattle.std.proofs.lemmas.Grind.{flat_map-append}
 use Rattle.std.proofs.lemmas.List.{length-append, length-drop}
@@ -223,7 +219,7 @@ reports-owed w = go (w.lost == 0) w.notes
   where
     go : (b : Bool) (notes : List Note) → reports (cond b (oldest_answer notes) (answers.Lagged w.lost)) ≡ not (b && (length notes == 0))
     go true [] = refl
-    go true (n ∷ ns) = refl
+    go true (n ∷ ns) = sym (ap not (ne_eqb (length (n ∷ ns)) 0 (λ none. omega (arith, none))))
     go false notes = refl
 
 -- what owes a note after it answered owed one before
@@ -232,7 +228,7 @@ owed-before w after = go (w.lost == 0) w.notes after
   where
     go : (b : Bool) (notes : List Note) → not (length (cond b (drop 1 notes) notes) == 0) ≡ true → not (b && (length notes == 0)) ≡ true
     go true [] owed = owed
-    go true (n ∷ ns) owed = refl
+    go true (n ∷ ns) owed = ap not (ne_eqb (length (n ∷ ns)) 0 (λ none. omega (arith, none)))
     go false notes owed = refl
 
 answer-at : (hub : Hub) (id : ℕ) (w : Watch) (polled : Polled) → watch_at hub id ≡ Some w → answer_at hub id ≡ Ok polled → answer_of w ≡ polled
@@ -331,6 +327,7 @@ all-after opening history hub watches watch is all =
 
 pub one-watched : (opening : Node) (history : List Event) (hub : Hub) (watches : List DirectoryWatch) (watch : DirectoryWatch) → AllByRecursion (IsWatched opening history hub) watches
     → Stands watches watch → IsWatched opening history hub watch
+one-watched opening history hub [] watch all among = elim among [ ]
 one-watched opening history hub (w ∷ ws) watch all (inl same) = subst (IsWatched opening history hub) same all.0
 one-watched opening history hub (w ∷ ws) watch all (inr rest) = one-watched opening history hub ws watch all.1 rest
 
@@ -379,26 +376,6 @@ looking-finds watch one all rest is same = is.back (inl same)
 pub looking-ends : (watch : DirectoryWatch) (all rest : List DirectoryWatch) → rest ≡ [] → IsLooking watch all rest → Stands all watch → ⊥
 looking-ends watch all rest done is among = subst (λ (ws : List DirectoryWatch). Stands ws watch) done (is.only among)
 
--- ---- filters that are one
-
-texts-one : (a b : List ℕ) → Decides (pointwise nat_eq a b) (a ≡ b)
-texts-one a b = pointwise_decides nat_eq unsigned_Decides a b
-
-owners-one : (a b : Option (List ℕ)) → Decides (option_eq (pointwise nat_eq) a b) (a ≡ b)
-owners-one None None = (λ e. refl, λ e. refl)
-owners-one None (Some y) = (λ e. absurd (true≢false (sym e)), λ e. absurd (none-some y e))
-owners-one (Some x) None = (λ e. absurd (true≢false (sym e)), λ e. absurd (none-some x (sym e)))
-owners-one (Some x) (Some y) = (λ e. ap (λ (t : List ℕ). Some t) ((texts-one x y).0 e), λ e. (texts-one x y).1 (ap (λ (o : Option (List ℕ)). unwrap_or o x) e))
-
-pub filters-one : (one other : Filter) → MatchBool (option_eq (pointwise nat_eq) one.owner other.owner && pointwise nat_eq one.prefix other.prefix) (one ≡ other) (one ≢ other)
-filters-one one other =
-    go (option_eq (pointwise nat_eq) one.owner other.owner) (pointwise nat_eq one.prefix other.prefix) (owners-one one.owner other.owner) (texts-one one.prefix other.prefix)
-  where
-    go : (a b : Bool) → Decides a (one.owner ≡ other.owner) → Decides b (one.prefix ≡ other.prefix) → MatchBool (a && b) (one ≡ other) (one ≢ other)
-    go true true owner prefix = λ i. record { owner = owner.0 refl i; prefix = prefix.0 refl i }
-    go true false owner prefix = λ same. true≢false (sym (prefix.1 (ap (λ (f : Filter). f.prefix) same)))
-    go false b owner prefix = λ same. true≢false (sym (owner.1 (ap (λ (f : Filter). f.owner) same)))
-
 -- ---- what a call answers of a watch that is there, and of one that is not
 
 pub note-there : (opening : Node) (history : List Event) (hub : Hub) (watch : DirectoryWatch) (is : IsWatched opening history hub watch) → has_note_at hub watch.id ≡ Ok (not (owes_nothing is.kept))
@@ -407,16 +384,16 @@ note-there opening history hub watch is = ap note_if_found is.found
 pub answer-there : (opening : Node) (history : List Event) (hub : Hub) (watch : DirectoryWatch) (is : IsWatched opening history hub watch) → answer_at hub watch.id ≡ Ok (answer_of is.kept)
 answer-there opening history hub watch is = ap answer_if_found is.found
 
-pub no-note : (hub : Hub) (id : ℕ) → IfErr (has_note_at hub id) (λ fault. Err NoWatch ≡ Err fault)
+pub no-note : (hub : Hub) (id : ℕ) → IfErr (has_note_at hub id) (λ fault. ◌≡◌ {A = Result Bool Fault} (Err NoWatch) (Err fault))
 no-note hub id = go (watch_at hub id)
   where
-    go : (found : Option Watch) → IfErr (note_if_found found) (λ fault. Err NoWatch ≡ Err fault)
+    go : (found : Option Watch) → IfErr (note_if_found found) (λ fault. ◌≡◌ {A = Result Bool Fault} (Err NoWatch) (Err fault))
     go None = refl
     go (Some w) = tt
 
-pub no-answer : (hub : Hub) (id : ℕ) → IfErr (answer_at hub id) (λ fault. Err NoWatch ≡ Err fault)
+pub no-answer : (hub : Hub) (id : ℕ) → IfErr (answer_at hub id) (λ fault. ◌≡◌ {A = Result Polled Fault} (Err NoWatch) (Err fault))
 no-answer hub id = go (watch_at hub id)
   where
-    go : (found : Option Watch) → IfErr (answer_if_found found) (λ fault. Err NoWatch ≡ Err fault)
+    go : (found : Option Watch) → IfErr (answer_if_found found) (λ fault. ◌≡◌ {A = Result Polled Fault} (Err NoWatch) (Err fault))
     go None = refl
     go (Some w) = tt
