@@ -108,8 +108,8 @@ notes-more node [] event = append-nil (notes_of_event node event)
 notes-more node (e ∷ es) event =
     let next = replay_node node (node_events_of e) in
     ap (λ (ns : List Note). notes_of_event node e ++ ns)
-        (notes-more next es event
-        ∙ ap (λ (n : Node). notes_of_events next es ++ notes_of_event n event) (sym (replay_node-append node (node_events_of e) (flat_map node_events_of es))))
+    (notes-more next es event
+    ∙ ap (λ (n : Node). notes_of_events next es ++ notes_of_event n event) (sym (replay_node-append node (node_events_of e) (flat_map node_events_of es))))
     ∙ sym (append_assoc (notes_of_event node e) (notes_of_events next es) (notes_of_event (replay_node node (flat_map node_events_of (e ∷ es))) event))
 
 node-later : (opening : Node) (since later : List Event) → node_after opening (since ++ later) ≡ replay_node (node_after opening since) (flat_map node_events_of later)

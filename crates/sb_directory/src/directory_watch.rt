@@ -33,11 +33,7 @@ fn is_same_filter(one: &Filter, other: &Filter) -> bool
 
 impl<S: DirectoryTag> DirectoryWatch<S> {
     /// The watch of this id, which reports what comes after this history.
-    pub(crate) fn new(
-        id: WatchId,
-        filter: Filter,
-        since: HistoryPrefix<S>,
-    ) -> DirectoryWatch<S>
+    pub(crate) fn new(id: WatchId, filter: Filter, since: HistoryPrefix<S>) -> DirectoryWatch<S>
         ensures { result ≡ record { id = id; filter = filter; since = since } }
     {
         DirectoryWatch { id, filter, since }
