@@ -181,7 +181,8 @@ def metrics_of_state(check):
     release = ("attrdir_build_info", "0.2.0", "3", "2")
     # (a node holds itself at 0 before its first write)
     own = [("attrdir_held_version", "a"), ("attrdir_rows", "a")]
-    want("the release, and no other owner, and no peer", [it for it in found if len(it) > 1], [release, *own])
+    told = [release, *own, ("attrdir_owner_age_seconds", "a")]
+    want("the release, and no other owner, and no peer", [it for it in found if len(it) > 1], told)
     want("what it holds of itself", [found[it] for it in own], [0, 0])
     if not began - 1 <= found["attrdir_start_time_seconds",] <= time.time():
         raise Difference(f"it was started at {found['attrdir_start_time_seconds',]}, by its file")
