@@ -41,18 +41,22 @@
 mod after;
 mod entries;
 mod laws;
+mod places;
 mod prefixed;
+mod replacing;
 mod restore;
+mod shared;
 mod stage;
 mod swap;
 mod table;
 
-pub use after::After;
+pub use after::{After, SharedAfter};
 pub use entries::entries_above;
 pub use laws::{
     by_key_sorts, entering_keeps_tables, floors_keep_tables, what_is_entered_is_found,
     what_stands_is_found,
 };
 pub use prefixed::Prefixed;
+pub use shared::SharedEntry;
 pub use stage::Stage;
 pub use table::Table;

@@ -1,40 +1,48 @@
 //! What is live under a key.
-ghost use Rattle.std.specs.Prelude.{◌≡◌, ◌≤◌};
+ghost use Rattle.std.specs.Prelude.{◌≡◌, ◌≤◌, true};
+ghost use Rattle.sb_types.specs.Runs.{is_set};
+ghost use Rattle.sb_views.specs.NodeViews.{live_of};
 
-use sb_types::Value;
+use sb_table::SharedEntry;
+use sb_types::{Slot, Value};
 use std::marker::Model;
 
 /// A value that stands under a key, with the version of its write, which is at least 1.
 #[derive(Drop)]
 pub struct LiveValue {
-    value: Value,
-    version: u64,
+    // It shares the entry with the table, and is no tombstone.
+    entry: SharedEntry,
 }
 
 impl Model for LiveValue {
-    ghost use Rattle.std.specs.Prelude.{ℕ, ◌≤◌};
+    ghost use Rattle.std.specs.Prelude.{◌≡◌, ℕ, true};
     ghost use Rattle.sb_types.specs.Value as values;
+    ghost use Rattle.sb_types.specs.Runs.{is_set};
+    ghost use Rattle.sb_views.specs.NodeViews.{live_of};
 
     ghost Value = { values.Value × ℕ };
 
-    ghost view = { λ l. (l.value, l.version) };
+    ghost view = { λ l. live_of l.entry };
 
-    ghost invariant = { λ l. 1 ≤ l.version };
+    ghost invariant = { λ l. is_set l.entry.slot ≡ true };
 }
 
 impl LiveValue {
-    pub(crate) fn new(value: Value, version: u64) -> LiveValue
-        requires { 1 ≤ version }
-        ensures { result ≡ (value, version) }
+    pub(crate) fn new(entry: SharedEntry) -> LiveValue
+        requires { is_set entry.slot ≡ true }
+        ensures { result ≡ live_of entry }
     {
-        LiveValue { value, version }
+        LiveValue { entry }
     }
 
     /// What was written.
     pub fn value(&self) -> &Value
         ensures { result.now ≡ self.now.0 }
     {
-        &self.value
+        match self.entry.entry().slot() {
+            Slot::Set(value) => value,
+            Slot::Removed => unreachable!(),
+        }
     }
 
     /// The version of the write, at least 1.
@@ -42,6 +50,6 @@ impl LiveValue {
         ensures version { result ≡ self.now.1 }
         ensures least { 1 ≤ result }
     {
-        self.version
+        self.entry.entry().version()
     }
 }

@@ -1,10 +1,11 @@
 //! What is shown of one owner.
-ghost use Rattle.std.specs.Prelude.{◌≡◌, ◌≤◌, ℕ, true, nat_eq, List, filter, Some, OnOk, OnErr, length};
+ghost use Rattle.std.specs.Prelude.{◌≡◌, ℕ, true, nat_eq, List, filter, Some, OnOk, OnErr, length};
 ghost use Rattle.std.specs.List.{starts_with};
 ghost use Rattle.std.specs.Option.{option_map};
 ghost use Rattle.std.specs.FinMap.{get, insert, remove, entries};
 ghost use Rattle.std.specs.Ordering.{nat_cmp, is_lt, is_le};
 ghost use Rattle.std.specs.BTreeMap.Range.{is_from_start};
+ghost use Rattle.sb_types.specs.Runs.{is_set};
 ghost use Rattle.sb_views.specs.LiveRows as spec;
 ghost use Rattle.std.specs.Cmp.Lexicographic.{slice_cmp};
 ghost use Rattle.std.specs.BTreeMap.{IsOrdered};
@@ -15,7 +16,8 @@ ghost use Rattle.sb_views.specs.NodeViews as node_views;
 use crate::change::ChangeRef;
 use crate::live::LiveValue;
 use crate::rows::OwnerRows;
-use sb_types::{Entry, Key, Name, Prefix, Slot, Value};
+use sb_table::SharedEntry;
+use sb_types::{Key, Name, Prefix, Slot, Value};
 use std::alloc::{AllocError, Global};
 use std::collections::BTreeMap;
 use std::marker::Model;
@@ -45,24 +47,18 @@ impl Model for OwnerView {
     ghost invariant = { λ s. IsOrdered (slice_cmp nat_cmp) s.rows };
 }
 
-/// Puts a value under a key, with the version of its write. Where memory is wanting nothing changes.
-fn set_row(
-    alloc: Global,
-    rows: &mut BTreeMap<Key, LiveValue>,
-    key: Key,
-    value: &Value,
-    version: u64,
-) -> Result<(), AllocError>
+/// Puts the value of a write under its key. Where memory is wanting nothing changes.
+fn set_row(rows: &mut BTreeMap<Key, LiveValue>, entry: &SharedEntry) -> Result<(), AllocError>
     requires ordered { IsOrdered (slice_cmp nat_cmp) rows.old }
-    requires version { 1 ≤ version }
-    ensures ok { OnOk result (node_views.rows_of rows.new.entries ≡ insert (node_views.rows_of rows.old.entries) key (value.now, version)) }
+    requires set { is_set entry.now.slot ≡ true }
+    ensures ok { OnOk result (node_views.rows_of rows.new.entries ≡ insert (node_views.rows_of rows.old.entries) entry.now.key (node_views.live_of entry.now)) }
     ensures err { OnErr result (rows.new.entries ≡ rows.old.entries) }
     ensures ordered { IsOrdered (slice_cmp nat_cmp) rows.new }
 {
-    let Ok(copy) = value.copy(alloc) else {
+    let Ok(same) = entry.share() else {
         return Err(AllocError);
     };
-    match rows.insert(key, LiveValue::new(copy, version)) {
+    match rows.insert(*entry.entry().key(), LiveValue::new(same)) {
         Ok(earlier) => {
             drop(earlier);
             Ok(())
@@ -86,19 +82,18 @@ fn remove_row(rows: &mut BTreeMap<Key, LiveValue>, key: &Key)
 
 /// Shows what a write puts under its key. Where memory is wanting nothing changes.
 fn enter_row(
-    alloc: Global,
     rows: &mut BTreeMap<Key, LiveValue>,
-    entry: &Entry,
+    shared: &SharedEntry,
 ) -> Result<(), AllocError>
     requires { IsOrdered (slice_cmp nat_cmp) rows.old }
-    ensures ok { OnOk result (node_views.rows_of rows.new.entries ≡ node_views.rows_with (node_views.rows_of rows.old.entries) entry.now entry.now.slot) }
+    ensures ok { OnOk result (node_views.rows_of rows.new.entries ≡ node_views.rows_with (node_views.rows_of rows.old.entries) shared.now shared.now.slot) }
     ensures err { OnErr result (rows.new.entries ≡ rows.old.entries) }
     ensures ordered { IsOrdered (slice_cmp nat_cmp) rows.new }
 {
-    match entry.slot() {
-        Slot::Set(value) => set_row(alloc, rows, *entry.key(), value, entry.version()),
+    match shared.entry().slot() {
+        Slot::Set(_) => set_row(rows, shared),
         Slot::Removed => {
-            remove_row(rows, entry.key());
+            remove_row(rows, shared.entry().key());
             Ok(())
         }
     }
@@ -116,12 +111,12 @@ impl OwnerView {
     }
 
     /// Shows a change. Where memory is wanting nothing changes.
-    pub(crate) fn change(&mut self, alloc: Global, change: ChangeRef<'_>) -> Result<(), AllocError>
+    pub(crate) fn change(&mut self, change: ChangeRef<'_>) -> Result<(), AllocError>
         ensures ok { OnOk result (self.new ≡ node_views.owner_view_with self.old (change_of change.entry)) }
         ensures err { OnErr result (self.new ≡ self.old) }
     {
         match change {
-            ChangeRef::Enter(entry) => self.enter(alloc, entry),
+            ChangeRef::Enter(entry) => self.enter(entry),
             ChangeRef::Clear => {
                 self.clear();
                 Ok(())
@@ -134,13 +129,13 @@ impl OwnerView {
     }
 
     /// Shows a write. Where memory is wanting nothing changes.
-    fn enter(&mut self, alloc: Global, entry: &Entry) -> Result<(), AllocError>
+    fn enter(&mut self, entry: &SharedEntry) -> Result<(), AllocError>
         ensures ok { OnOk result (self.new ≡ node_views.owner_view_with self.old (changes.Enter entry.now)) }
         ensures err { OnErr result (self.new ≡ self.old) }
     {
-        match enter_row(alloc, &mut self.rows, entry) {
+        match enter_row(&mut self.rows, entry) {
             Ok(()) => {
-                self.upto = entry.version();
+                self.upto = entry.entry().version();
                 Ok(())
             }
             Err(refused) => Err(refused),
