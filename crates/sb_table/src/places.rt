@@ -13,8 +13,9 @@ use crate::entries::is_dead;
 use crate::shared::SharedEntry;
 use sb_types::{Key, Prefix};
 
-/// Returns the place of a key in a list that is sorted by key, or the place at which it would be inserted.
-pub(crate) fn place_of(keys: &[SharedEntry], key: &Key) -> Result<usize, usize>
+/// Returns the place of a key in a list of entries that is sorted by key. If the list does not have the key, it returns
+/// the place at which the key would be inserted, as an `Err`.
+pub fn place_of(keys: &[SharedEntry], key: &Key) -> Result<usize, usize>
     ensures bound { IsSearchInRange result (length keys.now) }
     ensures place { IsBinarySearchResult (λ e. slice_cmp nat_cmp e.key key.now) keys.now result }
 {
