@@ -19,12 +19,7 @@ use std::sync::Wait;
 
 /// Adds an owner's entries above a version to the batch, and gives the version of the last one. If there is none, it gives the
 /// version itself. `NoMemory`.
-fn push_entries(
-    batch: &mut Batch,
-    owner: &Name,
-    table: &Table,
-    version: u64,
-) -> Result<u64, Fault>
+fn push_entries(batch: &mut Batch, owner: &Name, table: &Table, version: u64) -> Result<u64, Fault>
     ensures ok { OnOk result (batch.new ≡ batch.old ++ changes_of_owner owner.now (map changes.Enter (newer_entries version table.now.entries))) }
     ensures last { IfOk result (λ last. last ≡ last_version version (newer_entries version table.now.entries)) }
     ensures memory { IfErr result (λ fault. fault ≡ Fault.NoMemory) }
@@ -38,12 +33,7 @@ fn push_entries(
 }
 
 /// Adds to the batch what an owner's table has above a version, and up to which version it is held. `NoMemory`.
-fn push_above(
-    batch: &mut Batch,
-    owner: &Name,
-    table: &Table,
-    version: u64,
-) -> Result<(), Fault>
+fn push_above(batch: &mut Batch, owner: &Name, table: &Table, version: u64) -> Result<(), Fault>
     ensures ok { OnOk result (batch.new ≡ batch.old ++ changes_of_owner owner.now (changes_above version table.now)) }
     ensures memory { IfErr result (λ fault. fault ≡ Fault.NoMemory) }
 {

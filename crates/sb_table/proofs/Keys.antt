@@ -107,6 +107,7 @@ index_rises a b key lt = go (slice_cmp nat_cmp b key) refl
   where
     less : slice_cmp nat_cmp a b ≡ Less
     less = Less-from_is_lt (slice_cmp nat_cmp a b) lt
+
     go : (r : Ordering) → slice_cmp nat_cmp b key ≡ r → ordering_index (slice_cmp nat_cmp a key) ≤ ordering_index r
     go Less is = omega (arith, ap ordering_index (nat_list_cmp_total.trans a b key less is))
     go Equal is =
@@ -285,7 +286,7 @@ removed_here low (y ∷ ys) x e (suc i) up apart (inr there) key below from =
     let parts = and_parts (not (has_key y.key ys)) (are_distinct ys) apart in
     let rest = removed_here y.version ys x e i rises.1 parts.1 there key (λ k d l lt. below (suc k) d (omega arith) (omega (arith, lt))) (λ k d l lt. from (suc k) d (omega (arith, l)) (omega (arith, lt))) in
     let stays : pointwise nat_eq e.key y.key ≡ false = ⊎_elim
-        (λ is. absurd (not_there y.key ys x parts.0 there (key ∙ (bytes_decides e.key y.key).0 is))) (λ no. no) (cases_Bool (pointwise nat_eq e.key y.key)) in
+    (λ is. absurd (not_there y.key ys x parts.0 there (key ∙ (bytes_decides e.key y.key).0 is))) (λ no. no) (cases_Bool (pointwise nat_eq e.key y.key)) in
     let most : remove ys i ≡ entries_without_keys (e ∷ []) ys = rest.1 in
     let left : remove (y ∷ ys) (suc i) ≡ entries_without_keys (e ∷ []) (y ∷ ys) = grind arith in
     (omega (arith, rest.0), left)
@@ -299,8 +300,8 @@ old_found es now e x v i is table stands version below from =
     let below' = subst (λ (n : ℕ). AllWithin (λ (y : Entry). nat_lt y.version n ≡ true) now 0 i) version below in
     let from' = subst (λ (n : ℕ). AllWithin (λ (y : Entry). nat_lt y.version n ≡ false) now i (length now)) version from in
     let here = removed_here 0 es x e i table.run.ascending table.run.distinct stands.0 stands.1
-        (subst (λ (l : List Entry). AllWithin (λ (y : Entry). nat_lt y.version x.version ≡ true) l 0 i) is below')
-        (subst (λ (l : List Entry). AllWithin (λ (y : Entry). nat_lt y.version x.version ≡ false) l i (length l)) is from') in
+    (subst (λ (l : List Entry). AllWithin (λ (y : Entry). nat_lt y.version x.version ≡ true) l 0 i) is below')
+    (subst (λ (l : List Entry). AllWithin (λ (y : Entry). nat_lt y.version x.version ≡ false) l i (length l)) is from') in
     subst (λ (l : List Entry). (i < length l) × (remove l i ≡ entries_without_keys (e ∷ []) es)) (sym is) here
 
 pub found_stands : (es ks : List Entry) (key : List ℕ) (e : Entry) (i : ℕ) → ks ≡ by_key es → i < length ks → HoldsAt (λ (y : Entry). slice_cmp nat_cmp y.key key ≡ Equal) ks i → key ≡ e.key

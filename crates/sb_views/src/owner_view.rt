@@ -81,10 +81,7 @@ fn remove_row(rows: &mut BTreeMap<Key, LiveValue>, key: &Key)
 }
 
 /// Shows what a write puts under its key. Where memory is wanting nothing changes.
-fn enter_row(
-    rows: &mut BTreeMap<Key, LiveValue>,
-    shared: &SharedEntry,
-) -> Result<(), AllocError>
+fn enter_row(rows: &mut BTreeMap<Key, LiveValue>, shared: &SharedEntry) -> Result<(), AllocError>
     requires { IsOrdered (slice_cmp nat_cmp) rows.old }
     ensures ok { OnOk result (node_views.rows_of rows.new.entries ≡ node_views.rows_with (node_views.rows_of rows.old.entries) shared.now shared.now.slot) }
     ensures err { OnErr result (rows.new.entries ≡ rows.old.entries) }

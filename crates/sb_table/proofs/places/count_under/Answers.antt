@@ -10,5 +10,5 @@ returns c =
     let keys = c.args.keys.now in
     let prefix = c.args.prefix.now in
     let point = IsPartitionPoint-from_clause (λ (e : Entry). starts_with nat_eq e.key prefix) _ _ c.partition_point.ensures.partitioned
-        (parted-under prefix keys c.requires.rising c.requires.from) (λ a r q k. search rules) in
+    (parted-under prefix keys c.requires.rising c.requires.from) (λ a r q k. search rules) in
     record { place = c.partition_point.ensures.bound; under = filter-front (λ (e : Entry). starts_with nat_eq e.key prefix) keys c.partition_point.result point.0 point.1 }

@@ -19,15 +19,15 @@ returns-in-Ok-clause-keys c =
 pub returns-in-Err-clause-ok : goal.returns-in-Err-clause-ok
 returns-in-Err-clause-ok c =
     let is = added_at c.args.entries.now.items c.args.keys.now.items c.key.result.now c.args.entry c.in-Err.place c.requires.keys
-        (rw c.deref.ensures.value at c.in-Err.ensures.bound) (rw c.deref.ensures.value at c.in-Err.ensures.place) (c.key.ensures.key ∙ ap (λ (e : Entry). e.key) c.entry.ensures.entry)
-        c.requires.table.run.distinct in
+    (rw c.deref.ensures.value at c.in-Err.ensures.bound) (rw c.deref.ensures.value at c.in-Err.ensures.place) (c.key.ensures.key ∙ ap (λ (e : Entry). e.key) c.entry.ensures.entry)
+    c.requires.table.run.distinct in
     entered_after c.add.result _ _ _ _ (pushed_after c.add.result c.args.entry c.args.entries.now.items c.add.new.entries.items c.args.keys.now.items c.add.new.keys.items _ c.add.ensures.ok is.0)
 
 pub returns-in-Err-clause-keys : goal.returns-in-Err-clause-keys
 returns-in-Err-clause-keys c =
     let is = added_at c.args.entries.now.items c.args.keys.now.items c.key.result.now c.args.entry c.in-Err.place c.requires.keys
-        (rw c.deref.ensures.value at c.in-Err.ensures.bound) (rw c.deref.ensures.value at c.in-Err.ensures.place) (c.key.ensures.key ∙ ap (λ (e : Entry). e.key) c.entry.ensures.entry)
-        c.requires.table.run.distinct in
+    (rw c.deref.ensures.value at c.in-Err.ensures.bound) (rw c.deref.ensures.value at c.in-Err.ensures.place) (c.key.ensures.key ∙ ap (λ (e : Entry). e.key) c.entry.ensures.entry)
+    c.requires.table.run.distinct in
     keys_after c.add.result c.args.entry c.args.entries.now.items c.add.new.entries.items c.args.keys.now.items c.add.new.keys.items _
     (pushed_after c.add.result c.args.entry c.args.entries.now.items c.add.new.entries.items c.args.keys.now.items c.add.new.keys.items _ c.add.ensures.ok is.0)
     c.add.ensures.err c.requires.keys is.1
