@@ -19,7 +19,7 @@ loop-entry-preserved c =
     pushing-goes_on owner c.args.batch.now c.args.version all c.loop-entry.batch c.push.new.self c.loop-entry.last c.version-last.result c.in-Some.entry.now c.next.new.self
     (subst (λ (rest : List Entry). IsPushing owner c.args.batch.now c.args.version all c.loop-entry.batch c.loop-entry.last rest) c.in-Some.ensures.steps c.loop-entry.invariant)
     (c.in_ok-push.ensures.ok ∙ ap (λ (e : Entry). c.loop-entry.batch ++ (owner, Enter e) ∷ []) copied)
-    c.version-last.ensures.version
+    (c.version-last.ensures.version ∙ ap (λ (e : Entry). e.version) c.entry.ensures.entry)
 
 pub returns-clause-ok : goal.returns-clause-ok
 returns-clause-ok c = search (rules, pushing-ends c.args.owner.now c.args.batch.now c.args.version (newer_entries c.args.version c.args.table.now.entries) c.loop-entry.batch)
