@@ -7,42 +7,42 @@ use sb_table::SharedEntry;
 use sb_types::{Slot, Value};
 use std::marker::Model;
 
-/// A value that stands under a key, with the version of its write, which is at least 1.
+/// A value that stands under a key, lent, with the version of its write, which is at least 1.
 #[derive(Drop)]
-pub struct LiveValue {
-    // It shares the entry with the table, and is no tombstone.
-    entry: SharedEntry,
+pub struct LiveValue<'a> {
+    value: &'a Value,
+    version: u64,
 }
 
-impl Model for LiveValue {
-    ghost use Rattle.std.specs.Prelude.{◌≡◌, ℕ, true};
+impl<'a> Model for LiveValue<'a> {
+    ghost use Rattle.std.specs.Prelude.{ℕ, ◌≤◌};
     ghost use Rattle.sb_types.specs.Value as values;
-    ghost use Rattle.sb_types.specs.Runs.{is_set};
-    ghost use Rattle.sb_views.specs.NodeViews.{live_of};
 
     ghost Value = { values.Value × ℕ };
 
-    ghost view = { λ l. live_of l.entry };
+    ghost view = { λ l. (l.value.now, l.version) };
 
-    ghost invariant = { λ l. is_set l.entry.slot ≡ true };
+    ghost invariant = { λ l. 1 ≤ l.version };
 }
 
-impl LiveValue {
-    pub(crate) fn new(entry: SharedEntry) -> LiveValue
-        requires { is_set entry.slot ≡ true }
-        ensures { result ≡ live_of entry }
+impl<'a> LiveValue<'a> {
+    /// What an entry shows that is no tombstone.
+    pub(crate) fn of(entry: &'a SharedEntry) -> LiveValue<'a>
+        requires { is_set entry.now.slot ≡ true }
+        ensures { result ≡ live_of entry.now }
     {
-        LiveValue { entry }
+        let version = entry.entry().version();
+        match entry.entry().slot() {
+            Slot::Set(value) => LiveValue { value, version },
+            Slot::Removed => unreachable!(),
+        }
     }
 
     /// What was written.
-    pub fn value(&self) -> &Value
+    pub fn value(&self) -> &'a Value
         ensures { result.now ≡ self.now.0 }
     {
-        match self.entry.entry().slot() {
-            Slot::Set(value) => value,
-            Slot::Removed => unreachable!(),
-        }
+        self.value
     }
 
     /// The version of the write, at least 1.
@@ -50,6 +50,6 @@ impl LiveValue {
         ensures version { result ≡ self.now.1 }
         ensures least { 1 ≤ result }
     {
-        self.entry.entry().version()
+        self.version
     }
 }

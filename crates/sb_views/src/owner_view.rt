@@ -1,5 +1,6 @@
 //! What is shown of one owner.
-ghost use Rattle.std.specs.Prelude.{◌≡◌, ℕ, true, nat_eq, List, filter, Some, OnOk, OnErr, length};
+ghost use Rattle.std.specs.Prelude.{◌≡◌, ◌≤◌, ℕ, true, nat_eq, List, filter, Some, OnOk, OnErr, length};
+ghost use Rattle.std.specs.List as lists;
 ghost use Rattle.std.specs.List.{starts_with};
 ghost use Rattle.std.specs.Option.{option_map};
 ghost use Rattle.std.specs.FinMap.{get, insert, remove, entries};
@@ -8,18 +9,17 @@ ghost use Rattle.std.specs.BTreeMap.Range.{is_from_start};
 ghost use Rattle.sb_types.specs.Runs.{is_set};
 ghost use Rattle.sb_views.specs.LiveRows as spec;
 ghost use Rattle.std.specs.Cmp.Lexicographic.{slice_cmp};
-ghost use Rattle.std.specs.BTreeMap.{IsOrdered};
 ghost use Rattle.sb_views.specs.declared.change.Change.TheVariants as changes;
 ghost use Rattle.sb_views.specs.Changes.{change_of};
 ghost use Rattle.sb_views.specs.NodeViews as node_views;
 
 use crate::change::ChangeRef;
+use crate::entries_from::from_start;
 use crate::live::LiveValue;
 use crate::rows::OwnerRows;
-use sb_table::SharedEntry;
+use sb_table::{SharedEntry, place_of};
 use sb_types::{Key, Name, Prefix, Slot, Value};
 use std::alloc::{AllocError, Global};
-use std::collections::BTreeMap;
 use std::marker::Model;
 use std::ops::Bound;
 
@@ -27,13 +27,11 @@ use std::ops::Bound;
 #[derive(Drop)]
 pub struct OwnerView {
     upto: u64,
-    rows: BTreeMap<Key, LiveValue>,
+    // The entries that are live, in ascending order of their keys. The table shares them.
+    rows: Vec<SharedEntry>,
 }
 
 impl Model for OwnerView {
-    ghost use Rattle.std.specs.Ordering.{nat_cmp};
-    ghost use Rattle.std.specs.Cmp.Lexicographic.{slice_cmp};
-    ghost use Rattle.std.specs.BTreeMap.{IsOrdered};
     ghost use Rattle.std.specs.Coded.{codes};
     ghost use Rattle.std.specs.FinMap.{code};
     ghost use Rattle.sb_views.specs.NodeViews as node_views;
@@ -42,27 +40,23 @@ impl Model for OwnerView {
 
     ghost coded = { Prim.hlevel (codes, code) };
 
-    ghost view = { λ s. record { upto = s.upto; rows = node_views.rows_of s.rows.entries } };
+    ghost view = { λ s. record { upto = s.upto; rows = node_views.rows_of (node_views.live_rows_of s.rows.items) } };
 
-    ghost invariant = { λ s. IsOrdered (slice_cmp nat_cmp) s.rows };
+    ghost invariant = { λ s. node_views.AreLive s.rows.items };
 }
 
-/// Puts the value of a write under its key. Where memory is wanting nothing changes.
-fn set_row(rows: &mut BTreeMap<Key, LiveValue>, entry: &SharedEntry) -> Result<(), AllocError>
-    requires ordered { IsOrdered (slice_cmp nat_cmp) rows.old }
-    requires set { is_set entry.now.slot ≡ true }
-    ensures ok { OnOk result (node_views.rows_of rows.new.entries ≡ insert (node_views.rows_of rows.old.entries) entry.now.key (node_views.live_of entry.now)) }
-    ensures err { OnErr result (rows.new.entries ≡ rows.old.entries) }
-    ensures ordered { IsOrdered (slice_cmp nat_cmp) rows.new }
+/// Puts an entry at this place. Where memory is wanting nothing changes.
+fn insert_row(
+    rows: &mut Vec<SharedEntry>,
+    place: usize,
+    entry: SharedEntry,
+) -> Result<(), AllocError>
+    requires { place ≤ length rows.old.items }
+    ensures ok { OnOk result (rows.new.items ≡ lists.insert rows.old.items place entry) }
+    ensures err { OnErr result (rows.new.items ≡ rows.old.items) }
 {
-    let Ok(same) = entry.share() else {
-        return Err(AllocError);
-    };
-    match rows.insert(*entry.entry().key(), LiveValue::new(same)) {
-        Ok(earlier) => {
-            drop(earlier);
-            Ok(())
-        }
+    match rows.insert(place, entry) {
+        Ok(()) => Ok(()),
         Err(refused) => {
             drop(refused);
             Err(AllocError)
@@ -70,25 +64,47 @@ fn set_row(rows: &mut BTreeMap<Key, LiveValue>, entry: &SharedEntry) -> Result<(
     }
 }
 
-/// Takes out what is under a key.
-fn remove_row(rows: &mut BTreeMap<Key, LiveValue>, key: &Key)
-    requires { IsOrdered (slice_cmp nat_cmp) rows.old }
-    ensures removed { node_views.rows_of rows.new.entries ≡ remove (node_views.rows_of rows.old.entries) key.now }
-    ensures ordered { IsOrdered (slice_cmp nat_cmp) rows.new }
+/// Puts an entry in place of what its key had. Where memory is wanting nothing changes.
+fn set_row(rows: &mut Vec<SharedEntry>, entry: SharedEntry) -> Result<(), AllocError>
+    requires live { node_views.AreLive rows.old.items }
+    requires set { is_set entry.slot ≡ true }
+    ensures ok { OnOk result (node_views.rows_of (node_views.live_rows_of rows.new.items) ≡ insert (node_views.rows_of (node_views.live_rows_of rows.old.items)) entry.key (node_views.live_of entry)) }
+    ensures err { OnErr result (rows.new.items ≡ rows.old.items) }
+    ensures live { node_views.AreLive rows.new.items }
 {
-    let earlier = rows.remove(key);
-    drop(earlier);
+    match place_of(rows, entry.entry().key()) {
+        Ok(place) => {
+            rows[place] = entry;
+            Ok(())
+        }
+        Err(place) => insert_row(rows, place, entry),
+    }
+}
+
+/// Takes out what is under a key.
+fn remove_row(rows: &mut Vec<SharedEntry>, key: &Key)
+    requires { node_views.AreLive rows.old.items }
+    ensures removed { node_views.rows_of (node_views.live_rows_of rows.new.items) ≡ remove (node_views.rows_of (node_views.live_rows_of rows.old.items)) key.now }
+    ensures live { node_views.AreLive rows.new.items }
+{
+    match place_of(rows, key) {
+        Ok(place) => drop(rows.remove(place)),
+        Err(_) => {}
+    }
 }
 
 /// Shows what a write puts under its key. Where memory is wanting nothing changes.
-fn enter_row(rows: &mut BTreeMap<Key, LiveValue>, shared: &SharedEntry) -> Result<(), AllocError>
-    requires { IsOrdered (slice_cmp nat_cmp) rows.old }
-    ensures ok { OnOk result (node_views.rows_of rows.new.entries ≡ node_views.rows_with (node_views.rows_of rows.old.entries) shared.now shared.now.slot) }
-    ensures err { OnErr result (rows.new.entries ≡ rows.old.entries) }
-    ensures ordered { IsOrdered (slice_cmp nat_cmp) rows.new }
+fn enter_row(rows: &mut Vec<SharedEntry>, shared: &SharedEntry) -> Result<(), AllocError>
+    requires { node_views.AreLive rows.old.items }
+    ensures ok { OnOk result (node_views.rows_of (node_views.live_rows_of rows.new.items) ≡ node_views.rows_with (node_views.rows_of (node_views.live_rows_of rows.old.items)) shared.now shared.now.slot) }
+    ensures err { OnErr result (rows.new.items ≡ rows.old.items) }
+    ensures live { node_views.AreLive rows.new.items }
 {
     match shared.entry().slot() {
-        Slot::Set(_) => set_row(rows, shared),
+        Slot::Set(_) => match shared.share() {
+            Ok(same) => set_row(rows, same),
+            Err(_) => Err(AllocError),
+        },
         Slot::Removed => {
             remove_row(rows, shared.entry().key());
             Ok(())
@@ -103,7 +119,7 @@ impl OwnerView {
     {
         OwnerView {
             upto: 0,
-            rows: BTreeMap::new(alloc),
+            rows: Vec::new(alloc),
         }
     }
 
@@ -171,9 +187,12 @@ impl OwnerView {
     pub(crate) fn get(&self, key: &Key) -> Option<(&Value, u64)>
         ensures { option_map (λ p. (p.0.now, p.1)) result ≡ get self.now.rows key.now }
     {
-        match self.rows.get(key) {
-            Some(live) => Some((live.value(), live.version())),
-            None => None,
+        match place_of(&self.rows, key) {
+            Ok(place) => {
+                let live = LiveValue::of(&self.rows[place]);
+                Some((live.value(), live.version()))
+            }
+            Err(_) => None,
         }
     }
 
@@ -181,8 +200,7 @@ impl OwnerView {
     pub(crate) fn rows<'a>(&'a self, owner: &'a Name, prefix: Prefix) -> OwnerRows<'a>
         ensures { result ≡ spec.rows_under prefix owner.now self.now }
     {
-        let from_start = (prefix.start(), Bound::Unbounded);
-        OwnerRows::new(owner, self.rows.range(from_start), prefix)
+        OwnerRows::new(owner, from_start(&self.rows, prefix.start()), prefix)
     }
 
     /// Those of them that stand behind the key.
@@ -194,8 +212,8 @@ impl OwnerView {
     ) -> OwnerRows<'a>
         ensures { result ≡ filter (spec.is_behind (Some (owner.now, key))) (spec.rows_under prefix owner.now self.now) }
     {
-        let behind = (start_behind(key, prefix), Bound::Unbounded);
-        OwnerRows::new(owner, self.rows.range(behind), prefix)
+        let behind = start_behind(key, prefix);
+        OwnerRows::new(owner, from_start(&self.rows, behind), prefix)
     }
 }
 
