@@ -1,4 +1,4 @@
-//! Where rows begin.
+//! The entries of a list from a start on.
 ghost use Rattle.std.specs.Prelude.{◌≡◌, ◌≤◌, not, filter, drop, length};
 ghost use Rattle.std.specs.Ordering.{nat_cmp};
 ghost use Rattle.std.specs.Cmp.Lexicographic.{slice_cmp};
@@ -9,7 +9,7 @@ use sb_table::SharedEntry;
 use sb_types::Key;
 use std::ops::Bound;
 
-/// The entries from a start on. They have to be sorted by key.
+/// Returns the entries from a start on. They have to be sorted by key.
 pub(crate) fn from_start(entries: &[SharedEntry], start: Bound<Key>) -> &[SharedEntry]
     requires { IsRising entries.now }
     ensures { result.now ≡ filter (λ e. is_from_start (slice_cmp nat_cmp) start e.key) entries.now }
@@ -17,7 +17,7 @@ pub(crate) fn from_start(entries: &[SharedEntry], start: Bound<Key>) -> &[Shared
     &entries[count_before(entries, start)..]
 }
 
-/// How many entries are before a start.
+/// Returns how many entries are before a start.
 fn count_before(entries: &[SharedEntry], start: Bound<Key>) -> usize
     requires { IsRising entries.now }
     ensures count { result ≤ length entries.now }
@@ -26,7 +26,7 @@ fn count_before(entries: &[SharedEntry], start: Bound<Key>) -> usize
     entries.partition_point(|shared| is_before(&start, shared.entry().key()))
 }
 
-/// Whether a key is before a start.
+/// Returns whether a key is before a start.
 fn is_before(start: &Bound<Key>, key: &Key) -> bool
     ensures { result ≡ not (is_from_start (slice_cmp nat_cmp) start.now key.now) }
 {

@@ -7,7 +7,7 @@ use sb_table::SharedEntry;
 use sb_types::{Slot, Value};
 use std::marker::Model;
 
-/// A value that stands under a key, lent, with the version of its write, which is at least 1.
+/// The value under a key, lent, with the version of its write, which is at least 1.
 #[derive(Drop)]
 pub struct LiveValue<'a> {
     value: &'a Value,
@@ -26,7 +26,7 @@ impl<'a> Model for LiveValue<'a> {
 }
 
 impl<'a> LiveValue<'a> {
-    /// What an entry shows that is no tombstone.
+    /// Returns the value that an entry sets, with its version.
     pub(crate) fn of(entry: &'a SharedEntry) -> LiveValue<'a>
         requires { is_set entry.now.slot ≡ true }
         ensures { result ≡ live_of entry.now }

@@ -45,7 +45,7 @@ impl Model for OwnerView {
     ghost invariant = { λ s. node_views.AreLive s.rows.items };
 }
 
-/// Puts an entry at this place. Where memory is wanting nothing changes.
+/// Puts an entry at this place. If memory is missing, nothing changes.
 fn insert_row(
     rows: &mut Vec<SharedEntry>,
     place: usize,
@@ -64,7 +64,7 @@ fn insert_row(
     }
 }
 
-/// Puts an entry in place of what its key had. Where memory is wanting nothing changes.
+/// Puts an entry in place of what its key had. If memory is missing, nothing changes.
 fn set_row(rows: &mut Vec<SharedEntry>, entry: SharedEntry) -> Result<(), AllocError>
     requires live { node_views.AreLive rows.old.items }
     requires set { is_set entry.slot ≡ true }
@@ -81,7 +81,7 @@ fn set_row(rows: &mut Vec<SharedEntry>, entry: SharedEntry) -> Result<(), AllocE
     }
 }
 
-/// Takes out what is under a key.
+/// Removes what is under a key.
 fn remove_row(rows: &mut Vec<SharedEntry>, key: &Key)
     requires { node_views.AreLive rows.old.items }
     ensures removed { node_views.rows_of (node_views.live_rows_of rows.new.items) ≡ remove (node_views.rows_of (node_views.live_rows_of rows.old.items)) key.now }
@@ -93,7 +93,7 @@ fn remove_row(rows: &mut Vec<SharedEntry>, key: &Key)
     }
 }
 
-/// Shows what a write puts under its key. Where memory is wanting nothing changes.
+/// Shows what a write puts under its key. If memory is missing, nothing changes.
 fn enter_row(rows: &mut Vec<SharedEntry>, shared: &SharedEntry) -> Result<(), AllocError>
     requires { node_views.AreLive rows.old.items }
     ensures ok { OnOk result (node_views.rows_of (node_views.live_rows_of rows.new.items) ≡ node_views.rows_with (node_views.rows_of (node_views.live_rows_of rows.old.items)) shared.now shared.now.slot) }
@@ -123,7 +123,7 @@ impl OwnerView {
         }
     }
 
-    /// Shows a change. Where memory is wanting nothing changes.
+    /// Shows a change. If memory is missing, nothing changes.
     pub(crate) fn change(&mut self, change: ChangeRef<'_>) -> Result<(), AllocError>
         ensures ok { OnOk result (self.new ≡ node_views.owner_view_with self.old (change_of change.entry)) }
         ensures err { OnErr result (self.new ≡ self.old) }
@@ -141,7 +141,7 @@ impl OwnerView {
         }
     }
 
-    /// Shows a write. Where memory is wanting nothing changes.
+    /// Shows a write. If memory is missing, nothing changes.
     fn enter(&mut self, entry: &SharedEntry) -> Result<(), AllocError>
         ensures ok { OnOk result (self.new ≡ node_views.owner_view_with self.old (changes.Enter entry.now)) }
         ensures err { OnErr result (self.new ≡ self.old) }
