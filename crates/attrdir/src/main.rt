@@ -26,49 +26,26 @@
 //! - `--help` prints another text. `tools/check-help` compares options and defaults. Nothing refuses other words.
 #![tactic(auto)]
 
-mod advice;
 mod arguments;
-mod asking;
-mod batch;
-mod beginning;
-mod care;
-mod careful;
 mod command_line;
 mod commands;
 mod console;
 mod differences;
 mod environment;
-mod failure;
 mod help;
-mod keeping;
-mod lagging;
-mod log_file;
 mod log_watch;
 mod metrics;
 mod metrics_file;
-mod one_row;
-mod output;
-mod owners;
-mod part;
-mod pausing;
-mod reaches;
 mod release;
-mod rendered_file;
-mod rendering;
-mod restoring;
 mod serve_command;
 mod serving;
-mod status;
-mod template;
 mod troubles;
-mod watching;
-mod words;
 
 use crate::arguments::help_texts;
 use crate::command_line::{Next, USAGE_STATUS, follow, print_failure, words};
 use crate::environment::{control_path, text_of};
-use crate::failure::Failure;
 use crate::serving::serve;
+use sb_commands::Failure;
 use sb_types::Fault;
 use std::process::ExitCode;
 

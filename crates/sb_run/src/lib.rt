@@ -145,12 +145,11 @@ mod status_texts;
 mod threads;
 mod vain_offers;
 
-pub use control::ask_control;
 pub use forgetting::ForgottenOwners;
 pub use gate::{Gate, GatePoint, Open};
 pub use laws::{forgotten_owners_stay_out, running_nodes_keep_truth, running_nodes_tell_truth};
 pub use node::{NodeConfig, OnLogFault, Pace, Paths, Ran, Runtime, run_closed_node, run_node};
-pub use observer::{LogCause, LogLoss, Nobody, Observer, PushCounts, Status, Troubles};
+pub use observer::{Nobody, Observer, PushCounts, Status, Troubles};
 pub use own_writes::{OwnWrites, Stored};
 pub use peers::{DownReason, Peer, PeerState};
 pub use pool::{Pooled, Serving, Source, Taken};
