@@ -12,7 +12,12 @@ use crate::serving::ServeArguments;
 use clap::ArgMatches;
 use clap::error::ErrorKind;
 use sb_codec::Ask;
-use sb_commands::{AskedNode, CarefulWatch, Caution, Failure, Floor, Portion, RenderedFile, RowFormat, RowQuery, Start, View, WatchQuery, begin_log, key_of, name_of, prefix_of, print_all, print_log, print_one, print_owners, print_status, purge_log, put, read_template, restore_log, text_of, value_of, watch, watch_on, write_lines};
+use sb_commands::{
+    AskedNode, CarefulWatch, Caution, Failure, Floor, Portion, RenderedFile, RowFormat, RowQuery,
+    Start, View, WatchQuery, begin_log, key_of, name_of, prefix_of, print_all, print_log,
+    print_one, print_owners, print_status, purge_log, put, read_template, restore_log, text_of,
+    value_of, watch, watch_on, write_lines,
+};
 use sb_script::{Detail, Output, sim_run_uncounted};
 use sb_types::{Fault, Key, Name, Slot, Value};
 use std::alloc::Global;

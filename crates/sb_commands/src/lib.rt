@@ -33,7 +33,10 @@ pub use beginning::{Start, begin_log};
 pub use care::Caution;
 pub use careful::{CarefulWatch, View};
 pub use failure::{Failure, FaultPlace, Obstacle};
-pub use log_file::{DroppedRemovals, FileLog, Floor, StartPurge, error_of, has_folder, open_log, print_log, purge_log, purge_removals};
+pub use log_file::{
+    DroppedRemovals, FileLog, Floor, StartPurge, error_of, has_folder, open_log, print_log,
+    purge_log, purge_removals,
+};
 pub use one_row::{Portion, RowQuery, print_one};
 pub use owners::print_owners;
 pub use part::{Kind, Part, Range};
@@ -41,5 +44,6 @@ pub use rendered_file::{RenderedFile, read_template};
 pub use replacing::{BESIDE, replace};
 pub use restoring::{AskedNode, restore_log};
 pub use status::print_status;
+pub use template::TemplateLine;
 pub use watching::{WatchQuery, watch, watch_on};
 pub use words::{key_of, name_of, prefix_of, text_of, value_of};

@@ -1,8 +1,8 @@
 //! The file that a watch writes from a template.
 use crate::care::longer_pause;
 use crate::failure::{Failure, FaultPlace};
-use crate::replacing::replace;
 use crate::rendering::rendered;
+use crate::replacing::replace;
 use crate::template::{TemplateLine, template_of};
 use sb_codec::Row;
 use sb_types::Fault;

@@ -40,7 +40,7 @@ pub(crate) enum Piece {
 
 /// A line, without its end.
 #[derive(Drop)]
-pub(crate) struct TemplateLine {
+pub struct TemplateLine {
     pub(crate) pieces: Vec<Piece>,
 }
 

@@ -36,11 +36,7 @@ pub fn text_of<'a>(alloc: Global, word: &'a str) -> Result<Value, Failure<'a>> {
 }
 
 /// Reads a value from its kind and its word. The faults of `Value::from_words`.
-pub fn value_of<'a>(
-    alloc: Global,
-    kind: &'a str,
-    word: &'a str,
-) -> Result<Value, Failure<'a>> {
+pub fn value_of<'a>(alloc: Global, kind: &'a str, word: &'a str) -> Result<Value, Failure<'a>> {
     match Value::from_words(alloc, kind.as_bytes(), word.as_bytes()) {
         Ok(value) => Ok(value),
         Err(fault) => Err(Failure::at(FaultPlace::Value(kind, word), fault)),
