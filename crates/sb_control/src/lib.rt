@@ -1,10 +1,20 @@
-//! What a node and its callers at the control socket share: one request and its answer, and why a log takes no more writes.
+//! What a node and a caller at its control socket share: one request with its answer, and why a log takes no more writes.
+//!
+//! ```rust
+//! /// Asks the node at the other end of a connection for the first page of its status.
+//! fn status_over<R: Read, W: Write, K: Ledger>(
+//!     connection: &mut Connection<R, W, K>,
+//! ) -> Result<Message, Fault> {
+//!     ask_control(connection, &Message::AskStatus(AskStatus::new(None)))
+//! }
+//! ```
 //!
 //! # What no contract refuses
 //!
-//! This wrong body would still be proved. `docs/GAPS.md` also has those of every crate.
+//! These wrong bodies would still be proved. `docs/GAPS.md` also has those of every crate.
 //!
-//! - The words of `LogCause` for people, or its name for programs, are others. `tools/check-node` refuses other names.
+//! - `ask_control` or `receive_first` never returns. Tests end.
+//! - The words of a `LogCause` for people, or its name for programs, are others. `tools/check-node` refuses it.
 #![tactic(auto)]
 
 mod asking;
