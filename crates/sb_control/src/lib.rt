@@ -5,7 +5,7 @@
 //! fn status_over<R: Read, W: Write, K: Ledger>(
 //!     connection: &mut Connection<R, W, K>,
 //! ) -> Result<Message, Fault> {
-//!     ask_control(connection, &Message::AskStatus(AskStatus::new(None)))
+//!     ask_control(connection, &Message::AskStatus(AskStatus::new(0)))
 //! }
 //! ```
 //!
