@@ -1,5 +1,5 @@
 //! One message out of a connection, and a request with the message that answers it.
-ghost use Rattle.std.specs.Prelude.{◌≡◌, ◌+◌, IfOk};
+ghost use Rattle.std.specs.Prelude.{◌≡◌, ◌+◌, false, IfOk};
 ghost use Rattle.sb_frames.specs.Sending.{OnlyWhereFailed, has_failed};
 ghost use Rattle.sb_frames.specs.declared.last_write.Outcome.{Outcome};
 ghost use Rattle.sb_frames.specs.Connections.{KeepsOutput};
