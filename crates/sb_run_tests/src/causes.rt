@@ -1,6 +1,6 @@
 //! Why a node takes no more writes into its log.
 use crate::{got, same, there};
-use sb_run::LogCause;
+use sb_control::LogCause;
 
 /// Each cause, by its number from 1 on, with its name and the text that it prints.
 const CAUSES: [(&str, &str); 9] = [
