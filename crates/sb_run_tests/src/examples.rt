@@ -111,11 +111,12 @@ fn status_over<R: Read, W: Write, K: Ledger>(
     ask_control(connection, &Message::AskStatus(AskStatus::new(0)))
 }
 
-/// What comes of that over a reader and a writer.
-fn status_on<K: Ledger, R: Read, W: Write>(
+/// What comes of a request over a reader and a writer, in so many reads.
+fn ask_on<K: Ledger, R: Read, W: Write>(
     alloc: Global,
     reader: &mut R,
     writer: &mut W,
+    max_reads: u64,
     blank: Blank,
 ) -> Result<Message, Fault>
     requires name { blank.name ≡ K.name }
@@ -123,22 +124,24 @@ fn status_on<K: Ledger, R: Read, W: Write>(
     requires some { 0 < blank.parts }
 {
     let steps = Steps::<K>::new(blank);
-    let mut connection = Connection::new(alloc, reader, writer, 1, steps);
+    let mut connection = Connection::new(alloc, reader, writer, max_reads, steps);
     status_over(&mut connection)
 }
 
-fn status_asked<R: Read, W: Write>(
+/// The answer to a question for the first page of a status.
+pub(crate) fn first_status<R: Read, W: Write>(
     alloc: Global,
     reader: &mut R,
     writer: &mut W,
+    max_reads: u64,
 ) -> Result<Message, Fault> {
-    status_on::<Brand, R, W>(alloc, reader, writer, Blank::new(1))
+    ask_on::<Brand, R, W>(alloc, reader, writer, max_reads, Blank::new(1))
 }
 
 /// Tests that this frame is sent, and that the answer is the Done that a reader holds.
 fn sends_and_hears(rt: &impl Abort, alloc: Global, held: &[u8], frame: &[u8]) {
     let (mut reader, mut sent) = (held, Vec::new(alloc));
-    let answer = got(rt, status_asked(alloc, &mut reader, &mut sent));
+    let answer = got(rt, first_status(alloc, &mut reader, &mut sent, 1));
     same(rt, &sent.as_slice(), &frame);
     same(rt, &answer.kind(), &KIND_DONE);
 }

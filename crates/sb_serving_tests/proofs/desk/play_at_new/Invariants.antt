@@ -1,4 +1,4 @@
-use Rattle.sb_run_tests.proofs.desk.play_at_new.Given as goal
+use Rattle.sb_serving_tests.proofs.desk.play_at_new.Given as goal
 
 abbrev pub ghosts-play_at-S-Ledger : goal.ghosts-play_at-S-Ledger
 ghosts-play_at-S-Ledger g a = record { name = a.blank.name; parts = a.blank.parts }

@@ -1,4 +1,4 @@
-use Rattle.sb_run_tests.proofs.pooling.pool_new.Given as goal
+use Rattle.sb_serving_tests.proofs.pooling.pool_new.Given as goal
 
 abbrev pub ghosts-pool_of-S-Ledger : goal.ghosts-pool_of-S-Ledger
 ghosts-pool_of-S-Ledger g a = record { name = a.blank.name; parts = a.blank.parts }

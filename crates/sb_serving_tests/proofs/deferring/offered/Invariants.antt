@@ -1,4 +1,4 @@
-use Rattle.sb_run_tests.proofs.deferring.offered.Given as goal
+use Rattle.sb_serving_tests.proofs.deferring.offered.Given as goal
 
 abbrev pub ghosts-serve_from-S-Ledger : goal.ghosts-serve_from-S-Ledger
 ghosts-serve_from-S-Ledger g a = record { name = a.blank.name; parts = a.blank.parts }
