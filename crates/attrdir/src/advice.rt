@@ -183,7 +183,7 @@ if there is no room for that, end the name by --after 1099511627775, and take a 
             "this is the node's own name: to end a name, see RUNBOOK, A retired machine"
         }
         FaultPlace::OtherAddress(_) => {
-            "give 127.0.0.1:PORT or [::1]:PORT, or the path of a socket: over HTTP a node answers only programs of its machine"
+            "give 127.0.0.1:PORT or [::1]:PORT, with a port from 1 to 65535, or the path of a socket: over HTTP a node answers only programs of its machine"
         }
         _ => "give 1 to 32 lower-case letters, digits and -",
     }

@@ -13,8 +13,9 @@ use sb_run::{LogCause, LogLoss, Observer, PeerState, Status};
 use sb_types::{Fault, KEYS_MOST, Name, OWNERS_MOST};
 use std::alloc::Global;
 use std::fmt;
-use std::sync::Mutex;
+use std::sync::{Mutex, MutexGuard};
 use std::sync::atomic::{AtomicBool, Ordering};
+use std::thread::yield_now;
 
 /// How much a line matters.
 #[derive(Clone, Copy)]
@@ -253,19 +254,33 @@ impl Console<'_, '_> {
     }
 }
 
-/// Keeps the text of metrics, unless there is no memory for it, or another thread reads it now.
+/// How many times a thread tries to lock the kept text. Who holds it only copies a text.
+const LOCK_TRIES: u64 = 10_000;
+
+/// The kept text, once no other thread holds it. `None` if it is held for so many tries.
+fn lock_kept(text: &Mutex<Vec<u8>>) -> Option<MutexGuard<'_, Vec<u8>>> {
+    for _ in 0..LOCK_TRIES {
+        if let Some(kept) = text.try_lock() {
+            return Some(kept);
+        }
+        yield_now();
+    }
+    None
+}
+
+/// Keeps the text of metrics, unless there is no memory for it, or other threads hold it for too long.
 fn keep_metrics(alloc: Global, text: &Mutex<Vec<u8>>, metrics: &Metrics<'_, '_>) {
     let Ok(newest) = format!(in alloc; "{metrics}") else {
         return;
     };
-    if let Some(mut kept) = text.try_lock() {
+    if let Some(mut kept) = lock_kept(text) {
         *kept = newest.into_bytes();
     }
 }
 
-/// A copy of the kept text. `NoMemory`; `Closed` if another thread writes it now.
+/// A copy of the kept text. `NoMemory`; `Closed` if other threads hold it for too long.
 fn kept_metrics(alloc: Global, text: &Mutex<Vec<u8>>) -> Result<Vec<u8>, Fault> {
-    match text.try_lock() {
+    match lock_kept(text) {
         Some(kept) => Ok(Vec::from_slice(alloc, &kept)?),
         None => Err(Fault::Closed),
     }

@@ -109,7 +109,7 @@ pub(crate) enum FaultPlace<'a> {
     Sockets(&'a str, &'a str),
     /// At a port that a node cannot listen at.
     Port(&'a str),
-    /// At an address for HTTP that is not of this machine.
+    /// At an address for HTTP that is not one of this machine, or has the port 0.
     OtherAddress(&'a str),
     /// In a template, or at its path.
     Template(&'a str),

@@ -10,7 +10,9 @@ use crate::troubles::TroubleLines;
 use crate::words::name_of;
 use jiff::Timestamp;
 use sb_log::{LogError, WriteLog};
-use sb_run::{NodeConfig, Pace, Paths, Ran, Runtime, run_closed_node, run_node};
+use sb_run::{
+    NodeConfig, Pace, Paths, Ran, Runtime, is_own_port, run_closed_node, run_node,
+};
 use sb_table::Table;
 use sb_types::{Fault, Name, RawSettings, Settings};
 use std::alloc::Global;
@@ -122,25 +124,33 @@ fn socket_of_http<'a>(
     given: &ServeArguments<'a>,
     address: &'a str,
 ) -> FaultPlace<'a> {
-    if address.parse::<SocketAddr>().is_ok() {
-        return FaultPlace::Port(address);
+    let both = FaultPlace::Sockets(given.sock, given.control);
+    if given.sock == given.control {
+        return both;
     }
-    match obstacle_at(rt, address) {
-        Some(place) => place,
-        None => FaultPlace::Sockets(given.sock, given.control),
+    if let Ok(port) = address.parse::<SocketAddr>() {
+        return if TcpListener::bind(rt, port).is_ok() {
+            both
+        } else {
+            FaultPlace::Port(address)
+        };
     }
+    if address == given.sock || address == given.control {
+        return FaultPlace::Listening(address);
+    }
+    obstacle_at(rt, address).unwrap_or(both)
 }
 
-/// Whether a node may answer over HTTP at an address: that of a port of this machine, or the path of a socket. What has a colon
-/// and no slash is meant as an address.
+/// Whether a node may answer over HTTP at an address: a port of this machine, or the path of a socket. What has a colon and no
+/// slash is meant as an address.
 fn is_own_address(address: &str) -> bool {
     match address.parse::<SocketAddr>() {
-        Ok(parsed) => parsed.ip().is_loopback(),
+        Ok(port) => is_own_port(port),
         Err(_) => address.contains('/') || !address.contains(':'),
     }
 }
 
-/// The address for HTTP, if it is not of this machine.
+/// The address for HTTP, if a node may not answer there.
 fn other_address<'a>(given: &ServeArguments<'a>) -> Option<&'a str> {
     match given.http {
         Some(address) if !is_own_address(address) => Some(address),

@@ -78,14 +78,24 @@ IsHealth (Err reason) content = IsNone reason content
 abbrev pub row_question : List ℕ → List ℕ → asking.Ask
 row_question owner key = record { owner = Some owner; prefix = key; after = None }
 
--- the content that says what was asked for, by a call of the backend and its answer
+-- the call of the backend asks it for what was asked for, and for nothing else
+abbrev pub IsCallFor : Asked → Act → Type 0
+IsCallFor (Rows ask) (asks request reply) = request ≡ kinds.Ask ask
+IsCallFor (Row owner key) (asks request reply) = request ≡ kinds.Ask (row_question owner key)
+IsCallFor Health (asks request reply) = request ≡ kinds.AskStatus 0
+IsCallFor Owners (lists owners) = Unit {0}
+IsCallFor Owners (fails fault) = Unit {0}
+IsCallFor Metrics (measures text) = Unit {0}
+IsCallFor Metrics (fails fault) = Unit {0}
+IsCallFor asked act = ⊥
+
+-- the content that says what was asked for, by what a call of the backend answered
 abbrev pub Says : Asked → Act → Content → Type 0
-Says (Rows ask) (asks request reply) content =
-    (request ≡ kinds.Ask ask) × ((page : Result records.Rows NoAnswer) × TellsPage reply page × IsPage page content)
+Says (Rows ask) (asks request reply) content = (page : Result records.Rows NoAnswer) × TellsPage reply page × IsPage page content
 Says (Row owner key) (asks request reply) content =
-    (request ≡ kinds.Ask (row_question owner key)) × ((page : Result records.Rows NoAnswer) × TellsPage reply page × IsRow owner key page content)
+    (page : Result records.Rows NoAnswer) × TellsPage reply page × IsRow owner key page content
 Says Health (asks request reply) content =
-    (request ≡ kinds.AskStatus 0) × ((status : Result records.NodeStatus NoAnswer) × TellsStatus reply status × IsHealth status content)
+    (status : Result records.NodeStatus NoAnswer) × TellsStatus reply status × IsHealth status content
 Says Owners (lists owners) content = content ≡ (200, line_of (owners_data owners))
 Says Owners (fails fault) content = IsFault 503 fault content
 Says Metrics (measures text) content = content ≡ (200, text)
@@ -104,10 +114,10 @@ HasContent fields (Err fault) response = ⊥
 abbrev pub FillsOrShortens : Response → Result rust.Content Fault → Response → Type 0
 FillsOrShortens old content new = HasContent (fields_of old) content new ⊎ Has (fields_of old) (503, []) new
 
--- the backend was called once, and the response says what came of it; or there was no memory for that
+-- the backend was called once, for this, and the response says what came of it; or there was no memory for that
 abbrev pub AnswersAsked : {B : Type 0} → (B → Act → B → Type 0) → Asked → B → Response → B → Type 0
 AnswersAsked step asked old response new =
-    (act : Act) × step old act new
+    (act : Act) × step old act new × IsCallFor asked act
     × (((content : Content) × Says asked act content × Has (fields_for (kind_of asked)) content response)
     ⊎ Has (fields_for (kind_of asked)) (503, []) response)
 

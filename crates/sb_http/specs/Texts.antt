@@ -1,26 +1,22 @@
 -- The bodies of responses.
 use Rattle.std.specs.Prelude.{ℕ, Bool, ◌==◌, List, [], ◌∷◌, ◌++◌, map, codes, Option, Some, None, unwrap_or}
-use Rattle.serde_json.specs.Data.{Data, boolean, number, unsigned, string, array, object, Items, no_items, item, member, no_members}
+use Rattle.serde_json.specs.Data.{Data, boolean, number, unsigned, string, array, object, member, no_members}
 use Rattle.serde_json.specs.Written.{compact_text}
 use Rattle.sb_codec.specs.Records.{Row, Rows, Figure, NodeStatus}
 use Rattle.sb_codec.specs.Figures.{number_of, value_at}
 use Rattle.sb_codec.specs.declared.message.figure.FigureKind.{FigureKind}
 use Rattle.sb_codec.specs.declared.message.figure.FigureKind.TheVariants.{CaughtUp, LogFault, Conflict}
 use Rattle.sb_query.specs.Statuses.{is_ready}
-use Rattle.sb_listing.specs.Json.{row_data}
+use Rattle.sb_listing.specs.Json.{items_of, rows_data}
 use Rattle.sb_http.specs.declared.backend.HeldOwner.{HeldOwner}
 
 -- the text of JSON without spaces, and the end of the line
 abbrev pub line_of : Data → List ℕ
 line_of json = compact_text json ++ 10 ∷ []
 
-abbrev pub items_of : List Data → Items
-items_of [] = no_items
-items_of (d ∷ ds) = item d (items_of ds)
-
 -- whether more rows follow, and the rows
 unfoldable pub page_data : Rows → Data
-page_data page = object (member (codes "more") (boolean page.more) (member (codes "rows") (array (items_of (map row_data page.rows))) no_members))
+page_data page = object (member (codes "more") (boolean page.more) (member (codes "rows") (rows_data page.rows) no_members))
 
 -- the members are in the order of their names
 unfoldable pub owner_data : HeldOwner → Data

@@ -4,13 +4,13 @@ ghost use Rattle.serde_json.specs.Data.{boolean};
 ghost use Rattle.serde_json.specs.View.{view};
 ghost use Rattle.serde_json.specs.Written.{has_float, items_text, compact_text};
 ghost use Rattle.sb_types.specs.Faults.{number_of};
-ghost use Rattle.sb_listing.specs.Json.{row_data};
+ghost use Rattle.sb_listing.specs.Json.{row_data, items_of};
 ghost use Rattle.sb_http.specs.Texts as spec;
-ghost use Rattle.sb_http.specs.Texts.{line_of, items_of};
+ghost use Rattle.sb_http.specs.Texts.{line_of};
 
 use crate::backend::HeldOwner;
 use sb_codec::{FigureKind, NodeStatus, Row, Rows};
-use sb_listing::add_json_object;
+use sb_listing::{add_json_array, add_json_object};
 use sb_query::is_ready;
 use sb_types::{Fault, Name};
 use serde_json::{Value, json};
@@ -33,31 +33,14 @@ fn line_of_value(alloc: Global, value: &Value) -> Result<Vec<u8>, AllocError>
     Ok(line)
 }
 
-/// Adds rows as the items of an array, with commas between them, and the end of the array. `NoMemory`.
-fn add_rows(alloc: Global, out: &mut Vec<u8>, rows: &[Row]) -> Result<(), Fault>
-    ensures added { OnOk result (out.new.items ≡ out.old.items ++ items_text false (items_of (map row_data rows.now))) }
-    ensures memory { IfErr result (λ fault. fault ≡ Fault.NoMemory) }
-{
-    let mut is_later = false;
-    for row in rows {
-        if is_later {
-            out.push(b',')?;
-        }
-        add_json_object(alloc, out, row)?;
-        is_later = true;
-    }
-    out.push(b']')?;
-    Ok(())
-}
-
 /// How the line of a page begins: with whether more rows follow.
 fn page_head(more: bool) -> &'static [u8]
-    ensures { result.now ≡ codes "{\"more\":" ++ (compact_text (boolean more) ++ codes ",\"rows\":[") }
+    ensures { result.now ≡ codes "{\"more\":" ++ (compact_text (boolean more) ++ codes ",\"rows\":") }
 {
     if more {
-        b"{\"more\":true,\"rows\":["
+        b"{\"more\":true,\"rows\":"
     } else {
-        b"{\"more\":false,\"rows\":["
+        b"{\"more\":false,\"rows\":"
     }
 }
 
@@ -67,7 +50,7 @@ pub(crate) fn page_line(alloc: Global, page: &Rows) -> Result<Vec<u8>, Fault>
 {
     let mut line = Vec::new(alloc);
     line.extend_from_slice(page_head(page.more()))?;
-    add_rows(alloc, &mut line, page.rows())?;
+    add_json_array(alloc, &mut line, page.rows())?;
     line.extend_from_slice(b"}\n")?;
     Ok(line)
 }

@@ -2,7 +2,7 @@
 ghost use Rattle.std.specs.Prelude.{◌≡◌, if◌then◌else◌, Ok, IfOk};
 ghost use Rattle.sb_query.specs.Statuses.{is_ready};
 ghost use Rattle.sb_http.specs.Acts.{Act};
-ghost use Rattle.sb_http.specs.Answers.{Says, IsFault, IsNone, IsPage, IsRow, IsHealth};
+ghost use Rattle.sb_http.specs.Answers.{IsCallFor, Says, IsFault, IsNone, IsPage, IsRow, IsHealth};
 
 use crate::asked::Asked;
 use crate::backend::Backend;
@@ -121,7 +121,7 @@ fn prefix_of(key: &Key) -> Prefix
 
 /// Asks for a page of rows. `NoMemory`.
 fn answer_rows<B: Backend>(alloc: Global, backend: &mut B, ask: Ask) -> Result<Content, Fault>
-    ensures { (act : Act) × B.step backend.old act backend.new × IfOk result (λ content. Says (Asked.Rows ask) act (content.status, content.body.items)) }
+    ensures { (act : Act) × B.step backend.old act backend.new × IsCallFor (Asked.Rows ask) act × IfOk result (λ content. Says (Asked.Rows ask) act (content.status, content.body.items)) }
 {
     let page = page_in(backend.ask(&Message::Ask(ask)));
     page_content(alloc, &page)
@@ -134,7 +134,7 @@ fn answer_row<B: Backend>(
     owner: Name,
     key: Key,
 ) -> Result<Content, Fault>
-    ensures { (act : Act) × B.step backend.old act backend.new × IfOk result (λ content. Says (Asked.Row owner key) act (content.status, content.body.items)) }
+    ensures { (act : Act) × B.step backend.old act backend.new × IsCallFor (Asked.Row owner key) act × IfOk result (λ content. Says (Asked.Row owner key) act (content.status, content.body.items)) }
 {
     let ask = Ask {
         owner: Some(owner),
@@ -147,7 +147,7 @@ fn answer_row<B: Backend>(
 
 /// Asks whether the node is ready. `NoMemory`.
 fn answer_health<B: Backend>(alloc: Global, backend: &mut B) -> Result<Content, Fault>
-    ensures { (act : Act) × B.step backend.old act backend.new × IfOk result (λ content. Says Asked.Health act (content.status, content.body.items)) }
+    ensures { (act : Act) × B.step backend.old act backend.new × IsCallFor Asked.Health act × IfOk result (λ content. Says Asked.Health act (content.status, content.body.items)) }
 {
     let status = status_in(backend.ask(&Message::AskStatus(AskStatus::new(0))));
     health_content(alloc, &status)
@@ -155,7 +155,7 @@ fn answer_health<B: Backend>(alloc: Global, backend: &mut B) -> Result<Content, 
 
 /// Asks for the owners. `NoMemory`.
 fn answer_owners<B: Backend>(alloc: Global, backend: &mut B) -> Result<Content, Fault>
-    ensures { (act : Act) × B.step backend.old act backend.new × IfOk result (λ content. Says Asked.Owners act (content.status, content.body.items)) }
+    ensures { (act : Act) × B.step backend.old act backend.new × IsCallFor Asked.Owners act × IfOk result (λ content. Says Asked.Owners act (content.status, content.body.items)) }
 {
     match backend.owners() {
         Ok(owners) => Ok(Content {
@@ -168,7 +168,7 @@ fn answer_owners<B: Backend>(alloc: Global, backend: &mut B) -> Result<Content, 
 
 /// Asks for the metrics.
 fn answer_metrics<B: Backend>(alloc: Global, backend: &mut B) -> Content
-    ensures { (act : Act) × B.step backend.old act backend.new × Says Asked.Metrics act (result.status, result.body.items) }
+    ensures { (act : Act) × B.step backend.old act backend.new × IsCallFor Asked.Metrics act × Says Asked.Metrics act (result.status, result.body.items) }
 {
     match backend.metrics() {
         Ok(body) => Content {
@@ -188,7 +188,7 @@ pub(crate) fn answer<B: Backend>(
     backend: &mut B,
     asked: &Asked,
 ) -> Result<Content, Fault>
-    ensures { (act : Act) × B.step backend.old act backend.new × IfOk result (λ content. Says asked.now act (content.status, content.body.items)) }
+    ensures { (act : Act) × B.step backend.old act backend.new × IsCallFor asked.now act × IfOk result (λ content. Says asked.now act (content.status, content.body.items)) }
 {
     match asked {
         Asked::Rows(ask) => answer_rows(alloc, backend, *ask),

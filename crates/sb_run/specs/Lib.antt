@@ -20,4 +20,5 @@ pub mod LogCauses
 pub mod Facts
 pub mod StatusReplies
 pub mod Auditing
+pub mod HttpPorts
 pub mod HttpReads

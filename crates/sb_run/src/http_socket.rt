@@ -1,5 +1,6 @@
 //! The socket at which a node answers over HTTP: one at a path, or a port of this machine.
-ghost use Rattle.std.specs.Prelude.{◌≡◌, IfErr};
+ghost use Rattle.std.specs.Prelude.{◌≡◌, ◌↔◌, IsTrue, IfErr};
+ghost use Rattle.sb_run.specs.HttpPorts.{IsOwnPort};
 
 use crate::observer::Observer;
 use crate::sockets::remove_left_behind;
@@ -29,6 +30,16 @@ pub(crate) struct HttpSocket<'a> {
     latch: UnixStream,
     /// The keys of the hashes by which fields of requests are found.
     keys: RandomState,
+}
+
+/// Whether a node may answer over HTTP at this address: `127.0.0.1` or `[::1]`, with a port from 1 on.
+pub fn is_own_port(address: SocketAddr) -> bool
+    ensures { IsTrue result ↔ IsOwnPort address }
+{
+    match address {
+        SocketAddr::V4(own) => own.port() != 0 && matches!(own.ip().octets(), [127, 0, 0, 1]),
+        SocketAddr::V6(own) => own.port() != 0 && own.scope_id() == 0 && own.ip().is_loopback(),
+    }
 }
 
 /// Listens at a port.
@@ -62,8 +73,8 @@ fn listen_at_path<'a, R: Files + Net + RandomSource>(
 }
 
 impl<'a> HttpSocket<'a> {
-    /// Binds the port of an address of this machine, or makes a socket at a path, as that of clients is made. `ReadFailed`, also of
-    /// an address that is not of this machine, and of an empty path.
+    /// Binds the port of an address, or makes a socket at a path, as that of clients is made. `ReadFailed`, also of an address for
+    /// which `is_own_port` is false, and of an empty path.
     pub(crate) fn bind<
         R: Files + Net<Listener = TcpListener, Stream = TcpStream> + RandomSource,
         O: Observer,
@@ -71,7 +82,7 @@ impl<'a> HttpSocket<'a> {
         ensures { IfErr result (λ fault. fault ≡ Fault.ReadFailed) }
     {
         let bound = match address.parse::<SocketAddr>() {
-            Ok(parsed) if parsed.ip().is_loopback() => listen_at_port(rt, parsed),
+            Ok(parsed) if is_own_port(parsed) => listen_at_port(rt, parsed),
             Ok(_) => return Err(Fault::ReadFailed),
             Err(_) if address.is_empty() => return Err(Fault::ReadFailed),
             Err(_) => {

@@ -11,7 +11,7 @@ use crate::counts::Counts;
 use crate::dialer::{Dialing, RoundsTag, rounds_channel};
 use crate::first_hearing::FirstHearing;
 use crate::forgetting::ForgottenOwners;
-use crate::http::HTTP_WORKERS;
+use crate::http_threads::HTTP_WORKERS;
 use crate::observer::Observer;
 use crate::own_writes::{ClosableLog, OwnWrites};
 use crate::sockets::BoundSockets;

@@ -1,7 +1,7 @@
 use Rattle.std.proofs.Common.{◌≡◌, ◌++◌, false, drop, map}
 use Rattle.serde_json.specs.Written.{items_text}
+use Rattle.sb_listing.specs.Json.{items_of}
 use Rattle.sb_http.specs.Texts.{owner_data}
-use Rattle.sb_http.specs.Texts.{items_of}
 use Rattle.sb_http.proofs.bodies.add_owners.Given as goal
 
 abbrev pub invariant-loop-held : goal.invariant-loop-held

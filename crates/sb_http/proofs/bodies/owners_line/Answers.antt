@@ -1,7 +1,8 @@
 use Rattle.std.proofs.Common.{◌≡◌, ℕ, List, ◌++◌, false, map, ap, ◌∙◌}
 use Rattle.std.specs.Prelude.{codes}
 use Rattle.serde_json.specs.Written.{items_text}
-use Rattle.sb_http.specs.Texts.{items_of, owner_data}
+use Rattle.sb_listing.specs.Json.{items_of}
+use Rattle.sb_http.specs.Texts.{owner_data}
 use Rattle.sb_http.proofs.Lines.{owners_whole}
 use Rattle.sb_http.proofs.bodies.owners_line.Goals as goal
 

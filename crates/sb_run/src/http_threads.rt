@@ -15,10 +15,7 @@ use http_server::Config;
 use sb_codec::Message;
 use sb_directory::{EnteredSeat, ReaderSeat};
 use sb_http::{Backend, Door, HeldOwner, HttpService, serve_connection};
-use sb_types::{
-    Fault, KIND_BYE, KIND_DELTA, KIND_DIGEST, KIND_DONE, KIND_HELLO, KIND_NODE_STATUS, KIND_PUT,
-    KIND_REFUSED, KIND_ROWS,
-};
+use sb_types::Fault;
 use sb_views::{NodeTag, Snapshot};
 use std::alloc::Global;
 use std::hash::RandomState;
@@ -95,15 +92,7 @@ impl<S: RoundsTag, H: Wait + Drop, Q: Wait + Clock> NodeContext<'_, S, H, Q> {
         match request {
             Message::Ask(ask) => reply_to_ask(self.alloc, self.directory.settings(), seat, ask),
             Message::AskStatus(asked) => self.reply_to_ask_status(dialing, asked, seat),
-            Message::Put(_) => (seat, refused_by(Fault::UnknownKind(KIND_PUT))),
-            Message::Hello(_) => (seat, refused_by(Fault::UnknownKind(KIND_HELLO))),
-            Message::Digest(_) => (seat, refused_by(Fault::UnknownKind(KIND_DIGEST))),
-            Message::Delta(_) => (seat, refused_by(Fault::UnknownKind(KIND_DELTA))),
-            Message::Bye(_) => (seat, refused_by(Fault::UnknownKind(KIND_BYE))),
-            Message::Rows(_) => (seat, refused_by(Fault::UnknownKind(KIND_ROWS))),
-            Message::Done(_) => (seat, refused_by(Fault::UnknownKind(KIND_DONE))),
-            Message::Refused(_) => (seat, refused_by(Fault::UnknownKind(KIND_REFUSED))),
-            Message::NodeStatus(_) => (seat, refused_by(Fault::UnknownKind(KIND_NODE_STATUS))),
+            other => (seat, refused_by(Fault::UnknownKind(other.kind()))),
         }
     }
 

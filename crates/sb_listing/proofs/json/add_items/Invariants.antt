@@ -1,8 +1,7 @@
 use Rattle.std.proofs.Common.{◌≡◌, ◌++◌, false, drop, map}
 use Rattle.serde_json.specs.Written.{items_text}
-use Rattle.sb_listing.specs.Json.{row_data}
-use Rattle.sb_http.specs.Texts.{items_of}
-use Rattle.sb_http.proofs.bodies.add_rows.Given as goal
+use Rattle.sb_listing.specs.Json.{row_data, items_of}
+use Rattle.sb_listing.proofs.json.add_items.Given as goal
 
 abbrev pub invariant-loop-row : goal.invariant-loop-row
 invariant-loop-row l =
