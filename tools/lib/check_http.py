@@ -174,6 +174,17 @@ def http_metrics(check):
         time.sleep(0.05)
     want("the metrics", told[2].decode(), path.read_text())
     want("their type", dict(told[1])["content-type"], "text/plain; version=0.0.4")
+    statuses = []
+
+    def ask_often():
+        statuses.extend(place.bytes(b"GET /metrics HTTP/1.1\r\nHost: localhost\r\n\r\n")[0] for _ in range(100))
+
+    callers = [threading.Thread(target=ask_often) for _ in range(4)]
+    for caller in callers:
+        caller.start()
+    for caller in callers:
+        caller.join()
+    want("the statuses of four callers at once", (len(statuses), set(statuses)), (400, {200}))
     alone, at_alone = node_at(check, "c", free_port(), "--pause", "100", folder=folder)
     while b"attrdir_rounds_total" not in at_alone.curl("/metrics")[2] and time.monotonic() < end:
         time.sleep(0.05)
@@ -276,7 +287,8 @@ def http_crowd(check):
 def http_places(check):
     """Only an address of this machine is taken, or the path of a socket, which is removed at the end; a node that waits for callers ends at once."""
     folder = check.folder()
-    for address in ("0.0.0.0:0", "10.0.0.1:80", "[::]:80", "localhost:80", "host.example:80", "127.0.0.1:", ":80", "127.0.0.1:65536"):
+    others = ("0.0.0.0:0", "10.0.0.1:80", "127.0.0.2:8080", "[::]:80", "localhost:80", "host.example:80", "127.0.0.1:", ":80")
+    for address in (*others, "127.0.0.1:0", "[::1]:0", "127.0.0.1:65536", "[::1%1]:8080"):
         node = check.node("a", "--http", address, folder=folder)
         status, printed, said = run(check.program, *[str(it) for it in node.words()[1:]])
         want(f"--http {address}", (status, printed, said.splitlines()[0], said.splitlines()[2].split(": ")[0]), (3, "", "fault 5", f"http {address}"))
@@ -286,6 +298,13 @@ def http_places(check):
         address = f"127.0.0.1:{taken.getsockname()[1]}"
         status, _, said = run(check.program, *[str(it) for it in check.node("a", "--http", address, folder=folder).words()[1:]])
         want("a port that is taken", (status, said.splitlines()[:2], said.splitlines()[2].split(": ")[0]), (3, ["fault 16", "the node cannot listen at this port"], f"http {address}"))
+    for place, wanted in ((free_port(), "sockets"), (folder / "a.sock", "socket")):
+        node = check.node("a", "--http", f"127.0.0.1:{place}" if isinstance(place, int) else str(place), folder=folder)
+        words = [str(it) for it in node.words()[1:]]
+        if isinstance(place, int):
+            words[words.index("--control") + 1] = str(node.sock)
+        said = run(check.program, *words)[2].splitlines()
+        want(f"two sockets in one place, and --http {place}", (said[0], said[2].split(" ")[0]), ("fault 16", wanted))
     want("what is left", sorted(it.name for it in folder.iterdir() if it.name.endswith((".sock", ".ctl"))), [])
     node = check.node("a", "--http", "x", "--seats", "3", "--workers", "1", folder=folder)
     want("too few seats", run(check.program, *[str(it) for it in node.words()[1:]])[2].splitlines()[0], "fault 5")

@@ -13,8 +13,8 @@ use sb_run::{LogCause, LogLoss, Observer, PeerState, Status};
 use sb_types::{Fault, KEYS_MOST, Name, OWNERS_MOST};
 use std::alloc::Global;
 use std::fmt;
-use std::sync::{Mutex, MutexGuard};
 use std::sync::atomic::{AtomicBool, Ordering};
+use std::sync::{Mutex, MutexGuard};
 use std::thread::yield_now;
 
 /// How much a line matters.

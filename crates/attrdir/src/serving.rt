@@ -10,9 +10,7 @@ use crate::troubles::TroubleLines;
 use crate::words::name_of;
 use jiff::Timestamp;
 use sb_log::{LogError, WriteLog};
-use sb_run::{
-    NodeConfig, Pace, Paths, Ran, Runtime, is_own_port, run_closed_node, run_node,
-};
+use sb_run::{NodeConfig, Pace, Paths, Ran, Runtime, is_own_port, run_closed_node, run_node};
 use sb_table::Table;
 use sb_types::{Fault, Name, RawSettings, Settings};
 use std::alloc::Global;
@@ -150,7 +148,7 @@ fn is_own_address(address: &str) -> bool {
     }
 }
 
-/// The address for HTTP, if a node may not answer there.
+/// The address for HTTP, if no node answers there.
 fn other_address<'a>(given: &ServeArguments<'a>) -> Option<&'a str> {
     match given.http {
         Some(address) if !is_own_address(address) => Some(address),
@@ -318,7 +316,7 @@ fn run<'a, L: WriteLog + Drop, R: Runtime + Net<Listener = TcpListener, Stream =
 /// Runs a node. The faults before it opens the log, in this order:
 ///
 /// - `BadName` of its name.
-/// - `BadSetting`, also for too few seats, for an address that is not of this machine, and for a name that it cannot forget.
+/// - `BadSetting`, also for too few seats, for an address that is not one for HTTP, and for a name that it cannot forget.
 /// - `ReadFailed` if the path of a peer cannot be that of a socket.
 /// - `WriteFailed` if metrics would replace something else.
 ///

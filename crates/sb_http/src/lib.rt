@@ -20,6 +20,7 @@
 //! - A response names a fault by its number, with another text. Tests refuse it.
 //! - `HttpService::call` answers 503 without a body, as if there were no memory, after the backend was asked. Tests with
 //!   ample memory refuse it.
+//! - `serve_connection` ends with an error before it has read anything. Tests refuse it.
 //! - The order of fields of a response is promised, but not that a browser heeds them.
 #![tactic(auto)]
 
