@@ -6,6 +6,8 @@ use sb_types::{Fault, Key, Name, Value};
 use std::alloc::Global;
 use std::hash::RandomState;
 use std::io;
+use std::process::Abort;
+use std::random::RandomSource;
 
 /// A backend that answers any question for rows with the same page.
 #[derive(Drop)]
@@ -38,7 +40,7 @@ fn refused(fault: &Fault) -> Message {
 /// The answer to a question for rows: the page, or `Closed` to one for the owner shut.
 fn answer_to(alloc: Global, ask: &Ask) -> Message {
     if let Some(owner) = ask.owner {
-        if owner.bytes() == b"shut" {
+        if owner.bytes() == b"shut".as_slice() {
             return refused(&Fault::Closed);
         }
     }
@@ -97,16 +99,21 @@ fn served(alloc: Global, keys: RandomState, door: Door, bytes: &[u8]) -> io::Res
 }
 
 /// What is written to these bytes, as text.
-pub(crate) fn answer_at(rt: &HostRuntime, door: Door, bytes: &[u8]) -> Vec<u8> {
+pub(crate) fn answer_at<R: Abort + RandomSource>(
+    rt: &R,
+    alloc: Global,
+    door: Door,
+    bytes: &[u8],
+) -> Vec<u8> {
     let keys = crate::got(rt, RandomState::new(rt));
-    crate::got(rt, served(rt.alloc(), keys, door, bytes))
+    crate::got(rt, served(alloc, keys, door, bytes))
 }
 
 /// The answer to a request for this target at a socket.
-pub(crate) fn answer(rt: &HostRuntime, target: &str) -> Vec<u8> {
+pub(crate) fn answer<R: Abort + RandomSource>(rt: &R, alloc: Global, target: &str) -> Vec<u8> {
     let request = crate::got(
         rt,
-        format!(in rt.alloc(); "GET {target} HTTP/1.1\r\nHost: x\r\n\r\n"),
+        format!(in alloc; "GET {target} HTTP/1.1\r\nHost: x\r\n\r\n"),
     );
-    answer_at(rt, Door::Socket, request.as_bytes())
+    answer_at(rt, alloc, Door::Socket, request.as_bytes())
 }
