@@ -1,15 +1,15 @@
 //! What a node that runs says on standard error.
-use crate::advice::{ABOUT_LOSS, about_cause};
 use crate::differences::DifferenceWords;
-use crate::log_file::DroppedRemovals;
 use crate::log_watch::LogWatch;
 use crate::metrics::{Metrics, Series};
 use crate::metrics_file::MetricsFile;
 use crate::release::RELEASE;
 use crate::troubles::TroubleLines;
 use jiff::Timestamp;
+use sb_commands::{ABOUT_LOSS, DroppedRemovals, about_cause};
+use sb_control::{LogCause, LogLoss};
 use sb_directory::Difference;
-use sb_run::{LogCause, LogLoss, Observer, PeerState, Status};
+use sb_run::{Observer, PeerState, Status};
 use sb_types::{Fault, KEYS_MOST, Name, OWNERS_MOST};
 use std::alloc::Global;
 use std::fmt;

@@ -2,9 +2,9 @@
 use crate::commands::{Task, first_outside};
 use crate::help;
 use crate::metrics::Series;
-use crate::part::{Kind, Part, Range};
 use crate::serving::ServeArguments;
 use clap::ArgMatches;
+use sb_commands::{Kind, Part, Range};
 use sb_run::{HTTP_WORKERS, OnLogFault, Pace};
 use sb_types::{
     BUDGET_LEAST, BUDGET_MOST, Order, RawSettings, SEATS_MOST, VERSION_MOST, WORKERS_MOST,

@@ -1,14 +1,14 @@
 //! The command that runs a node.
 use crate::console::{Console, Shortage};
-use crate::failure::{Failure, FaultPlace};
-use crate::log_file::{StartPurge, error_of, has_folder, open_log, purge_removals};
 use crate::log_watch::LogWatch;
 use crate::metrics::Series;
 use crate::metrics_file::{MetricsFile, may_replace, writes_over};
 use crate::serve_command::SEATS;
 use crate::troubles::TroubleLines;
-use crate::words::name_of;
 use jiff::Timestamp;
+use sb_commands::{
+    Failure, FaultPlace, StartPurge, error_of, has_folder, name_of, open_log, purge_removals,
+};
 use sb_log::{LogError, WriteLog};
 use sb_run::{NodeConfig, Pace, Paths, Ran, Runtime, is_own_port, run_closed_node, run_node};
 use sb_table::Table;
