@@ -111,7 +111,7 @@ pub struct Ran {
 
 /// Why a node does not run, before its log is read: the first reason that holds.
 fn start_refusal<L: WriteLog>(settings: &Settings, http: Option<&str>, log: &L) -> Option<Fault>
-    ensures { result ≡ spec.start_refusal settings.now http (L.seen log.now) }
+    ensures { result ≡ spec.start_refusal settings.now http.entry (L.seen log.now) }
 {
     if settings.seats() < settings.workers() + 2 + u64::from(http.is_some()) {
         return Some(Fault::BadSetting);
