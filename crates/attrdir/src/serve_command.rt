@@ -319,8 +319,8 @@ fn seats_for(workers: u64, fanout: u64, http: u64) -> u64 {
     least.max(wanted.min(SEATS_MOST))
 }
 
-/// The settings of a node. Without `--seats` there are two seats, and one more for each worker and each connection over HTTP, and
-/// for each peer that is dialed at once for news. There are at most as many as there may be.
+/// The settings of a node. Without `--seats` there are two seats, and one for each worker, each connection over HTTP, and
+/// each peer that is dialed at once for news. There are at most as many as there may be.
 fn settings_of<'a>(given: &ArgMatches<'a>) -> RawSettings<'a> {
     let workers = WORKERS.number(given);
     let order = match ORDER.value(given) {
