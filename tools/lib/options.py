@@ -1,9 +1,9 @@
-"""The commands and their options, read from crates/attrdir/src/commands.rt, where each is described once."""
+"""The commands and their options, read from commands.rt and serve_command.rt in crates/attrdir/src, where each is described once."""
 import re
 from pathlib import Path
 
 ROOT = Path(__file__).resolve().parent.parent.parent
-COMMANDS = ROOT / "crates" / "attrdir" / "src" / "commands.rt"
+COMMANDS = [ROOT / "crates" / "attrdir" / "src" / it for it in ("commands.rt", "serve_command.rt")]
 # where the numbers of limits are
 LIMITS = [ROOT / "crates" / "sb_types" / "src" / it for it in ("format.rt", "limits.rt")]
 # what may begin a part of the docstring of an option
@@ -83,14 +83,14 @@ def text_of(literal):
 
 def read():
     """The options by the names of their constants, and the commands: the name of each with its options, in the order of the help."""
-    source = COMMANDS.read_text()
+    source = "\n".join(it.read_text() for it in COMMANDS)
     numbers, options = numbers_of_limits(), {}
     for docs, const, body in re.findall(r"((?:^///[^\n]*\n)*)^(?:pub\(crate\) )?const (\w+): Part = Part \{\n(.*?)^\};", source, re.M | re.S):
         fields = {name: text_of(text) for name, text in re.findall(r'^    (name|value|help): "((?:[^"\\]|\\.)*)"', body, re.M | re.S)}
         fields["kind"] = re.search(r"^    kind: (.*?),\n    value", body, re.M | re.S)[1]
         options[const] = Option(const, " ".join(re.sub(r"^/// ?", "", it) for it in docs.splitlines()), fields, numbers)
     tasks = {}
-    for const, name, parts in re.findall(r'^const (\w+): Task = Task \{\n    name: "(\w+)".*?parts: &\[(.*?)\]', source, re.M | re.S):
+    for const, name, parts in re.findall(r'^(?:pub\(crate\) )?const (\w+): Task = Task \{\n    name: "(\w+)".*?parts: &\[(.*?)\]', source, re.M | re.S):
         tasks[const] = name, [options[it] for it in re.findall(r"\w+", parts)]
     order = re.findall(r"\w+", re.search(r"const TASKS: \[Task; \d+\] = \[(.*?)\];", source, re.S)[1])
     return options, dict(tasks[it] for it in order)

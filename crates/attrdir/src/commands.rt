@@ -1,23 +1,15 @@
 //! The commands, and their options and words: what the command line can contain, and where the values go.
 //!
-//! An option is described here once. From its `Part` come its parsing, its default, its limits and its help. `tools/options`
-//! writes the same into `docs/attrdir.1`, `docs/attrdir.bash` and `docs/REFERENCE.md`. The docstring of a `Part` is what
-//! the pages add to the help: sentences, and then what a `Greater:` and a `Smaller:` value change. `Left out:` says what
-//! holds without the option, if it has no default.
+//! An option is described once: here, or in `serve_command.rt` if it is one of `serve`. From its `Part` come its parsing, its
+//! default, its limits and its help. `tools/options` writes the same into `docs/attrdir.1`, `docs/attrdir.bash` and
+//! `docs/REFERENCE.md`. The docstring of a `Part` is what the pages add to the help: sentences, and then what a `Greater:`
+//! and a `Smaller:` value change. `Left out:` says what holds without the option, if it has no default.
 use crate::failure::FaultPlace;
 use crate::help;
-use crate::metrics::Series;
 use crate::part::{Kind, Part, Range};
-use crate::serving::ServeArguments;
+use crate::serve_command::SERVE_TASK;
 use clap::ArgMatches;
-use sb_run::{OnLogFault, Pace};
-use sb_types::{
-    BUDGET_LEAST, BUDGET_MOST, Order, RawSettings, SEATS_MOST, VERSION_MOST, WORKERS_MOST,
-};
-use std::alloc::{AllocError, Global};
-
-/// How many names a node forgets at most.
-const FORGOTTEN_MOST: usize = 64;
+use sb_types::VERSION_MOST;
 
 /// A command.
 #[derive(Clone, Copy)]
@@ -170,6 +162,60 @@ pub(crate) const RETRY: Part = Part {
     help: "Goes on if the node does not answer, and keeps its rows",
 };
 
+/// Its first line comes no sooner after it began than this time, since an earlier watch may have shown rows that have not come yet.
+/// Greater: A row that comes back in time is not missed.
+/// Smaller: With 0, a row that the node no longer shows is gone at once.
+pub(crate) const HOLD: Part = Part {
+    name: "hold",
+    kind: Kind::NumberOr(Range::Any, "0"),
+    value: "S",
+    help: "For how many seconds a row stays that went",
+};
+
+/// Rows whose time of --hold is over go together, and if too few would be left, none of them goes.
+/// Greater: Fewer rows can go within an hour.
+/// Smaller: With 0, all rows can go at once.
+pub(crate) const ROWS_FLOOR: Part = Part {
+    name: "floor",
+    kind: Kind::NumberOr(Range::Within(0, 100), "0"),
+    value: "PERCENT",
+    help: "Keeps at least this part of the most rows that the node showed in the last hour",
+};
+
+/// Greater: Changes that belong together are shown together, and later.
+/// Smaller: With 0, each asking shows what changed.
+pub(crate) const SETTLE: Part = Part {
+    name: "settle",
+    kind: Kind::NumberOr(Range::Any, "0"),
+    value: "MS",
+    help: "For how many milliseconds after a change it gathers more changes",
+};
+
+/// Left out: a line for each change
+pub(crate) const LISTINGS: Part = Part {
+    name: "listings",
+    kind: Kind::Flag,
+    value: "",
+    help: "Prints all rows in one line of JSON after each change",
+};
+
+/// Left out: nothing is written
+pub(crate) const RENDER: Part = Part {
+    name: "render",
+    kind: Kind::ValueBeside("to", "listings"),
+    value: "TEMPLATE",
+    help: "Writes the rows into a file, as this template has them; needs --to",
+};
+
+/// It is replaced as a whole.
+/// Left out: nothing is written
+pub(crate) const TO: Part = Part {
+    name: "to",
+    kind: Kind::ValueBeside("render", "listings"),
+    value: "FILE",
+    help: "The file that --render writes",
+};
+
 pub(crate) const PEER_SOCK: Part = Part {
     name: "sock",
     kind: Kind::Needed,
@@ -275,377 +321,6 @@ pub(crate) const EXPLAIN: Part = Part {
     help: "Describes in words what the frames contain",
 };
 
-/// In the whole cluster only one node may have it.
-const NODE_NAME: Part = Part {
-    name: "name",
-    kind: Kind::Needed,
-    value: "N",
-    help: "The name under which the node writes",
-};
-
-/// A node refuses sessions with nodes of another cluster.
-const NODE_CLUSTER: Part = Part {
-    name: "cluster",
-    kind: Kind::Needed,
-    value: "C",
-    help: "The name of the cluster, the same at each node",
-};
-
-/// An empty file becomes a new log.
-const NODE_LOG: Part = Part {
-    name: "log",
-    kind: Kind::Needed,
-    value: "FILE",
-    help: "The log of the node, a file that exists",
-};
-
-/// At the path there must be no file, or a socket that a killed node left.
-const SOCK: Part = Part {
-    name: "sock",
-    kind: Kind::Needed,
-    value: "PATH",
-    help: "The socket that the node makes for other nodes",
-};
-
-/// At the path there must be no file, or a socket that a killed node left.
-const NODE_CONTROL: Part = Part {
-    name: "control",
-    kind: Kind::Needed,
-    value: "PATH",
-    help: "The socket that the node makes for set, del, get, watch and status",
-};
-
-/// Each path has 1 to 107 bytes.
-/// Greater: Each peer is dialed less often.
-/// Smaller: A node that nobody dials, and that dials nobody, hears nothing.
-/// Left out: none
-const PEERS: Part = Part {
-    name: "PEER",
-    kind: Kind::Words,
-    value: "",
-    help: "The --sock of another node; the node dials its peers one a round, in turn",
-};
-
-/// See [The budget](#the-budget).
-/// Greater: A round carries more. Each session takes more memory.
-/// Smaller: Catching up takes more rounds.
-const BUDGET: Part = Part {
-    name: "budget",
-    kind: Kind::NumberOr(Range::Within(BUDGET_LEAST, BUDGET_MOST), "65536"),
-    value: "B",
-    help: "The most bytes of a frame",
-};
-
-/// See [The order](#the-order).
-const ORDER: Part = Part {
-    name: "order",
-    kind: Kind::OneOf(&["breadth", "depth"], "breadth"),
-    value: "ORDER",
-    help: "Which writes go first if a frame has no room for all: one of each owner, or all of one owner",
-};
-
-/// A write after it is fault 8.
-/// Smaller: Only to try that fault.
-const MAX_VERSION: Part = Part {
-    name: "max-version",
-    kind: Kind::NumberOr(Range::Within(1, VERSION_MOST), "1099511627775"),
-    value: "V",
-    help: "The last version that the node gives",
-};
-
-/// Greater: More peers at a time. Each worker is a thread.
-/// Smaller: Silent peers keep others waiting sooner.
-const WORKERS: Part = Part {
-    name: "workers",
-    kind: Kind::NumberOr(Range::Within(1, WORKERS_MOST), "4"),
-    value: "W",
-    help: "How many connections of peers the node serves at once",
-};
-
-/// The seats beyond workers and 2 are for news: so many peers get it at a time. See [News](#news).
-/// Greater: More slow peers delay nobody else, in more threads.
-/// Smaller: With workers and 2, peers get news one after another. Less: Fault 5.
-pub(crate) const SEATS: Part = Part {
-    name: "seats",
-    kind: Kind::NumberElse(Range::Seats(SEATS_MOST), "workers, fanout and 2"),
-    value: "S",
-    help: "How many threads read and write the directory",
-};
-
-const ROUNDS: Part = Part {
-    name: "rounds",
-    kind: Kind::NumberOr(Range::Any, "0"),
-    value: "R",
-    help: "After how many rounds the node ends by itself, 0 for never",
-};
-
-/// Greater: Writes that a burst missed arrive later. Less work.
-/// Smaller: They arrive sooner, at more work. 0 is for tests: if no peer answers it keeps a processor busy.
-const PAUSE: Part = Part {
-    name: "pause",
-    kind: Kind::NumberOr(Range::Any, "1000"),
-    value: "MS",
-    help: "How many milliseconds the node waits after each round in turn",
-};
-
-/// To each it pushes what this peer may lack. See [News](#news).
-/// Greater: News is everywhere sooner, in more pushes.
-/// Smaller: With 0, news waits for the rounds in turn.
-const FANOUT: Part = Part {
-    name: "fanout",
-    kind: Kind::NumberOr(Range::Any, "3"),
-    value: "K",
-    help: "How many peers the node dials right away, side by side, if it has news, 0 for none",
-};
-
-/// A connection that has said nothing yet holds no worker.
-/// Greater: A peer that falls silent in its session holds a worker for longer.
-/// Smaller: A peer over a slow link is cut off.
-const IDLE: Part = Part {
-    name: "idle",
-    kind: Kind::NumberOr(Range::Any, "5000"),
-    value: "MS",
-    help: "After how many milliseconds without a byte the node ends a connection, 0 for never",
-};
-
-/// A peer that sends a byte now and then is ended by this alone.
-/// Greater: A slow peer holds a worker for longer.
-/// Smaller: A long session over a slow link is cut off.
-const SESSION: Part = Part {
-    name: "session",
-    kind: Kind::NumberOr(Range::Any, "60000"),
-    value: "MS",
-    help: "After how many milliseconds the node ends the session of a peer that has dialed, 0 for no limit",
-};
-
-/// A peer that made the node wait so long is passed over in its next seven turns. See
-/// [Silent peers and callers](#silent-peers-and-callers).
-/// Greater: A silent peer delays the dialing of the others for longer.
-/// Smaller: A peer over a slow link is cut off.
-const DIAL_IDLE: Part = Part {
-    name: "dial-idle",
-    kind: Kind::NumberOr(Range::Any, "2000"),
-    value: "MS",
-    help: "After how many milliseconds without a byte it gives up a peer that it dials, 0 for never",
-};
-
-/// A caller that is slow holds up nobody else. At most 1,024 wait at a socket; then the oldest that sent nothing is closed.
-/// Greater: A silent caller is closed later.
-/// Smaller: A slow caller is cut off.
-const REQUEST: Part = Part {
-    name: "request",
-    kind: Kind::NumberOr(Range::Any, "2000"),
-    value: "MS",
-    help: "How many milliseconds a request may take to arrive, and then the reading of its answer, 0 for no limit",
-};
-
-/// A read takes at most 4,096 bytes.
-/// Smaller: A peer that sends byte by byte is ended sooner. 10000 is ample for whole sessions.
-const MAX_READS: Part = Part {
-    name: "max-reads",
-    kind: Kind::NumberElse(Range::Any, "without limit"),
-    value: "M",
-    help: "How many reads a connection may take",
-};
-
-/// With exit the status is 3. See [A log that fails](#a-log-that-fails).
-const ON_LOG_FAULT: Part = Part {
-    name: "on-log-fault",
-    kind: Kind::OneOf(&["serve", "exit"], "serve"),
-    value: "WHAT",
-    help: "What the node does if it cannot write its log: goes on without writes, or ends",
-};
-
-/// See [Purging](OPERATING.md#purging).
-/// Greater: Keys run out sooner if many come and go.
-/// Smaller: Peers that were away take the whole table more often.
-const PURGE_REMOVALS: Part = Part {
-    name: "purge-removals",
-    kind: Kind::NumberOr(Range::Any, "1024"),
-    value: "N",
-    help: "With N tombstones or more the node drops them, all when it starts and the older half while it runs, 0 for never",
-};
-
-/// A node also audits each peer once, after the first round in which the peer answers. See [Audits](#audits).
-/// Greater: Two nodes under one name, or an older copy of a log, show later.
-/// Smaller: They show sooner. Each audit costs about as much as the rows of the name.
-const AUDIT: Part = Part {
-    name: "audit",
-    kind: Kind::NumberOr(Range::Any, "60000"),
-    value: "MS",
-    help: "After how many milliseconds the node compares again what a peer holds of its name with its log, 0 for never",
-};
-
-/// For how long the first write of a node waits for its peers, in milliseconds.
-const HEARING_MOST: u64 = 2_000;
-
-/// Without it the first write waits until the node has heard each peer, for two seconds at most. See [The first
-/// write](#the-first-write).
-const NO_WAIT: Part = Part {
-    name: "no-wait",
-    kind: Kind::Flag,
-    value: "",
-    help: "Takes writes at once, before the node has heard its peers",
-};
-
-/// It can be given 64 times, once for each name. The node shows no row of it, and nobody hears of one from this node. See [Owners
-/// used up](RUNBOOK.md#owners-used-up).
-const FORGET: Part = Part {
-    name: "forget",
-    kind: Kind::Values(FORGOTTEN_MOST, "none"),
-    value: "NAME",
-    help: "Takes no rows of this name, which is dead, from other nodes",
-};
-
-/// It is the time of UTC. For systems without a journal that adds it.
-const LOG_TIME: Part = Part {
-    name: "log-time",
-    kind: Kind::Flag,
-    value: "",
-    help: "Begins each line on standard error with the time",
-};
-
-/// The node writes it as a whole, at most once a second and when a peer changed, and removes it when it ends by itself. A
-/// file that exists there already has to be such a file, or empty. See [Metrics](#metrics).
-const METRICS: Part = Part {
-    name: "metrics",
-    kind: Kind::ValueElse("none"),
-    value: "FILE",
-    help: "The file in which the node reports how it is, in the text format of Prometheus",
-};
-
-/// With none the file stays small in a large cluster: a thousand nodes that hold each other make two million series.
-const METRICS_OWNERS: Part = Part {
-    name: "metrics-owners",
-    kind: Kind::OneOf(&["all", "none"], "all"),
-    value: "WHICH",
-    help: "Of which owners the file has the held version and the number of rows",
-};
-
-const METRICS_PEERS: Part = Part {
-    name: "metrics-peers",
-    kind: Kind::OneOf(&["all", "none"], "all"),
-    value: "WHICH",
-    help: "Of which peers the file has how the last round ended",
-};
-
-/// Whether an option says all.
-fn is_all(which: &str) -> bool {
-    matches!(which, "all")
-}
-
-/// What the command line gives for a node. `NoMemory`.
-pub(crate) fn serve_arguments<'a>(
-    alloc: Global,
-    given: &ArgMatches<'a>,
-) -> Result<ServeArguments<'a>, AllocError> {
-    Ok(ServeArguments {
-        name: NODE_NAME.value(given),
-        log: NODE_LOG.value(given),
-        settings: settings_of(given),
-        outside: first_outside(given, SERVE_TASK.parts),
-        sock: SOCK.value(given),
-        control: NODE_CONTROL.value(given),
-        peers: PEERS.values(alloc, given)?,
-        forgotten: FORGET.values(alloc, given)?,
-        pace: pace_of(given),
-        purge_removals: PURGE_REMOVALS.number(given),
-        has_time: LOG_TIME.is_given(given),
-        metrics: METRICS.value_if_any(given),
-        series: Series {
-            has_owners: is_all(METRICS_OWNERS.value(given)),
-            has_peers: is_all(METRICS_PEERS.value(given)),
-        },
-    })
-}
-
-/// How many seats so many workers and so many sessions for news have use for: two more, but not more than there may be.
-fn seats_for(workers: u64, fanout: u64) -> u64 {
-    let least = workers.saturating_add(2);
-    least.max(least.saturating_add(fanout).min(SEATS_MOST))
-}
-
-/// The settings of a node. Without `--seats` there is a seat for each worker, for each peer that is dialed at once for news, and
-/// two more. There are at most as many as there may be.
-fn settings_of<'a>(given: &ArgMatches<'a>) -> RawSettings<'a> {
-    let workers = WORKERS.number(given);
-    let order = match ORDER.value(given) {
-        "depth" => Order::Depth,
-        _ => Order::Breadth,
-    };
-    RawSettings {
-        cluster: NODE_CLUSTER.value(given).as_bytes(),
-        budget: BUDGET.number(given),
-        order,
-        max_version: MAX_VERSION.number(given),
-        seats: SEATS
-            .number_if_any(given)
-            .unwrap_or(seats_for(workers, FANOUT.number(given))),
-        workers,
-    }
-}
-
-fn pace_of(given: &ArgMatches<'_>) -> Pace {
-    let on_log_fault = match ON_LOG_FAULT.value(given) {
-        "exit" => OnLogFault::Exit,
-        _ => OnLogFault::Serve,
-    };
-    Pace {
-        rounds: ROUNDS.number(given),
-        pause: PAUSE.number(given),
-        fanout: FANOUT.number(given),
-        idle: IDLE.number(given),
-        session: SESSION.number(given),
-        dial_idle: DIAL_IDLE.number(given),
-        request: REQUEST.number(given),
-        max_reads: MAX_READS.number_if_any(given).unwrap_or(u64::MAX),
-        on_log_fault,
-        purge_removals: PURGE_REMOVALS.number(given),
-        audit: AUDIT.number(given),
-        hearing: if NO_WAIT.is_given(given) {
-            0
-        } else {
-            HEARING_MOST
-        },
-    }
-}
-
-const SERVE_TASK: Task = Task {
-    name: "serve",
-    about: "Runs a node",
-    more: help::SERVE,
-    parts: &[
-        NODE_NAME,
-        NODE_CLUSTER,
-        NODE_LOG,
-        SOCK,
-        NODE_CONTROL,
-        PEERS,
-        BUDGET,
-        ORDER,
-        MAX_VERSION,
-        WORKERS,
-        SEATS,
-        ROUNDS,
-        PAUSE,
-        FANOUT,
-        IDLE,
-        SESSION,
-        DIAL_IDLE,
-        REQUEST,
-        MAX_READS,
-        ON_LOG_FAULT,
-        PURGE_REMOVALS,
-        AUDIT,
-        NO_WAIT,
-        FORGET,
-        LOG_TIME,
-        METRICS,
-        METRICS_OWNERS,
-        METRICS_PEERS,
-    ],
-};
-
 const SET_TASK: Task = Task {
     name: "set",
     about: "Has a node write a value under a key, or what lines of standard input say",
@@ -679,7 +354,10 @@ const WATCH_TASK: Task = Task {
     name: "watch",
     about: "Asks a node again and again, and prints what changed",
     more: help::WATCH,
-    parts: &[CONTROL, OWNER, PREFIX, EVERY, COUNT, MARK, RETRY],
+    parts: &[
+        CONTROL, OWNER, PREFIX, EVERY, COUNT, MARK, RETRY, HOLD, ROWS_FLOOR, SETTLE, LISTINGS,
+        RENDER, TO,
+    ],
 };
 
 const OWNERS_TASK: Task = Task {
@@ -790,6 +468,6 @@ pub(crate) fn lacks_control(given: &ArgMatches<'_>, command: &str) -> bool {
 }
 
 /// The place of the first of these options that was given a number outside its range.
-fn first_outside(given: &ArgMatches<'_>, parts: &[Part]) -> Option<FaultPlace<'static>> {
+pub(crate) fn first_outside(given: &ArgMatches<'_>, parts: &[Part]) -> Option<FaultPlace<'static>> {
     Some(parts.iter().find(|part| part.is_outside(given))?.place())
 }

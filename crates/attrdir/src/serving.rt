@@ -1,11 +1,11 @@
 //! The command that runs a node.
-use crate::commands::SEATS;
 use crate::console::{Console, Shortage};
 use crate::failure::{Failure, FaultPlace};
 use crate::log_file::{StartPurge, error_of, has_folder, open_log, purge_removals};
 use crate::log_watch::LogWatch;
 use crate::metrics::Series;
 use crate::metrics_file::{MetricsFile, may_replace, writes_over};
+use crate::serve_command::SEATS;
 use crate::troubles::TroubleLines;
 use crate::words::name_of;
 use jiff::Timestamp;
