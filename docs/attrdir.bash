@@ -7,8 +7,8 @@ _attrdir() {
 
   # what is completed, by tools/options
   local commands='serve set del get watch status owners log purge begin restore sim'
-  local flags='--no-wait --log-time --raw --value --ages --mark --retry --all --explain --help --version -h -V --'
-  local paths='--log --sock --control --metrics --ages-from --from --from-control'
+  local flags='--no-wait --log-time --raw --value --ages --mark --retry --listings --all --explain --help --version -h -V --'
+  local paths='--log --sock --control --metrics --render --to --ages-from --from --from-control'
   local -A values_of=(
     [--order]='breadth depth'
     [--on-log-fault]='serve exit'
@@ -21,7 +21,7 @@ _attrdir() {
     [set]='--control --raw --help'
     [del]='--control --help'
     [get]='--control --owner --prefix --key --value --raw --max-age --ages --format --help'
-    [watch]='--control --owner --prefix --every --count --mark --retry --help'
+    [watch]='--control --owner --prefix --every --count --mark --retry --hold --floor --settle --listings --render --to --help'
     [status]='--control --wait --format --help'
     [owners]='--sock --cluster --name --ages-from --help'
     [log]='--log --name --cluster --help'

@@ -180,7 +180,10 @@ def client_statuses(check):
     folder = check.folder()
     other = check.node("b", folder=folder).start()
     peers = [other.sock, *(folder / f"{at:03}{'p' * 40}.sock" for at in range(30))]
-    node = check.node("a", "--budget", "1024", "--pause", "60000", folder=folder, peers=peers).start()
+    silent = socket.socket(socket.AF_UNIX)
+    silent.bind(str(peers[-1]))
+    silent.listen(8)
+    node = check.node("a", "--budget", "1024", "--pause", "60000", "--dial-idle", "60000", folder=folder, peers=peers).start()
     asked, end = client_of(node), time.monotonic() + SECONDS
     asked.set("k", "weight", 5), asked.set("l", "weight", 6), asked.delete("l")
     moving = ("uptime", "workers_busy")
@@ -194,6 +197,7 @@ def client_statuses(check):
     want("its members", sorted(found), sorted(printed))
     want("its figures", (found["keys"], found["removals"], found["ready"], found["log_fault"], len(found["peers"])), (2, 1, False, None, 31))
     want("its first peers", [it["state"] for it in found["peers"][:2]], ["answers", "unreachable"])
+    silent.close()
     want("the status of a node that is ready", (client_of(other).status()["ready"], client_of(other).status()["peers"]), (True, []))
     want("what it prints", json.loads(command(other, "status")[1])["node"], "b")
 

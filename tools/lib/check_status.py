@@ -1,11 +1,13 @@
 """The parts of tools/check-node that ask nodes how they are: `attrdir status`, and its messages by hand."""
 import json
+import socket
 import subprocess
 import time
 
 from nodes import BYE, REFUSED, SECONDS, Difference, Reader, connect, delta, exchange, frame, hello, number, read_frame, throw, want, weight
 
 ASK_STATUS, NODE_STATUS = 0x15, 0x16
+UNREACHABLE, UNREADABLE = 2, 4
 
 
 def ask_status(after=0):
@@ -54,22 +56,25 @@ def statuses(check):
     """A node tells how it is in lines, in JSON and in frames, and is ready once each of its peers has had a round."""
     folder = check.folder()
     other = check.node("b", folder=folder).start()
-    dead = folder / "nobody.sock"
-    node = check.node("a", "--pause", "300", folder=folder, peers=[other.sock, dead]).start()
-    want("its status at the start", status_of(node)[1]["ready"], False)
+    dead, late = folder / "nobody.sock", folder / "late.sock"
+    with socket.socket(socket.AF_UNIX, socket.SOCK_STREAM) as silent:
+        silent.bind(str(late))
+        silent.listen()
+        node = check.node("a", "--pause", "300", "--dial-idle", "30000", folder=folder, peers=[other.sock, dead, late]).start()
+        want("its status beside a silent peer", status_of(node)[1]["ready"], False)
     node.put("k", 5), node.put("l", 6)
     want("a removal", node.command("del", "l")[0], 0)
     want("its exit status", node.command("status", "--wait", "10000")[0], 0)
     found = awaits_status(node, lambda it: it["peers"][1]["state"] == "unreachable")
     told = {it: found[it] for it in ("ready", "node", "cluster", "caught_up", "log_fault", "conflict", "version", "keys", "removals", "owners")}
     want("its figures", told, {"ready": True, "node": "a", "cluster": "c", "caught_up": True, "log_fault": None, "conflict": None, "version": 3, "keys": 2, "removals": 1, "owners": 1})
-    want("its peers", [(it["path"], it["state"]) for it in found["peers"]], [(str(other.sock), "answers"), (str(dead), "unreachable")])
+    want("its peers", [(it["path"], it["state"]) for it in found["peers"]], [(str(other.sock), "answers"), (str(dead), "unreachable"), (str(late), "unreadable")])
     status, printed, said = node.command("status")
     words, peers = words_of(printed)
-    want("its lines", (status, said, words["ready"], words["caught_up"], words["log_fault"], words["keys"], words["peers"]), (0, "", "yes", "yes", "none", "2", "2"))
-    want("its peers in lines", peers, [["answers", str(other.sock)], ["unreachable", str(dead)]])
+    want("its lines", (status, said, words["ready"], words["caught_up"], words["log_fault"], words["keys"], words["peers"]), (0, "", "yes", "yes", "none", "2", "3"))
+    want("its peers in lines", peers, [["answers", str(other.sock)], ["unreachable", str(dead)], ["unreadable", str(late)]])
     more, name, cluster, release, figures, peers = read_status(exchange(node.control, ask_status(1)))
-    want("its frame", (more, name, cluster, release, figures[2], figures[6], [it[:2] for it in peers]), (0, "a", "c", found["release"], 1, 2, [(str(dead), 2)]))
+    want("its frame", (more, name, cluster, release, figures[2], figures[6], [it[:2] for it in peers]), (0, "a", "c", found["release"], 1, 2, [(str(dead), UNREACHABLE), (str(late), UNREADABLE)]))
     # a node that dials nobody
     want("its status without peers", (status_of(other)[0], status_of(other)[1]["peers"]), (0, []))
 

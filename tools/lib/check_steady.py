@@ -72,7 +72,7 @@ def steady_end(check):
     """A node with --rounds ends although somebody writes all the time."""
     folder = check.folder()
     other = check.node("b", "--pause", "100", folder=folder).start()
-    node = check.node("a", "--rounds", "10", "--pause", "50", folder=folder, peers=[other.sock]).start()
+    node = check.node("a", "--rounds", "40", "--pause", "50", folder=folder, peers=[other.sock]).start()
     with steady_writes(node) as versions:
         until("the end of a node", lambda: node.ran.poll() is not None)
     want("its status", node.ran.poll(), 0)

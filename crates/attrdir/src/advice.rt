@@ -53,6 +53,7 @@ fn about_reading(place: FaultPlace<'_>) -> &'static str {
         FaultPlace::Taken(_) => "give another path, or remove the file",
         FaultPlace::Listening(_) => "end the node that listens there, or give another path",
         FaultPlace::TooLong(_) | FaultPlace::Peer(_) => SHORTER_PATH,
+        FaultPlace::Template(_) => "give the path of a file of UTF-8 that you may read",
         FaultPlace::NoFolder(_) => MAKE_FOLDER,
         FaultPlace::Forbidden(_) => {
             "the node needs write permission on the folder of this path, and x on each folder above it: correct that, or give another path"
@@ -218,9 +219,16 @@ a copy helps only if the node has written nothing since"
     }
 }
 
+/// What a template can have.
+const PLACEHOLDERS: &str =
+    "write {{owner}}, {{KEY}}, {{KEY:host}}, {{KEY:port}}, each but the first also with |WORD before }}, or {{KEY=WORD}}";
+
 /// What to do about a fault that is not one of a session as a peer.
 fn about_fault(fault: &Fault, place: FaultPlace<'_>) -> &'static str {
     match fault {
+        Fault::BadKey | Fault::BadSetting if matches!(place, FaultPlace::Template(_)) => {
+            PLACEHOLDERS
+        }
         Fault::NoMemory => {
             "end other programs, or give the machine or the process more memory or threads, and try again"
         }

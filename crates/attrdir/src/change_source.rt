@@ -9,8 +9,11 @@ use std::os::unix::net::UnixStream;
 /// For how many milliseconds a node is asked to wait for a change.
 const WAIT: u64 = 10_000;
 
-/// How many seconds a watch waits for its node at the most. That is longer than the node was asked to wait.
-const SECONDS_MOST: u64 = 20;
+/// After how many milliseconds of waiting for its node a watch looks at the socket again.
+const LISTEN_TIME: u64 = 1_000;
+
+/// How often it looks at the most. That takes longer than the node was asked to wait.
+const LOOKS_MOST: u64 = 20;
 
 /// After how many pauses a node that reports no changes is asked again whether it does.
 const PAUSES_WITHOUT: u64 = 25;
@@ -87,8 +90,9 @@ impl<'r, 'a> ChangeSource<'r, 'a> {
         }
     }
 
-    /// Waits until something may have changed since `begin`. `WriteFailed` if standard output is closed.
-    pub(crate) fn wait(&mut self) -> Result<(), Fault> {
+    /// Waits until something may have changed since `begin`, and not long if time alone may change something.
+    /// `WriteFailed` if standard output is closed.
+    pub(crate) fn wait(&mut self, waits_for_time: bool) -> Result<(), Fault> {
         let told = self.told.take();
         let pause = match &told {
             Some(_) => self.pace.every,
@@ -98,8 +102,20 @@ impl<'r, 'a> ChangeSource<'r, 'a> {
             return Err(Fault::WriteFailed(0));
         }
         match told {
+            Some(told) if waits_for_time => self.wait_shortly(&told),
             Some(told) => self.wait_for(&told),
             None => Ok(()),
+        }
+    }
+
+    /// Waits as long as if the node reported no changes, or until it says something.
+    fn wait_shortly(&mut self, told: &Told) -> Result<(), Fault> {
+        if !self.pauses.listen_to(&told.stream) {
+            return Ok(());
+        }
+        match self.pauses.listen(self.rt, self.pace.untold) {
+            Wake::OutputClosed => Err(Fault::WriteFailed(0)),
+            Wake::Told | Wake::Silent => Ok(()),
         }
     }
 
@@ -108,8 +124,8 @@ impl<'r, 'a> ChangeSource<'r, 'a> {
         if !self.pauses.listen_to(&told.stream) {
             return Ok(());
         }
-        for _ in 0..SECONDS_MOST {
-            match self.pauses.listen(self.rt) {
+        for _ in 0..LOOKS_MOST {
+            match self.pauses.listen(self.rt, LISTEN_TIME) {
                 Wake::OutputClosed => return Err(Fault::WriteFailed(0)),
                 Wake::Told => return Ok(()),
                 Wake::Silent => {

@@ -3,17 +3,21 @@ use crate::arguments::command;
 use crate::asking::{AgeQuery, RowFormat, ages_of, print_all, put};
 use crate::batch::write_lines;
 use crate::beginning::{Start, begin_log};
+use crate::care::Caution;
+use crate::careful::{CarefulWatch, View};
 use crate::change_source::WatchPace;
 use crate::commands::{
     AFTER, AGES, AGES_FROM, ALL, ASKED_CONTROL, ASKED_SOCK, ASKING_NAME, CONTROL, COUNT, EVERY,
-    EXPLAIN, FLOOR, FORMAT, FROM, KEY, KIND, LOG, LOG_CLUSTER, LOG_NAME, MARK, MAX_AGE, ONE_KEY,
-    OWNER, PEER_SOCK, PREFIX, RAW, RAW_VALUE, REMOVED_KEY, RETRY, STATUS_FORMAT, VALUE,
-    VALUE_ALONE, WAIT, lacks_control, repeated_option, wrong_number,
+    EXPLAIN, FLOOR, FORMAT, FROM, HOLD, KEY, KIND, LISTINGS, LOG, LOG_CLUSTER, LOG_NAME, MARK,
+    MAX_AGE, ONE_KEY, OWNER, PEER_SOCK, PREFIX, RAW, RAW_VALUE, REMOVED_KEY, RENDER, RETRY,
+    ROWS_FLOOR, SETTLE, STATUS_FORMAT, TO, VALUE, VALUE_ALONE, WAIT, first_outside, lacks_control,
+    repeated_option, wrong_number,
 };
 use crate::failure::Failure;
 use crate::log_file::{Floor, print_log, purge_log};
 use crate::one_row::{Portion, RowQuery, print_one};
 use crate::owners::print_owners;
+use crate::rendered_file::{RenderedFile, read_template};
 use crate::restoring::{AskedNode, restore_log};
 use crate::serve_command::serve_arguments;
 use crate::serving::ServeArguments;
@@ -262,6 +266,42 @@ fn watch_pace_of(given: &ArgMatches<'_>) -> WatchPace {
     }
 }
 
+/// How a watch shows rows. The faults of `read_template`.
+fn view_of<'a>(rt: &HostRuntime, given: &ArgMatches<'a>) -> Result<View<'a>, Failure<'a>> {
+    match RENDER.value_if_any(given) {
+        Some(template) => {
+            let template = read_template(rt, template)?;
+            Ok(View::File(RenderedFile::new(template, TO.value(given))))
+        }
+        None if LISTINGS.is_given(given) => Ok(View::Listings),
+        None => Ok(View::Changes),
+    }
+}
+
+/// How careful a watch is.
+fn caution_of(given: &ArgMatches<'_>) -> Caution {
+    Caution {
+        hold: HOLD.number(given).saturating_mul(1_000),
+        floor: ROWS_FLOOR.number(given),
+        settle: SETTLE.number(given),
+    }
+}
+
+/// A careful watch, if one is asked for. `BadSetting` of a number outside its range; the faults of `view_of`.
+fn careful_of<'a>(
+    rt: &HostRuntime,
+    given: &ArgMatches<'a>,
+) -> Result<Option<CarefulWatch<'a>>, Failure<'a>> {
+    if let Some(place) = first_outside(given, &[ROWS_FLOOR]) {
+        return Err(Failure::at(place, Fault::BadSetting));
+    }
+    let caution = caution_of(given);
+    match view_of(rt, given)? {
+        View::Changes if caution.is_none() => Ok(None),
+        view => Ok(Some(CarefulWatch::new(rt, caution, view))),
+    }
+}
+
 fn run_watch<'a>(rt: &HostRuntime, given: &ArgMatches<'a>) -> Result<u8, Failure<'a>> {
     let query = WatchQuery {
         asked: asked_of(given)?,
@@ -269,8 +309,9 @@ fn run_watch<'a>(rt: &HostRuntime, given: &ArgMatches<'a>) -> Result<u8, Failure
         count: COUNT.number(given),
         prints_asked: MARK.is_given(given),
     };
-    if RETRY.is_given(given) {
-        watch_on(rt, CONTROL.value(given), &query)?;
+    let careful = careful_of(rt, given)?;
+    if RETRY.is_given(given) || careful.is_some() {
+        watch_on(rt, CONTROL.value(given), &query, careful)?;
     } else {
         watch(rt, CONTROL.value(given), &query)?;
     }

@@ -186,6 +186,60 @@ pub(crate) const RETRY: Part = Part {
     help: "Goes on if the node does not answer, and keeps its rows",
 };
 
+/// Its first line comes no sooner after it began than this time, since an earlier watch may have shown rows that have not come yet.
+/// Greater: A row that comes back in time is not missed.
+/// Smaller: With 0, a row that the node no longer shows is gone at once.
+pub(crate) const HOLD: Part = Part {
+    name: "hold",
+    kind: Kind::NumberOr(Range::Any, "0"),
+    value: "S",
+    help: "For how many seconds a row stays that went",
+};
+
+/// Rows whose time of --hold is over go together, and if too few would be left, none of them goes.
+/// Greater: Fewer rows can go within an hour.
+/// Smaller: With 0, all rows can go at once.
+pub(crate) const ROWS_FLOOR: Part = Part {
+    name: "floor",
+    kind: Kind::NumberOr(Range::Within(0, 100), "0"),
+    value: "PERCENT",
+    help: "Keeps at least this part of the most rows that the node showed in the last hour",
+};
+
+/// Greater: Changes that belong together are shown together, and later.
+/// Smaller: With 0, each asking shows what changed.
+pub(crate) const SETTLE: Part = Part {
+    name: "settle",
+    kind: Kind::NumberOr(Range::Any, "0"),
+    value: "MS",
+    help: "For how many milliseconds after a change it gathers more changes",
+};
+
+/// Left out: a line for each change
+pub(crate) const LISTINGS: Part = Part {
+    name: "listings",
+    kind: Kind::Flag,
+    value: "",
+    help: "Prints all rows in one line of JSON after each change",
+};
+
+/// Left out: nothing is written
+pub(crate) const RENDER: Part = Part {
+    name: "render",
+    kind: Kind::ValueBeside("to", "listings"),
+    value: "TEMPLATE",
+    help: "Writes the rows into a file, as this template has them; needs --to",
+};
+
+/// It is replaced as a whole.
+/// Left out: nothing is written
+pub(crate) const TO: Part = Part {
+    name: "to",
+    kind: Kind::ValueBeside("render", "listings"),
+    value: "FILE",
+    help: "The file that --render writes",
+};
+
 pub(crate) const PEER_SOCK: Part = Part {
     name: "sock",
     kind: Kind::Needed,
@@ -334,7 +388,10 @@ const WATCH_TASK: Task = Task {
     name: "watch",
     about: "Asks a node again and again, and prints what changed",
     more: help::WATCH,
-    parts: &[CONTROL, OWNER, PREFIX, EVERY, COUNT, MARK, RETRY],
+    parts: &[
+        CONTROL, OWNER, PREFIX, EVERY, COUNT, MARK, RETRY, HOLD, ROWS_FLOOR, SETTLE, LISTINGS,
+        RENDER, TO,
+    ],
 };
 
 const OWNERS_TASK: Task = Task {

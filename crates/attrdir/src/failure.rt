@@ -107,6 +107,8 @@ pub(crate) enum FaultPlace<'a> {
     Peer(&'a str),
     /// At one of the two sockets that a node makes.
     Sockets(&'a str, &'a str),
+    /// In a template, or at its path.
+    Template(&'a str),
     /// At the path for metrics, because something else is there.
     Metrics(&'a str),
     /// At the path for metrics, because it is also that of the node's log or of a socket.
@@ -122,7 +124,7 @@ pub(crate) struct Failure<'a> {
     place: FaultPlace<'a>,
     /// Why the store of a log failed, if that is known.
     cause: Option<StoreCause>,
-    /// The line of standard input, counted from 1. 0 if it was met at no line.
+    /// The line of standard input or of a template, counted from 1. 0 if it was met at no line.
     line: u64,
 }
 
@@ -161,7 +163,7 @@ impl<'a> Failure<'a> {
         }
     }
 
-    /// The same, met at a line of standard input.
+    /// The same, met at a line of standard input or of a template.
     pub(crate) fn in_line(self, line: u64) -> Failure<'a> {
         Failure {
             fault: self.fault,
@@ -205,6 +207,7 @@ impl From<Fault> for Failure<'_> {
 fn text_of_reading(place: FaultPlace<'_>) -> Option<&'static str> {
     Some(match place {
         FaultPlace::Control(_) | FaultPlace::Session(_) => "the node ended the connection",
+        FaultPlace::Template(_) => "the template could not be read",
         FaultPlace::Peer(_) => "a peer can never be reached: this cannot be the path of a socket",
         FaultPlace::Taken(_) => {
             "a socket could not be made: a file that is not a socket is at its path"
@@ -252,6 +255,9 @@ fn closer_text(fault: &Fault, place: FaultPlace<'_>) -> Option<&'static str> {
         (Fault::ReadFailed, _) => text_of_reading(place),
         (Fault::WriteFailed(_), _) => text_of_writing(place),
         (Fault::StoreFailed, _) => text_of_store(place),
+        (Fault::BadSetting | Fault::BadKey, FaultPlace::Template(_)) => Some(
+            "the template has something else than a placeholder after {{",
+        ),
         (Fault::LogDamaged, _) => Some(
             "the file is not a log that this release reads, or it is damaged",
         ),
@@ -336,6 +342,7 @@ impl fmt::Display for FaultPlace<'_> {
             FaultPlace::Metrics(path) | FaultPlace::MetricsOver(path) => {
                 write!(f, "metrics {path}: ")
             }
+            FaultPlace::Template(path) => write!(f, "template {path}: "),
             FaultPlace::MetricsNowhere => f.write_str("metrics : "),
         }
     }

@@ -421,10 +421,29 @@ answers again. A node that was started again may know less for a while. So the c
 with the same version or a later one. Only rows that it asks for count. It never prints a row with an earlier version than before. --count counts
 the askings that the node answered.
 
+With --hold, --floor, --settle, --listings or --render it is careful. It goes on as with --retry, and takes no rows before the node is caught up, as
+`attrdir status` reports. It shows nothing before there is a row. A row that went stays for --hold, and changes are gathered for --settle. Rows that went
+stay longer if fewer than --floor would be left without them. It reports that on standard error.
+
+With --listings it prints all rows after each change, in one line: a JSON array with an object for each row, as `attrdir get --format json` prints it.
+
+With --render it writes FILE from TEMPLATE after each change of its text. It prints a line `written ROWS` each time. A file beside it, with .new after its
+name, replaces FILE as a whole. If that fails it says so, and tries again after longer and longer pauses. In TEMPLATE a line without placeholders stays
+as it is. A line with placeholders is written once for each owner that has all of them:
+  {{owner}}                   the name of the owner
+  {{KEY}}                     the value under this key, {{KEY:host}} and {{KEY:port}} the parts of an address
+  {{KEY|WORD}}                the value, or this word if the owner has none; also {{KEY:port|WORD}}
+  {{KEY=WORD}}                nothing, and the line is only for owners with this value
+An owner has no such line if the value has another byte than letters, digits and . : / _ - [ ] @ % + , =
+
 The exit status is 0 after the last of --count, 2 after a wrong command line, and 3 after a fault.
 
 Example, in which a second terminal writes and then removes a weight:
   $ attrdir watch --control a.ctl --prefix web/
   set a web/addr 1 addr 10.0.0.1:80
   set a web/weight 2 weight 5
-  gone a web/weight";
+  gone a web/weight
+
+Example of a command that runs each time that the file was written:
+  $ echo '{{owner}} {{web/addr}}' > map.template
+  $ attrdir watch --control a.ctl --render map.template --to web.map --hold 10 --floor 50 | while read -r _; do systemctl reload haproxy; done";

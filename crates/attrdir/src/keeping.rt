@@ -11,7 +11,7 @@ use std::alloc::Global;
 use std::cmp::Ordering;
 
 /// The order of two rows, by owner and then by key.
-fn place_order(one: &Row, other: &Row) -> Ordering
+pub(crate) fn place_order(one: &Row, other: &Row) -> Ordering
     ensures { result ≡ changes.place_order one.now other.now }
 {
     let owners = one.owner().bytes().cmp(other.owner().bytes());

@@ -21,6 +21,8 @@
 //! - `serve` prints nothing when keys or owners run out. The tests of `sb_run` and `tools/check-node` refuse it.
 //! - `watch --retry` enters wrongly what a node has shown and what it printed (`enter_shown`, `enter_printed`). It then
 //!   prints a row as gone, keeps it or holds it back. `tools/check-node` refuses it.
+//! - `watch` with care shows rows at another time, takes rows of a node that is not caught up, reads a template wrongly, or
+//!   writes another file. `tools/check-node` refuses it.
 //! - `--help` prints another text. `tools/check-help` compares options and defaults. Nothing refuses other words.
 #![tactic(auto)]
 
@@ -30,6 +32,8 @@ mod arguments;
 mod asking;
 mod batch;
 mod beginning;
+mod care;
+mod careful;
 mod change_source;
 mod command_line;
 mod commands;
@@ -51,11 +55,14 @@ mod part;
 mod pausing;
 mod reaches;
 mod release;
+mod rendered_file;
+mod rendering;
 mod restoring;
 mod serve_command;
 mod serving;
 mod socket_stamp;
 mod status;
+mod template;
 mod troubles;
 mod watching;
 mod words;

@@ -34,17 +34,12 @@ impl<'a> MetricsFile<'a> {
         self.path
     }
 
-    /// Writes the file as a whole: it writes another file beside it, which then replaces it. If that fails, the old
-    /// file stays, and nothing is left beside it.
+    /// Writes the file as a whole. If that fails, the old file stays.
     pub(crate) fn write(&self, rt: &HostRuntime, metrics: &Metrics<'_, '_>) -> io::Result<()> {
-        let beside = format!(in rt.alloc(); "{}{}", self.path, BESIDE)?;
         let text = format!(in rt.alloc(); "{metrics}")?;
-        let replaced = replace(rt, self.path, beside.as_str(), text.as_str());
-        match replaced {
-            Ok(()) => self.is_own.store(true, Ordering::SeqCst),
-            Err(_) => {
-                let _ = fs::remove_file(rt, beside.as_str());
-            }
+        let replaced = replace(rt, self.path, text.as_bytes());
+        if replaced.is_ok() {
+            self.is_own.store(true, Ordering::SeqCst);
         }
         replaced
     }
@@ -64,9 +59,20 @@ impl<'a> MetricsFile<'a> {
 }
 
 /// Writes a text to a file beside the one at a path, and then replaces that one by it.
-fn replace(rt: &HostRuntime, path: &str, beside: &str, text: &str) -> io::Result<()> {
+fn replace_by(rt: &HostRuntime, path: &str, beside: &str, text: &[u8]) -> io::Result<()> {
     fs::write(rt, beside, text)?;
     fs::rename(rt, beside, path)
+}
+
+/// Writes a file as a whole: it writes another file beside it, which then replaces it. If that fails, the old file stays,
+/// and nothing is left beside it.
+pub(crate) fn replace(rt: &HostRuntime, path: &str, text: &[u8]) -> io::Result<()> {
+    let beside = format!(in rt.alloc(); "{path}{BESIDE}")?;
+    let replaced = replace_by(rt, path, beside.as_str(), text);
+    if replaced.is_err() {
+        let _ = fs::remove_file(rt, beside.as_str());
+    }
+    replaced
 }
 
 /// Whether the file at a path is empty, or begins as metrics do.

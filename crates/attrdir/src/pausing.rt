@@ -16,9 +16,6 @@ const OUTPUT: Token = Token(0);
 /// The token of a connection to a node.
 const NODE: Token = Token(1);
 
-/// How long one call of `listen` waits.
-const LISTEN_SECONDS: u64 = 1;
-
 /// How a watch waits, and whether standard output is closed. A watch waits for a whole pause after each asking, and not by
 /// the clock. So its askings never crowd.
 #[derive(Drop)]
@@ -92,9 +89,10 @@ impl Pauses {
         }
     }
 
-    /// Waits for a second, or until something comes over the connection of `listen_to`, or until standard output is closed.
-    pub(crate) fn listen(&mut self, rt: &HostRuntime) -> Wake {
-        let longest = Duration::from_secs(LISTEN_SECONDS);
+    /// Waits for so many milliseconds, or until something comes over the connection of `listen_to`, or until standard
+    /// output is closed.
+    pub(crate) fn listen(&mut self, rt: &HostRuntime, milliseconds: u64) -> Wake {
+        let longest = Duration::from_millis(milliseconds);
         let Some(poll) = &mut self.poll else {
             thread::sleep(rt, longest);
             return Wake::Silent;

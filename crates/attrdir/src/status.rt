@@ -45,6 +45,12 @@ pub(crate) fn ask_identity<'a>(
     Ok(*status.identity())
 }
 
+/// Asks whether a node is caught up.
+pub(crate) fn is_caught_up<'a>(rt: &HostRuntime, control: &'a str) -> Result<bool, Failure<'a>> {
+    let status = page_of(rt, control, 0)?;
+    Ok(status.figure(FigureKind::CaughtUp) == Some(1))
+}
+
 /// Asks how a node is until all of its peers have come. `Malformed(KIND_NODE_STATUS)` too, if an answer has no peer although more follow.
 fn ask_whole<'a>(rt: &HostRuntime, control: &'a str) -> Result<WholeStatus, Failure<'a>> {
     let head = page_of(rt, control, 0)?;

@@ -52,13 +52,13 @@ impl<R: Wait + Abort> Observer for States<'_, R> {
     fn conflict(&self, _version: u64) {}
 }
 
-/// Tests that the node reported these peers and no others, in this order.
+/// Tests that the node reported these peers and no others, in some order: each was dialed by a thread of its own.
 fn reported_these<R: Wait + Abort>(states: &States<R>, wanted: &[(Option<u8>, PeerState)]) {
     let all = states.all.lock(states.rt);
     holds(
         states.rt,
         "each peer is reported once",
-        all.as_slice() == wanted,
+        all.len() == wanted.len() && wanted.iter().all(|one| all.contains(one)),
     );
 }
 
@@ -79,8 +79,8 @@ fn serve_next_as(
     (ended, of_b.upto(&name(rt, b"a")))
 }
 
-/// Is dialed by the first listener, and says nothing there. Then a write of the owner: what it does at the other two, and
-/// whether it was there within a second.
+/// Is dialed by all three listeners, and says nothing at the first. Then a write of the owner: what it does at the other two,
+/// and whether it was there within a second.
 fn hear_beside_a_silent_peer<R: Net + Clock + Abort>(
     rt: &R,
     alloc: Global,
@@ -89,6 +89,8 @@ fn hear_beside_a_silent_peer<R: Net + Clock + Abort>(
 ) -> ([(Ended, u64); 2], bool) {
     let [silent, first, second] = listeners;
     let unanswered = next_of(rt, silent);
+    let rounds = [serve_next(rt, alloc, first), serve_next(rt, alloc, second)];
+    same(rt, &rounds, &[(Ended::Bye(1), 0), (Ended::Bye(1), 0)]);
     let began = got(rt, Instant::now(rt));
     holds(rt, "the write is done", put_is_done(rt, control));
     let ends = [serve_next(rt, alloc, first), serve_next(rt, alloc, second)];

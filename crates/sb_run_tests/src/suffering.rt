@@ -15,6 +15,7 @@ use std::net::{Net, Shutdown, TcpListener, TcpStream};
 use std::os::unix::net::UnixListener;
 use std::process::Abort;
 use std::sync::{Mutex, Wait};
+use std::time::{Clock, Duration};
 use std::{fs, thread};
 
 /// The Hello of b, as frames of version 2 have it.
@@ -124,8 +125,8 @@ fn is_refused<R: Net + Abort>(rt: &R, control: &str) -> bool {
 }
 
 /// Plays a peer of another version, and an owner who writes twice. (The node has counted the first write once it answers the
-/// second.) Then b ends the round.
-fn disturb<R: Net + Abort>(
+/// second.) Once the worker had time to be free again, b ends the round.
+fn disturb<R: Net + Clock + Abort>(
     rt: &R,
     alloc: Global,
     listener: &UnixListener,
@@ -137,6 +138,7 @@ fn disturb<R: Net + Abort>(
         is_refused(rt, paths.control),
         is_refused(rt, paths.control),
     ];
+    thread::sleep(rt, Duration::from_millis(200));
     talk(rt, alloc, &mut silent_b(rt, alloc), &dialed, None);
     done
 }

@@ -11,3 +11,13 @@ pub returns-in_err-finished-clause-fault : goal.returns-in_err-finished-clause-f
 returns-in_err-finished-clause-fault g c =
     let p = err_from_is_err_and c.from_residual-in_err-finished.result c.from_residual-in_err-finished.ensures.1 in
     rw (p.1, p.2) (inl c.in_err-finished.ensures.fault)
+
+pub returns-in_err-bell-clause-fault : goal.returns-in_err-bell-clause-fault
+returns-in_err-bell-clause-fault g c =
+    let p = err_from_is_err_and c.from_residual-in_err-bell.result c.from_residual-in_err-bell.ensures.1 in
+    rw (p.1, p.2) (inl (inl c.in_err-bell.ensures))
+
+pub returns-in_err-hearing-clause-fault : goal.returns-in_err-hearing-clause-fault
+returns-in_err-hearing-clause-fault g c =
+    let p = err_from_is_err_and c.from_residual-in_err-hearing.result c.from_residual-in_err-hearing.ensures.1 in
+    rw (p.1, p.2) (inl (inl c.in_err-hearing.ensures.memory))
