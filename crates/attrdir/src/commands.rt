@@ -1,4 +1,4 @@
-//! The commands, and their options and words: what the command line can contain, and where the values go.
+//! The commands, with their options and words: what the command line can contain.
 //!
 //! An option is described once: here, or in `serve_command.rt` if it is one of `serve`. From its `Part` come its parsing, its
 //! default, its limits and its help. `tools/options` writes the same into `docs/attrdir.1`, `docs/attrdir.bash` and

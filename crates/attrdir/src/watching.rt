@@ -289,9 +289,9 @@ impl<'a> PrintedRows<'a> {
 
 /// Does what `watch` does, and goes on if the node does not answer. What was printed stays.
 ///
-/// It prints that a row is gone only if the node knows it. The node knows it if at an earlier asking,
-/// since its last start, it has shown that owner by a row of the same version or a later one. It does not print a row of an earlier
-/// version than it printed before. It ends after `count` askings that were answered.
+/// It prints that a row is gone only if the node knows it. The node knows it if it showed a row of that owner with the same
+/// version or a later one, at an earlier asking since its last start. It does not print a row of an earlier version than
+/// it printed before. It ends after `count` askings that were answered.
 ///
 /// If the watch is careful, it takes no rows before the node is caught up.
 pub(crate) fn watch_on<'a>(

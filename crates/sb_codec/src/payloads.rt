@@ -23,8 +23,8 @@ pub fn one_payload_each()
     ensures found { (payload : List ℕ) (message : Message) → AreBytes payload → reading payload ≡ Ok message → Spells payload message }
 {}
 
-/// How many bytes a payload has, its kind included: of a delta, a digest, a page of rows, the status of a node and ages of
-/// owners. This holds also if their limits are broken.
+/// How many bytes a payload has, its kind included: of a delta, a digest, a page of rows, the status of a node, and ages.
+/// This holds also if their limits are broken.
 pub fn payloads_have_these_lengths()
     ensures delta { (blocks : List Block) → length (spelling (Delta blocks)) ≡ delta_length blocks }
     ensures digest { (digest : digests.Digest) → length (spelling (Digest digest)) ≡ digest_length digest }

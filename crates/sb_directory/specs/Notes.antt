@@ -1,20 +1,19 @@
 -- What is noted in watches.
-use Rattle.std.specs.Prelude.{ℕ, Bool, nat_le, nat_lt, if◌then◌else◌, List, [], ◌∷◌, ◌++◌, map, flat_map}
+use Rattle.std.specs.Prelude.{ℕ, Bool, nat_le, nat_lt, if◌then◌else◌, List, [], ◌∷◌, ◌++◌, map, flat_map, Some, None}
 use Rattle.sb_types.specs.Records.{Entry, Table, Block}
 use Rattle.sb_types.specs.Runs.{newer_entries}
 use Rattle.sb_holdings.specs.Held.{Held, shown_of}
 use Rattle.sb_watch.specs.declared.note.Note.{Note}
-use Rattle.sb_watch.specs.declared.note.Subject.TheVariants as subjects
 use Rattle.sb_watch.specs.Records.{Hub}
 use Rattle.sb_watch.specs.Hubs.{with_push}
 
 -- of a write: whose it is, under which key, and its version
 abbrev pub note_of : List ℕ → Entry → Note
-note_of owner e = record { owner = owner; subject = subjects.Key e.key; version = e.version }
+note_of owner e = record { owner = owner; key = Some e.key; version = e.version }
 
 -- of a table that was replaced: whose it is, and up to which version it is held
 abbrev pub clear_of : List ℕ → Table → Note
-clear_of owner t = record { owner = owner; subject = subjects.Table; version = t.held }
+clear_of owner t = record { owner = owner; key = None; version = t.held }
 
 -- each note is pushed once, in their order
 abbrev pub with_notes : Hub → List Note → Hub

@@ -163,8 +163,9 @@ impl<S: DirectoryTag, R: Wait + Drop> Directory<S, R> {
         self.node.lock(rt).take_own(seat, committed)
     }
 
-    /// Takes each block of a delta in turn, notes in watches each entry that it entered and each table that it replaced, and
-    /// publishes all that happened. It gives how the blocks ended, and says whether the seat has seen it. If it has not, the next call that publishes makes up for it.
+    /// Takes each block of a delta in turn, and publishes all that happened. It notes each entry that it entered in watches,
+    /// and each table that it replaced. It gives how the blocks ended, and says whether the seat has seen it. If it has not,
+    /// the next call that publishes makes up for it.
     /// `TurnsSpent` after 2^64 - 1 events; `NoMemory` if there is no room for the ends, or to note whose writes watches and views
     /// lack. Each changes nothing except the seat's last call.
     pub fn apply<Q: Wait>(

@@ -5,16 +5,17 @@ ghost use Rattle.sb_directory.specs.Notes as spec;
 use sb_holdings::Holdings;
 use sb_table::Table;
 use sb_types::{Block, Entry, Fault, Name};
-use sb_watch::{Hub, Note, Subject};
+use sb_watch::{Hub, Note};
 use std::alloc::Global;
 
 /// Notes a write in watches.
 pub(crate) fn push_note(hub: &mut Hub, owner: &Name, entry: &Entry)
     ensures { hub.new ≡ spec.with_notes hub.old (spec.note_of owner.now entry.now ∷ []) }
 {
+    let key = *entry.key();
     hub.push(&Note {
         owner: *owner,
-        subject: Subject::Key(*entry.key()),
+        key: Some(key),
         version: entry.version(),
     });
 }
@@ -26,7 +27,7 @@ fn push_clear(hub: &mut Hub, owner: &Name, table: &Table, version: u64)
     if table.floor() > version {
         hub.push(&Note {
             owner: *owner,
-            subject: Subject::Table,
+            key: None,
             version: table.upto(),
         });
     }

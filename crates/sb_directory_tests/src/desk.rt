@@ -12,7 +12,7 @@ use sb_holdings::{BlockEnd, Report};
 use sb_log::{Committed, PlainLog};
 use sb_table::Table;
 use sb_types::{Delta, Fault, Name};
-use sb_watch::{Filter, Note, Polled, Subject};
+use sb_watch::{Filter, Note, Polled};
 use std::alloc::Global;
 use std::process::Abort;
 use std::sync::Wait;
@@ -113,7 +113,7 @@ pub(crate) struct Desk<S: DirectoryTag, H: Wait + Drop> {
 pub(crate) fn noted(rt: &impl Abort, owner: &[u8], text: &[u8], version: u64) -> Answer {
     Answer::Polled(Polled::Note(Note {
         owner: name(rt, owner),
-        subject: Subject::Key(key(rt, text)),
+        key: Some(key(rt, text)),
         version,
     }))
 }
@@ -122,7 +122,7 @@ pub(crate) fn noted(rt: &impl Abort, owner: &[u8], text: &[u8], version: u64) ->
 pub(crate) fn cleared(rt: &impl Abort, owner: &[u8], version: u64) -> Answer {
     Answer::Polled(Polled::Note(Note {
         owner: name(rt, owner),
-        subject: Subject::Table,
+        key: None,
         version,
     }))
 }

@@ -86,8 +86,7 @@ pub const BYTE_LENGTH: u64 = 1;
 /// How many bytes each of these takes: a count of a list, and the length of a text.
 pub const COUNT_LENGTH: u64 = 2;
 
-/// How many bytes each of these takes: a version, a weight, the value of a figure, the number of a round, and a time in
-/// milliseconds.
+/// How many bytes each of these takes: a version, a weight, the value of a figure, the number of a round, and a time.
 pub const NUMBER_LENGTH: u64 = 8;
 
 /// The most bytes that a name takes, its length included.

@@ -10,7 +10,7 @@ use sb_log::{PlainLog, WriteLog};
 use sb_query::{answer, print_rows};
 use sb_types::{BUDGET_LEAST, Fault, Key, Name, Prefix, Slot, VERSION_MOST, Value};
 use sb_views::{Entered, NodeTag, Snapshot};
-use sb_watch::{Filter, Hub, Note, Polled, Subject};
+use sb_watch::{Filter, Hub, Note, Polled};
 use std::alloc::Global;
 use std::process::Abort;
 
@@ -19,11 +19,11 @@ fn watch_once(alloc: Global) -> Result<[Polled; 2], Fault> {
     let mut hub = Hub::new(alloc);
     let (owner, prefix) = (None, Prefix::read(b"net/")?);
     let id = hub.add(Filter { owner, prefix }, 2)?;
-    let (owner, subject, version) = (Name::read(b"a")?, Subject::Key(Key::read(b"net/b")?), 7);
+    let key = Some(Key::read(b"net/b")?);
     hub.push(&Note {
-        owner,
-        subject,
-        version,
+        owner: Name::read(b"a")?,
+        key,
+        version: 7,
     });
     Ok([hub.take(id)?, hub.take(id)?])
 }
@@ -32,7 +32,7 @@ fn watch_once(alloc: Global) -> Result<[Polled; 2], Fault> {
 fn example_of_sb_watch(rt: HostRuntime) {
     let note = Note {
         owner: name(&rt, b"a"),
-        subject: Subject::Key(key(&rt, b"net/b")),
+        key: Some(key(&rt, b"net/b")),
         version: 7,
     };
     let answers = got(&rt, watch_once(rt.alloc()));

@@ -3,13 +3,13 @@
 use crate::making::{key, name, owner_of, prefix};
 use crate::{got, holds, same, same_at};
 use sb_types::Fault;
-use sb_watch::{Filter, Hub, Note, Polled, Subject, WatchId};
+use sb_watch::{Filter, Hub, Note, Polled, WatchId};
 use std::process::Abort;
 
 fn note(rt: &impl Abort, owner: &[u8], text: &[u8], version: u64) -> Note {
     Note {
         owner: name(rt, owner),
-        subject: Subject::Key(key(rt, text)),
+        key: Some(key(rt, text)),
         version,
     }
 }
@@ -238,7 +238,7 @@ fn example_of_watches(rt: HostRuntime) {
 fn clear(rt: &impl Abort, owner: &[u8]) -> Note {
     Note {
         owner: name(rt, owner),
-        subject: Subject::Table,
+        key: None,
         version: 9,
     }
 }

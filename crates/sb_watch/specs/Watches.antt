@@ -5,8 +5,6 @@ use Rattle.std.specs.Cmp.Lexicographic.{pointwise}
 use Rattle.circular_buffer.specs.Buffer.{keep_last}
 use Rattle.sb_watch.specs.declared.note.Filter.{Filter}
 use Rattle.sb_watch.specs.declared.note.Note.{Note}
-use Rattle.sb_watch.specs.declared.note.Subject.{Subject}
-use Rattle.sb_watch.specs.declared.note.Subject.TheVariants.{Key, Table}
 use Rattle.sb_watch.specs.declared.note.Polled.{Polled}
 use Rattle.sb_watch.specs.declared.note.Polled.TheVariants as answers
 use Rattle.sb_watch.specs.Records.{Watch}
@@ -17,13 +15,13 @@ is_wanted None owner = true
 is_wanted (Some wanted) owner = pointwise nat_eq wanted owner
 
 -- the key begins with the prefix; a whole table has keys under each prefix
-abbrev pub is_under : List ℕ → Subject → Bool
-is_under prefix Table = true
-is_under prefix (Key key) = starts_with nat_eq key prefix
+abbrev pub is_under : List ℕ → Option (List ℕ) → Bool
+is_under prefix None = true
+is_under prefix (Some key) = starts_with nat_eq key prefix
 
 -- the note is of the filter's owner, and of a key that begins with the filter's prefix
 abbrev pub matches : Filter → Note → Bool
-matches filter note = is_wanted filter.owner note.owner && is_under filter.prefix note.subject
+matches filter note = is_wanted filter.owner note.owner && is_under filter.prefix note.key
 
 -- a watch that received no note yet
 abbrev pub new_watch : ℕ → Filter → ℕ → Watch

@@ -18,7 +18,7 @@ use std::marker::Model;
 /// ```
 /// let mut hub = Hub::new(alloc);
 /// let id = hub.add(Filter { owner: None, prefix: Prefix::read(b"net/")? }, 2)?;
-/// hub.push(&Note { owner: Name::read(b"a")?, subject: Subject::Key(Key::read(b"net/b")?), version: 2 });
+/// hub.push(&Note { owner: Name::read(b"a")?, key: Some(Key::read(b"net/b")?), version: 2 });
 /// assert!(rt; matches!(hub.take(id), Ok(Polled::Note(note)) if note.version == 2));
 /// assert_eq!(rt; hub.take(id), Ok(Polled::Empty));
 /// ```

@@ -10,11 +10,11 @@
 //!     let mut hub = Hub::new(alloc);
 //!     let (owner, prefix) = (None, Prefix::read(b"net/")?);
 //!     let id = hub.add(Filter { owner, prefix }, 2)?;
-//!     let (owner, subject, version) = (Name::read(b"a")?, Subject::Key(Key::read(b"net/b")?), 7);
+//!     let key = Some(Key::read(b"net/b")?);
 //!     hub.push(&Note {
-//!         owner,
-//!         subject,
-//!         version,
+//!         owner: Name::read(b"a")?,
+//!         key,
+//!         version: 7,
 //!     });
 //!     Ok([hub.take(id)?, hub.take(id)?])
 //! }
@@ -43,4 +43,4 @@ pub use laws::{
     limits_are_these_numbers, notes_keep_what_holds, watches_stand_alone,
 };
 pub use limits::{RING_MOST, WATCHES_MOST};
-pub use note::{Filter, Note, Polled, Subject, WatchId};
+pub use note::{Filter, Note, Polled, WatchId};

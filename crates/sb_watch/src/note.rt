@@ -6,21 +6,12 @@ ghost use Rattle.sb_watch.specs.Watches as spec;
 use sb_types::{Key, Name, Prefix};
 use std::marker::Model;
 
-/// What a note is about.
-#[derive(Clone, Copy, Debug, PartialEq, Eq)]
-pub enum Subject {
-    /// What the owner has under this key.
-    Key(Key),
-    /// All that the owner has: its table was replaced, so each key may have changed, or be gone.
-    Table,
-}
-
-/// What a watch receives of a change: whose it is, what it is about, and the version. Values are read where values are
-/// read.
+/// What a watch receives of a change: whose it is, under which key, and the version. It has no value: that is in the views.
 #[derive(Clone, Copy, Debug, PartialEq, Eq)]
 pub struct Note {
     pub owner: Name,
-    pub subject: Subject,
+    /// `None` if the owner's whole table was replaced: each of its keys may have changed, or be gone.
+    pub key: Option<Key>,
     pub version: u64,
 }
 
@@ -42,9 +33,9 @@ impl Filter {
                 return false;
             }
         }
-        match &note.subject {
-            Subject::Key(key) => key.bytes().starts_with(self.prefix.bytes()),
-            Subject::Table => true,
+        match &note.key {
+            Some(key) => key.bytes().starts_with(self.prefix.bytes()),
+            None => true,
         }
     }
 }

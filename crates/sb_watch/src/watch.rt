@@ -56,10 +56,21 @@ impl Watch {
     pub(crate) fn tell(&mut self, note: &Note)
         ensures { self.new ≡ spec.watch_after_note note.now self.old }
     {
+        // A copy as a whole is not covered by the borrow checker, which then lacks the type of the key.
+        let Note {
+            owner,
+            key,
+            version,
+        } = *note;
         if !self.filter.matches(note) {
             return;
         }
-        if self.ring.push_back(*note).is_some() {
+        let copy = Note {
+            owner,
+            key,
+            version,
+        };
+        if self.ring.push_back(copy).is_some() {
             self.lost = self.lost.saturating_add(1);
         }
     }
