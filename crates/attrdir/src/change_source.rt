@@ -102,8 +102,13 @@ impl<'r, 'a> ChangeSource<'r, 'a> {
             return Err(Fault::WriteFailed(0));
         }
         match told {
-            Some(told) if waits_for_time => self.wait_shortly(&told),
-            Some(told) => self.wait_for(&told),
+            Some(told) => {
+                if waits_for_time {
+                    self.wait_shortly(&told)
+                } else {
+                    self.wait_for(&told)
+                }
+            }
             None => Ok(()),
         }
     }

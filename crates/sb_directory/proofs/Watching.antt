@@ -1,5 +1,5 @@
 -- A watch reports what changed since: the notes of each event are pushed into the hub.
-use Rattle.std.proofs.Common.{◌≡◌, ◌≢◌, ℕ, ◌+◌, ◌-◌, ◌<◌, ◌==◌, Bool, true, false, not, cond, ◌&&◌, ◌||◌, List, [], ◌∷◌, ◌++◌, length, drop, map, filter, find, flat_map, Option, Some, None, Result, Ok, Err, IfErr, refl, sym, ap, ap₂, subst, ◌∙◌, arith, append_assoc, append-nil, true≢false, nat_le, ◌⊎◌, inl, inr}
+use Rattle.std.proofs.Common.{◌≡◌, ◌≢◌, ℕ, ◌+◌, ◌-◌, ◌<◌, ◌==◌, Bool, true, false, not, cond, ◌&&◌, ◌||◌, List, [], ◌∷◌, ◌++◌, length, drop, map, filter, find, flat_map, Option, Some, None, Result, Ok, Err, IfOk, IfErr, OnErr, IsOk, is_ok, refl, sym, ap, ap₂, subst, ◌∙◌, arith, append_assoc, append-nil, true≢false, nat_le, ◌⊎◌, inl, inr}
 use Rattle.std.specs.List.{list_any, AllByRecursion}
 use Rattle.std.specs.Option.{option_map, option_or}
 use Rattle.std.specs.Result.{result_unwrap_or}
@@ -397,3 +397,36 @@ no-answer hub id = go (watch_at hub id)
     go : (found : Option Watch) → IfErr (answer_if_found found) (λ fault. ◌≡◌ {A = Result Polled Fault} (Err NoWatch) (Err fault))
     go None = refl
     go (Some w) = tt
+
+-- what a node has for a watch of its own, and what it answers
+module _ (opening : Node) (history : List Event) (hub : Hub) (watch : DirectoryWatch) (is : IsWatched opening history hub watch) where
+  pub owed-says : (answer : Result Bool Fault) → answer ≡ has_note_at hub watch.id → IfOk answer (SaysOf opening history watch)
+  owed-says answer same = subst (λ (r : Result Bool Fault). IfOk r (SaysOf opening history watch)) (sym (same ∙ note-there opening history hub watch is)) is.says
+
+  pub owed-ok : (answer : Result Bool Fault) → answer ≡ has_note_at hub watch.id → IsOk answer
+  owed-ok answer same = ap is_ok (same ∙ note-there opening history hub watch is)
+
+  pub answer-says : (answer : Result Polled Fault) → answer ≡ answer_at hub watch.id → IfOk answer (λ polled. SaysOf opening history watch (reports polled))
+  answer-says answer same =
+      subst (λ (r : Result Polled Fault). IfOk r (λ polled. SaysOf opening history watch (reports polled))) (sym (same ∙ answer-there opening history hub watch is))
+      (subst (SaysOf opening history watch) (sym (reports-owed is.kept)) is.says)
+
+  pub answer-ok : (answer : Result Polled Fault) → answer ≡ answer_at hub watch.id → IsOk answer
+  answer-ok answer same = ap is_ok (same ∙ answer-there opening history hub watch is)
+
+-- what is not refused
+module _ {X : Type 0} where
+  pub on-err : (answer : Result X Fault) (P : Type 0) → IsOk answer → OnErr answer P
+  on-err (Ok x) P ok = tt
+  on-err (Err fault) P ok = absurd (true≢false (sym ok))
+
+  pub if-err : (answer : Result X Fault) (P : Fault → Type 0) → IsOk answer → IfErr answer P
+  if-err (Ok x) P ok = tt
+  if-err (Err fault) P ok = absurd (true≢false (sym ok))
+
+  pub never-err : (answer : Result X Fault) (fault : Fault) (P : Type 0) → IsOk answer → answer ≡ Err fault → P
+  never-err answer fault P ok is = absurd (true≢false (sym ok ∙ ap is_ok is))
+
+  pub if-ok : (answer : Result X Fault) (P Q : X → Type 0) → ((x : X) → P x → Q x) → IfOk answer P → IfOk answer Q
+  if-ok (Ok x) P Q on p = on x p
+  if-ok (Err fault) P Q on p = tt

@@ -1,5 +1,5 @@
 //! What the lock of a directory guards: a node with its history, its views, its watches and the book of its seats.
-ghost use Rattle.std.specs.Prelude.{◌≡◌, ◌≢◌, ◌≤◌, ◌+◌, ◌++◌, ◌∷◌, [], true, false, length, if◌then◌else◌, None, Ok, Err, IfOk, IfErr, IfSome, IsSome, OnOk, OnErr};
+ghost use Rattle.std.specs.Prelude.{◌≡◌, ◌≢◌, ◌≤◌, ◌+◌, ◌++◌, ◌∷◌, [], true, false, length, if◌then◌else◌, None, Ok, Err, IfOk, IfErr, IfSome, IsSome, IsOk, OnOk, OnErr, MatchBool};
 ghost use Rattle.std.specs.Option.{option_map};
 ghost use mathlib.Core.List.{IsPrefix};
 ghost use Rattle.sb_types.specs.Faults.{Gives};
@@ -368,6 +368,23 @@ impl<S: DirectoryTag, R: Wait + Drop> ViewedNode<S, R> {
         self.hub.has_notes()
     }
 
+    /// Whether a watch is one of this node's.
+    fn has(&self, watch: &DirectoryWatch<S>) -> bool
+        ensures { MatchBool result (Stands self.now.watches watch.now) (Stands self.now.watches watch.now → ⊥) }
+    {
+        is_one_of(&self.watches, watch)
+    }
+
+    /// Whether one of its watches has a note.
+    fn owes(&self, watch: &DirectoryWatch<S>) -> Result<bool, Fault>
+        requires known { Stands self.now.watches watch.now }
+        ensures answer { result ≡ has_note_at self.now.hub watch.now.id }
+        ensures ok { IsOk result }
+        ensures says { IfOk result (SaysOf S.opening self.now.history watch.now) }
+    {
+        self.hub.has_note(watch.id())
+    }
+
     /// Publishes all that happened, and says whether anything changed that a watch is for. So what changed is published by then.
     pub(crate) fn has_note(&mut self, watch: &DirectoryWatch<S>) -> Result<bool, Fault>
         ensures says { IfOk result (SaysOf S.opening self.old.history watch.now) }
@@ -379,10 +396,10 @@ impl<S: DirectoryTag, R: Wait + Drop> ViewedNode<S, R> {
         ensures shown { OnOk result (self.new.published ≡ self.new.history) }
         ensures same { result ≡ Err Fault.NoWatch → self.new ≡ self.old }
     {
-        if !is_one_of(&self.watches, watch) {
+        if !self.has(watch) {
             Err(Fault::NoWatch)
         } else if self.publish() {
-            self.hub.has_note(watch.id())
+            self.owes(watch)
         } else {
             Err(Fault::NoMemory)
         }
@@ -427,6 +444,21 @@ impl<S: DirectoryTag, R: Wait + Drop> ViewedNode<S, R> {
         seat.look(self.history.prefix())
     }
 
+    /// What one of its watches answers. If the watch has nothing more to report, it begins anew.
+    fn take_answer(&mut self, watch: &mut DirectoryWatch<S>) -> Result<Polled, Fault>
+        requires known { Stands self.old.watches watch.old }
+        ensures answer { result ≡ answer_at self.old.hub watch.old.id }
+        ensures ok { IsOk result }
+        ensures says { IfOk result (λ polled. SaysOf S.opening self.old.history watch.old (reports polled)) }
+        ensures held { (note : Note) → result ≡ Ok (answers.Note note) → note.version ≤ (shown_of (node_after S.opening self.old.history).held note.owner).held }
+        ensures left { self.new ≡ nodes.after_poll self.old watch.old }
+        ensures watch { watch.new ≡ watch_after self.new.hub self.old.history watch.old }
+    {
+        let answer = self.hub.take(watch.id());
+        renew_unless_owed(&self.hub, self.history.prefix(), &mut self.watches, watch);
+        answer
+    }
+
     /// Publishes all that happened, lets the seat see it, and gives what the watch answers. So it gives a note only once the note's
     /// write is published.
     pub(crate) fn poll(
@@ -454,16 +486,14 @@ impl<S: DirectoryTag, R: Wait + Drop> ViewedNode<S, R> {
         ensures seen { OnOk result (seat.new.seen ≡ self.new.history) }
         ensures made { OnOk result (seat.new.events ≤ length seat.new.seen) }
     {
-        seat.call_at(&mut self.history);
-        if !is_one_of(&self.watches, watch) {
+        self.note_call(seat);
+        if !self.has(watch) {
             return Err(Fault::NoWatch);
         }
         if !self.refresh(seat) {
             return Err(Fault::NoMemory);
         }
-        let answer = self.hub.take(watch.id());
-        renew_unless_owed(&self.hub, self.history.prefix(), &mut self.watches, watch);
-        answer
+        self.take_answer(watch)
     }
 
     /// The node, and how many events there were. These are all its seats.
