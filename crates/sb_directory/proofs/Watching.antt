@@ -1,5 +1,5 @@
 -- A watch reports what changed since: the notes of each event are pushed into the hub.
-use Rattle.std.proofs.Common.{◌≡◌, ◌≢◌, ℕ, ◌+◌, ◌-◌, ◌<◌, ◌==◌, Bool, true, false, not, cond, ◌&&◌, ◌||◌, List, [], ◌∷◌, ◌++◌, length, drop, map, filter, find, flat_map, Option, Some, None, Result, Ok, Err, IfOk, IfErr, OnErr, IsOk, is_ok, refl, sym, ap, ap₂, subst, ◌∙◌, arith, append_assoc, append-nil, true≢false, nat_le, ◌⊎◌, inl, inr}
+use Rattle.std.proofs.Common.{◌≡◌, ◌≢◌, ℕ, ◌+◌, ◌-◌, ◌<◌, ◌==◌, Bool, true, false, not, cond, ◌&&◌, ◌||◌, List, [], ◌∷◌, ◌++◌, length, drop, map, filter, find, flat_map, Option, Some, None, Result, Ok, Err, IfOk, IfErr, OnOk, OnErr, IsOk, MatchBool, is_ok, refl, sym, ap, ap₂, subst, ◌∙◌, arith, append_assoc, append-nil, true≢false, nat_le, ◌⊎◌, inl, inr}
 use Rattle.std.specs.List.{list_any, AllByRecursion}
 use Rattle.std.specs.Option.{option_map, option_or}
 use Rattle.std.specs.Result.{result_unwrap_or}
@@ -414,6 +414,15 @@ module _ (opening : Node) (history : List Event) (hub : Hub) (watch : DirectoryW
   pub answer-ok : (answer : Result Polled Fault) → answer ≡ answer_at hub watch.id → IsOk answer
   answer-ok answer same = ap is_ok (same ∙ answer-there opening history hub watch is)
 
+module _ (opening : Node) (history : List Event) (hub : Hub) (watches : List DirectoryWatch) (all : AllByRecursion (IsWatched opening history hub) watches) where
+  pub found-note : (watch : DirectoryWatch) (b : Bool) → MatchBool b (Stands watches watch) (Stands watches watch → ⊥) → b ≡ true → IsOk (has_note_at hub watch.id)
+  found-note watch true found there = owed-ok opening history hub watch (one-watched opening history hub watches watch all found) (has_note_at hub watch.id) refl
+  found-note watch false found there = absurd (true≢false (sym there))
+
+  pub found-answer : (watch : DirectoryWatch) (b : Bool) → MatchBool b (Stands watches watch) (Stands watches watch → ⊥) → b ≡ true → IsOk (answer_at hub watch.id)
+  found-answer watch true found there = answer-ok opening history hub watch (one-watched opening history hub watches watch all found) (answer_at hub watch.id) refl
+  found-answer watch false found there = absurd (true≢false (sym there))
+
 -- what is not refused
 module _ {X : Type 0} where
   pub on-err : (answer : Result X Fault) (P : Type 0) → IsOk answer → OnErr answer P
@@ -426,6 +435,10 @@ module _ {X : Type 0} where
 
   pub never-err : (answer : Result X Fault) (fault : Fault) (P : Type 0) → IsOk answer → answer ≡ Err fault → P
   never-err answer fault P ok is = absurd (true≢false (sym ok ∙ ap is_ok is))
+
+  pub on-ok : (answer : Result X Fault) (P : Type 0) → P → OnOk answer P
+  on-ok (Ok x) P holds = holds
+  on-ok (Err fault) P holds = tt
 
   pub if-ok : (answer : Result X Fault) (P Q : X → Type 0) → ((x : X) → P x → Q x) → IfOk answer P → IfOk answer Q
   if-ok (Ok x) P Q on p = on x p

@@ -33,10 +33,14 @@ fn is_same_filter(one: &Filter, other: &Filter) -> bool
 
 impl<S: DirectoryTag> DirectoryWatch<S> {
     /// The watch of this id, which reports what comes after this history.
-    pub(crate) fn new(id: WatchId, filter: Filter, since: HistoryPrefix<S>) -> DirectoryWatch<S>
-        ensures { result ≡ record { id = id; filter = filter; since = since } }
+    pub(crate) fn new(id: WatchId, filter: &Filter, since: HistoryPrefix<S>) -> DirectoryWatch<S>
+        ensures { result ≡ record { id = id; filter = filter.now; since = since } }
     {
-        DirectoryWatch { id, filter, since }
+        DirectoryWatch {
+            id,
+            filter: *filter,
+            since,
+        }
     }
 
     /// Its id, by which the hub finds it.
@@ -111,18 +115,29 @@ fn renew<S: DirectoryTag>(
     }
 }
 
+/// Does the same in a vector.
+fn renew_in<S: DirectoryTag>(
+    watches: &mut Vec<DirectoryWatch<S>>,
+    id: WatchId,
+    history: &HistoryPrefix<S>,
+)
+    ensures { watches.new.items ≡ map (spec.renewed id history.now) watches.old.items }
+{
+    renew(watches, id, history);
+}
+
 /// Has a watch, and its copy among these, report only what comes after this history, unless the hub has a note for it.
 pub(crate) fn renew_unless_owed<S: DirectoryTag>(
     hub: &Hub,
     history: &HistoryPrefix<S>,
-    watches: &mut [DirectoryWatch<S>],
+    watches: &mut Vec<DirectoryWatch<S>>,
     watch: &mut DirectoryWatch<S>,
 )
-    ensures watches { watches.new ≡ spec.watches_after hub.now history.now watch.old.id watches.old }
+    ensures watches { watches.new.items ≡ spec.watches_after hub.now history.now watch.old.id watches.old.items }
     ensures watch { watch.new ≡ spec.watch_after hub.now history.now watch.old }
 {
     if let Ok(false) = hub.has_note(watch.id) {
-        renew(watches, watch.id, history);
+        renew_in(watches, watch.id, history);
         watch.renew(history);
     }
 }

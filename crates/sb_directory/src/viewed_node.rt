@@ -347,7 +347,7 @@ impl<S: DirectoryTag, R: Wait + Drop> ViewedNode<S, R> {
         }
         self.watches.reserve(1)?;
         let id = self.hub.add(filter, capacity)?;
-        let watch = DirectoryWatch::new(id, filter, self.history.prefix().copy());
+        let watch = DirectoryWatch::new(id, &filter, self.history.prefix().copy());
         self.watches.push_reserved(watch.copy());
         Ok(watch)
     }
@@ -370,7 +370,9 @@ impl<S: DirectoryTag, R: Wait + Drop> ViewedNode<S, R> {
 
     /// Whether a watch is one of this node's.
     fn has(&self, watch: &DirectoryWatch<S>) -> bool
-        ensures { MatchBool result (Stands self.now.watches watch.now) (Stands self.now.watches watch.now → ⊥) }
+        ensures found { MatchBool result (Stands self.now.watches watch.now) (Stands self.now.watches watch.now → ⊥) }
+        ensures note { result ≡ true → IsOk (has_note_at self.now.hub watch.now.id) }
+        ensures answer { result ≡ true → IsOk (answer_at self.now.hub watch.now.id) }
     {
         is_one_of(&self.watches, watch)
     }
