@@ -7,7 +7,6 @@ use Rattle.std.proofs.lemmas.Bool.{cond-true, and_parts, leb-true, eqb-true, eq-
 use Rattle.std.proofs.lemmas.Grind.{flat_map-append}
 use Rattle.std.proofs.lemmas.List.{length-append, length-drop}
 use Rattle.std.proofs.lemmas.List.Folds.{find-append, list_any-append}
-use Rattle.circular_buffer.specs.Buffer.{keep_last}
 use Rattle.sb_types.specs.Runs.{Stands}
 use Rattle.sb_types.specs.Text.{is_between}
 use Rattle.sb_types.specs.declared.fault.Fault.{Fault}
