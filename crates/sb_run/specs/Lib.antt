@@ -18,3 +18,5 @@ pub mod Closing
 pub mod Facts
 pub mod StatusReplies
 pub mod Auditing
+pub mod HttpPorts
+pub mod HttpReads

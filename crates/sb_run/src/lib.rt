@@ -128,6 +128,8 @@ mod first_hearing;
 mod first_message;
 mod forgetting;
 mod gate;
+mod http_socket;
+mod http_threads;
 mod laws;
 mod log_watch;
 mod node;
@@ -146,6 +148,8 @@ mod vain_offers;
 
 pub use forgetting::ForgottenOwners;
 pub use gate::{Gate, GatePoint, Open};
+pub use http_socket::is_own_port;
+pub use http_threads::HTTP_WORKERS;
 pub use laws::{forgotten_owners_stay_out, running_nodes_keep_truth, running_nodes_tell_truth};
 pub use node::{NodeConfig, OnLogFault, Pace, Paths, Ran, Runtime, run_closed_node, run_node};
 pub use observer::{Nobody, Observer, PushCounts, Status, Troubles};
