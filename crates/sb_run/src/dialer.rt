@@ -508,7 +508,9 @@ impl<'a> Turns<'a> {
         seat: &mut ReaderSeat<S>,
     ) {
         let _ = node.directory.refresh(node.rt, seat);
-        node.forgotten.report(observer);
+        while let Some(owner) = node.forgotten.next_met() {
+            observer.forgotten_met(&owner);
+        }
         if self.is_conflict_reported || node.counts.has_difference() {
             return;
         }

@@ -104,10 +104,6 @@
 //!   much, stops too soon, or goes on too long. The tests of `sb_run` and `tools/check-node` refuse it.
 //! - The first write never waits for the peers, or waits for longer than it may. Or other requests wait with it. Or the
 //!   first rounds are not made at once. The tests of `sb_run` and `tools/check-node` refuse it.
-//! - A session begins without what its peer was offered in vain in the one before, or with what another peer was. The
-//!   tests of `sb_run` and `tools/check-node` refuse it.
-//! - A node forgets what it offered, or defers nothing, as if memory were missing. The tests of `sb_run` and
-//!   `tools/check-node` refuse it.
 //! - A peer that dials counts as one that is not known, although its Hello has its name. `tools/check-node` refuses it.
 //! - `OwnWrites::put`, `serve_control`, `serve_pool` or `run_node` never returns. Tests end.
 #![tactic(auto)]
@@ -126,8 +122,6 @@ mod dialing;
 mod facts;
 mod first_hearing;
 mod first_message;
-mod forgetting;
-mod gate;
 mod http_socket;
 mod http_threads;
 mod laws;
@@ -144,10 +138,7 @@ mod sockets;
 mod status_reply;
 mod status_texts;
 mod threads;
-mod vain_offers;
 
-pub use forgetting::ForgottenOwners;
-pub use gate::{Gate, GatePoint, Open};
 pub use http_socket::is_own_port;
 pub use http_threads::HTTP_WORKERS;
 pub use laws::{forgotten_owners_stay_out, running_nodes_keep_truth, running_nodes_tell_truth};
@@ -156,4 +147,4 @@ pub use observer::{Nobody, Observer, PushCounts, Status, Troubles};
 pub use own_writes::{OwnWrites, Stored};
 pub use peers::{DownReason, Peer, PeerState};
 pub use pool::{Pooled, Serving, Source, Taken};
-pub use vain_offers::VainOffers;
+pub use sb_handlers::{ForgottenOwners, Gate, GatePoint, Open, VainOffers};

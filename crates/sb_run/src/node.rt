@@ -10,7 +10,6 @@ use crate::bell::Bell;
 use crate::counts::Counts;
 use crate::dialer::{Dialing, RoundsTag, rounds_channel};
 use crate::first_hearing::FirstHearing;
-use crate::forgetting::ForgottenOwners;
 use crate::http_threads::HTTP_WORKERS;
 use crate::observer::Observer;
 use crate::own_writes::{ClosableLog, OwnWrites};
@@ -18,8 +17,8 @@ use crate::sockets::BoundSockets;
 use crate::threads::{
     EndFlag, Links, NodeContext, ThreadSeats, ThreadsEnd, gather_seats, part_seats,
 };
-use crate::vain_offers::VainOffers;
 use sb_directory::Directory;
+use sb_handlers::{ForgottenOwners, VainOffers};
 use sb_log::WriteLog;
 use sb_node::NodeCore;
 use sb_table::Table;
