@@ -105,6 +105,15 @@
 //! - The first write never waits for the peers, or waits for longer than it may. Or other requests wait with it. Or the
 //!   first rounds are not made at once. The tests of `sb_run` and `tools/check-node` refuse it.
 //! - A peer that dials counts as one that is not known, although its Hello has its name. `tools/check-node` refuses it.
+//! - A node answers nobody over HTTP, or each question by the number of `Closed`. `tools/check-node` refuses it.
+//! - Over HTTP the owners or the metrics are a fault each time, or the metrics are others. `tools/check-node` refuses it.
+//! - `HttpSocket::bind` takes an address that `is_own_port` refuses. Nothing refuses it: `attrdir` asks that before.
+//! - A port counts as a socket, so a request may name any host there. `tools/check-node` refuses it.
+//! - A connection over HTTP has other limits, of bytes or of time. `tools/check-node` refuses it.
+//! - What a caller sends after its answer is not read, so a port may lose the answer. `tools/check-node` refuses it.
+//! - Fewer or more threads answer over HTTP than there are seats for it. `tools/check-node` refuses it.
+//! - A thread that answers over HTTP ends if one accept fails. Nothing refuses it.
+//! - At its end a node does not wake those threads, or leaves the socket for HTTP. `tools/check-node` refuses it.
 //! - `OwnWrites::put`, `serve_control`, `serve_pool` or `run_node` never returns. Tests end.
 #![tactic(auto)]
 

@@ -271,8 +271,8 @@ impl<'a, O: Observer + Sync> Dialing<'a, O> {
     }
 
     /// Runs the threads of a node to their end, in a scope of their own. One accepts, some are workers, some dial, and the calling
-    /// one makes the own writes. `NoMemory` if the thread that accepts, that of the pool, the first for news, or the one that dials
-    /// in turn can't be made. `StoreFailed` if the log failed and the node is to exit then.
+    /// one makes the own writes. `NoMemory` if the thread that accepts, that of the pool, the first for HTTP, the first for news,
+    /// or the one that dials in turn can't be made. `StoreFailed` if the log failed and the node is to exit then.
     fn run_within<
         's,
         E,
