@@ -13,7 +13,7 @@ use std::sync::atomic::{AtomicBool, Ordering};
 #[derive(Drop)]
 struct Sighting {
     was_met: AtomicBool,
-    was_told: AtomicBool,
+    was_reported: AtomicBool,
 }
 
 /// The owners that a node forgets, and which of them a peer still had.
@@ -57,7 +57,7 @@ impl ForgottenOwners {
         }
         self.sightings.push(Sighting {
             was_met: AtomicBool::new(false),
-            was_told: AtomicBool::new(false),
+            was_reported: AtomicBool::new(false),
         })?;
         self.names.push(*name)?;
         Ok(())
@@ -72,16 +72,22 @@ impl ForgottenOwners {
         }
     }
 
-    /// An owner of which a peer still had rows. Each such owner is returned once.
-    pub fn next_met(&self) -> Option<Name> {
+    /// The owners that the node forgets.
+    pub fn names(&self) -> &[Name]
+        ensures { result.now ≡ self.now.names.items }
+    {
+        &self.names
+    }
+
+    /// Whether a peer still had rows of this owner. The answer is true once for each owner, and never again.
+    pub fn take_sighting(&self, owner: &Name) -> bool {
         for (name, sighting) in self.names.iter().zip(&self.sightings) {
-            if sighting.was_met.load(Ordering::SeqCst)
-                && !sighting.was_told.swap(true, Ordering::SeqCst)
-            {
-                return Some(*name);
+            if name == owner {
+                return sighting.was_met.load(Ordering::SeqCst)
+                    && !sighting.was_reported.swap(true, Ordering::SeqCst);
             }
         }
-        None
+        false
     }
 }
 

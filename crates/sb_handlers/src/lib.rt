@@ -48,7 +48,7 @@
 //!   tests of `sb_run` and `tools/check-node` refuse it.
 //! - `DeferringHandler` forgets what it offered, or defers nothing, as if memory were missing. The tests of `sb_run` and
 //!   `tools/check-node` refuse it.
-//! - `ForgottenOwners::next_met` returns an owner whose rows no peer had, or none, or one again and again. The tests of
+//! - `ForgottenOwners::take_sighting` is true of an owner whose rows no peer had, never, or again and again. The tests of
 //!   `sb_run` and `tools/check-node` refuse it.
 //! - `GatedHandler` does not tell its gate what was entered or missed. The tests of `sb_run` and `tools/check-node` refuse it.
 #![tactic(auto)]
