@@ -321,7 +321,7 @@ def http_crowd(check):
 def http_places(check):
     """Only an address of this machine is taken, or the path of a socket, which is removed at the end; a node that waits for callers ends at once."""
     folder = check.folder()
-    others = ("0.0.0.0:0", "10.0.0.1:80", "127.0.0.2:8080", "[::]:80", "localhost:80", "host.example:80", "127.0.0.1:", ":80")
+    others = ("0.0.0.0:0", "10.0.0.1:80", "127.0.0.2:8080", "[::]:80", "localhost:80", "host.example:80", "127.0.0.1:", ":80", "8080")
     for address in (*others, "127.0.0.1:0", "[::1]:0", "127.0.0.1:65536", "[::1%1]:8080"):
         node = check.node("a", "--http", address, folder=folder)
         status, printed, said = run(check.program, *[str(it) for it in node.words()[1:]])
