@@ -1,8 +1,8 @@
 //! The command line that the program takes, made from its commands.
 use crate::commands::{TASKS, Task};
-use crate::part::{Kind, Part};
 use crate::{help, release};
 use clap::{Arg, ArgAction, Command, value_parser};
+use sb_commands::{Kind, Part};
 use std::alloc::{AllocError, Global};
 use std::slice;
 

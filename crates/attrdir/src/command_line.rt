@@ -1,11 +1,5 @@
 //! What the program does for each command line.
 use crate::arguments::command;
-use crate::asking::{AgeQuery, RowFormat, ages_of, print_all, put};
-use crate::batch::write_lines;
-use crate::beginning::{Start, begin_log};
-use crate::care::Caution;
-use crate::careful::{CarefulWatch, View};
-use crate::change_source::WatchPace;
 use crate::commands::{
     AFTER, AGES, AGES_FROM, ALL, ASKED_CONTROL, ASKED_SOCK, ASKING_NAME, CONTROL, COUNT, EVERY,
     EXPLAIN, FLOOR, FORMAT, FROM, HOLD, KEY, KIND, LISTINGS, LOG, LOG_CLUSTER, LOG_NAME, MARK,
@@ -13,20 +7,17 @@ use crate::commands::{
     ROWS_FLOOR, SETTLE, STATUS_FORMAT, TO, VALUE, VALUE_ALONE, WAIT, first_outside, lacks_control,
     repeated_option, wrong_number,
 };
-use crate::failure::Failure;
-use crate::log_file::{Floor, print_log, purge_log};
-use crate::one_row::{Portion, RowQuery, print_one};
-use crate::owners::print_owners;
-use crate::rendered_file::{RenderedFile, read_template};
-use crate::restoring::{AskedNode, restore_log};
 use crate::serve_command::serve_arguments;
 use crate::serving::ServeArguments;
-use crate::status::print_status;
-use crate::watching::{WatchQuery, watch, watch_on};
-use crate::words::{key_of, name_of, prefix_of, text_of, value_of};
 use clap::ArgMatches;
 use clap::error::ErrorKind;
 use sb_codec::Ask;
+use sb_commands::{
+    AgeQuery, AskedNode, CarefulWatch, Caution, Failure, Floor, Portion, RenderedFile, RowFormat,
+    RowQuery, Start, View, WatchPace, WatchQuery, ages_of, begin_log, key_of, name_of, prefix_of,
+    print_all, print_log, print_one, print_owners, print_status, purge_log, put, read_template,
+    restore_log, text_of, value_of, watch, watch_on, write_lines,
+};
 use sb_script::{Detail, Output, sim_run_uncounted};
 use sb_types::{Fault, Key, Name, Slot, Value};
 use std::alloc::Global;
@@ -370,7 +361,7 @@ fn print_starts(rt: &HostRuntime) -> u8 {
 
 fn run_begin<'a>(rt: &HostRuntime, given: &ArgMatches<'a>) -> Result<u8, Failure<'a>> {
     let start = match (AFTER.number_if_any(given), FROM.value_if_any(given)) {
-        (Some(version), None) => Start::After(version),
+        (Some(version), None) => Start::After(version, AFTER.place()),
         (None, Some(sock)) => Start::From(sock),
         _ => return Ok(print_starts(rt)),
     };

@@ -4,11 +4,10 @@
 //! default, its limits and its help. `tools/options` writes the same into `docs/attrdir.1`, `docs/attrdir.bash` and
 //! `docs/REFERENCE.md`. The docstring of a `Part` is what the pages add to the help: sentences, and then what a `Greater:`
 //! and a `Smaller:` value change. `Left out:` says what holds without the option, if it has no default.
-use crate::failure::FaultPlace;
 use crate::help;
-use crate::part::{Kind, Part, Range};
 use crate::serve_command::SERVE_TASK;
 use clap::ArgMatches;
+use sb_commands::{FaultPlace, Kind, Part, Range};
 use sb_types::VERSION_MOST;
 
 /// A command.

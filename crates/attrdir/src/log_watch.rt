@@ -1,5 +1,5 @@
 //! Whether the file of a log is still at its path while the node runs.
-use sb_run::LogLoss;
+use sb_control::LogLoss;
 use std::fs::{Metadata, metadata};
 use std::io::ErrorKind;
 use std::os::unix::fs::MetadataExt;

@@ -1,14 +1,12 @@
 //! The file in which a node reports its metrics.
 use crate::metrics::Metrics;
+use sb_commands::{BESIDE, replace};
 use std::io::Read;
 use std::sync::atomic::{AtomicBool, Ordering};
 use std::{fs, io};
 
 /// The first bytes of a file of metrics.
 const HEAD: [u8; 15] = *b"# HELP attrdir_";
-
-/// The end of the path of the file that replaces it.
-const BESIDE: &str = ".new";
 
 /// The file in which a node reports its metrics.
 #[derive(Drop)]
@@ -56,23 +54,6 @@ impl<'a> MetricsFile<'a> {
             let _ = fs::remove_file(rt, self.path);
         }
     }
-}
-
-/// Writes a text to a file beside the one at a path, and then replaces that one by it.
-fn replace_by(rt: &HostRuntime, path: &str, beside: &str, text: &[u8]) -> io::Result<()> {
-    fs::write(rt, beside, text)?;
-    fs::rename(rt, beside, path)
-}
-
-/// Writes a file as a whole: it writes another file beside it, which then replaces it. If that fails, the old file stays,
-/// and nothing is left beside it.
-pub(crate) fn replace(rt: &HostRuntime, path: &str, text: &[u8]) -> io::Result<()> {
-    let beside = format!(in rt.alloc(); "{path}{BESIDE}")?;
-    let replaced = replace_by(rt, path, beside.as_str(), text);
-    if replaced.is_err() {
-        let _ = fs::remove_file(rt, beside.as_str());
-    }
-    replaced
 }
 
 /// Whether the file at a path is empty, or begins as metrics do.

@@ -6,7 +6,6 @@ pub mod Pooling
 pub mod Leaving
 pub mod Enduring
 pub mod Hellos
-pub mod Receiving
 pub mod Paging
 pub mod Arriving
 pub mod StatusPages

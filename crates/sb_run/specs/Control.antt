@@ -26,7 +26,7 @@ use Rattle.sb_directory.specs.Seats.{Seat}
 use Rattle.sb_directory.specs.Serving.{IsLater}
 use Rattle.sb_run.specs.declared.own_writes.Stored.{Stored}
 use Rattle.sb_run.specs.OwnWriting.{version_of, count_owed, count_shared, IsUndisputed, IsHandedIn, IsStored, IsRefused}
-use Rattle.sb_run.specs.OneMessage.{ReceivesOne}
+use Rattle.sb_control.specs.OneMessage.{ReceivesOne}
 use Rattle.sb_run.specs.StatusReplies.{IsStatusReply}
 
 -- what the owner's `put` leaves with this answer

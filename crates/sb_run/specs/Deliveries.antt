@@ -59,4 +59,4 @@ has_round_left most begun = nat_lt most 1 || nat_lt begun most
 
 -- how many milliseconds after a burst begins news is gathered for the next: longer if the news of this burst was gathered
 abbrev pub gathering_time : Bool → ℕ
-gathering_time was_gathered = if was_gathered then 40 else 20
+gathering_time was_gathered = if was_gathered then 60 else 20

@@ -6,8 +6,8 @@ use Rattle.sb_codec.specs.declared.message.figure.FigureKind.TheVariants.{Uptime
 use Rattle.sb_codec.specs.Figures.{number_of}
 use Rattle.sb_codec.specs.Records.{Figure, figure_of}
 use Rattle.sb_run.specs.declared.facts.Facts.{Facts}
-use Rattle.sb_run.specs.declared.observer.LogCause.{LogCause}
-use Rattle.sb_run.specs.LogCauses.{number_of_cause}
+use Rattle.sb_control.specs.declared.log_cause.LogCause.{LogCause}
+use Rattle.sb_control.specs.LogCauses.{number_of_cause}
 
 abbrev pub log_fault : Option LogCause → ℕ
 log_fault None = 0

@@ -1,6 +1,5 @@
 pub mod OwnWriting
 pub mod OwnPurging
-pub mod OneMessage
 pub mod Control
 pub mod Forgetting
 pub mod Deferring
@@ -16,7 +15,8 @@ pub mod Deliveries
 pub mod News
 pub mod Together
 pub mod Closing
-pub mod LogCauses
 pub mod Facts
 pub mod StatusReplies
 pub mod Auditing
+pub mod HttpPorts
+pub mod HttpReads

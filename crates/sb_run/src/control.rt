@@ -11,11 +11,12 @@ ghost use Rattle.sb_directory.specs.Serving.{IsLater};
 ghost use Rattle.sb_run.specs.Control.{IsPutReply, IsPageReply, IsLookedUp, Answers, Controls};
 ghost use Rattle.sb_frames.specs.declared.last_write.Outcome.{Outcome};
 ghost use Rattle.sb_frames.specs.Connections.{KeepsOutput};
-ghost use Rattle.sb_run.specs.OneMessage.{ReceivesOne, Asks};
+ghost use Rattle.sb_control.specs.OneMessage.{ReceivesOne, Asks};
 
 use crate::own_writes::OwnWrites;
 use crate::pool::Serving;
 use sb_codec::{Ask, Done, Message, Refused};
+use sb_control::receive_first;
 use sb_directory::{DirectoryTag, EnteredSeat, ReaderSeat};
 use sb_frames::{Connection, send};
 use sb_log::WriteLog;
@@ -70,7 +71,7 @@ fn look_up<S: NodeTag>(
 }
 
 /// Answers an Ask by a page of what the seat reads.
-fn reply_to_ask<S: NodeTag>(
+pub(crate) fn reply_to_ask<S: NodeTag>(
     alloc: Global,
     settings: &Settings,
     seat: ReaderSeat<S>,
@@ -221,62 +222,4 @@ impl<S: DirectoryTag, H: Wait + Drop, Q: Wait> Serving<'_, S, H, Q> {
             Err(fault) => (seat, Err(fault)),
         }
     }
-}
-
-/// The next message of a connection. Its faults are those of `Connection::receive`, and `Truncated` at an end before the
-/// message.
-pub(crate) fn receive_one<R: Read, W: Write, K: Ledger>(
-    connection: &mut Connection<R, W, K>,
-) -> Result<Message, Fault>
-    ensures receives { ReceivesOne connection.old connection.new result }
-    ensures counted { connection.new.steps + connection.new.left ≡ connection.old.steps + connection.old.left }
-    // It writes nothing, and no fault of it says that a write failed.
-    ensures kept { KeepsOutput connection.old connection.new }
-    ensures unwritten { (last : Outcome) → OnlyWhereFailed result last }
-{
-    match connection.receive() {
-        Ok(Some(message)) => Ok(message),
-        Ok(None) => Err(Fault::Truncated),
-        Err(fault) => Err(fault),
-    }
-}
-
-/// The message that a talk begins with. Its faults are those of `receive_one`.
-pub(crate) fn receive_first<R: Read, W: Write, K: Ledger>(
-    connection: &mut Connection<R, W, K>,
-) -> Result<Message, Fault>
-    ensures receives { ReceivesOne connection.old connection.new result }
-    ensures counted { connection.new.steps + connection.new.left ≡ connection.old.steps + connection.old.left }
-    ensures output { connection.new.output ≡ connection.old.output }
-    ensures unwritten { (last : Outcome) → OnlyWhereFailed result last }
-    ensures goes_on { IfOk result (λ _. has_failed connection.new.last_write ≡ false) }
-{
-    connection.start()?;
-    receive_one(connection)
-}
-
-/// Sends one request and gives the message that answers it, a `Refused` as any other. After the call the connection says
-/// whether its last write failed.
-///
-/// Its faults:
-///
-/// - `Closed`, with nothing sent, if the connection is closed after a faulty frame.
-/// - `WriteFailed`, with how many bytes of the request are written.
-/// - `BadMark`, `BadVersion`, `BadLength`, `UnknownKind` or `Malformed` of the answer.
-/// - `ReadFailed`.
-/// - `Truncated` if no whole answer comes.
-/// - `TurnsSpent` if the call needs one more read than the connection has left.
-/// - `NoMemory`.
-pub fn ask_control<R: Read, W: Write, K: Ledger>(
-    connection: &mut Connection<R, W, K>,
-    request: &Message,
-) -> Result<Message, Fault>
-    ensures asks { Asks request.now connection.old connection.new result }
-    ensures counted { connection.new.steps + connection.new.left ≡ connection.old.steps + connection.old.left }
-    // A write that did not fail, or that was made before the call, is no reason to stop.
-    ensures failed { OnlyWhereFailed result connection.new.last_write }
-{
-    connection.start()?;
-    connection.send(request)?;
-    receive_one(connection)
 }

@@ -1,7 +1,8 @@
 //! What the threads of a running node count for whoever looks at it.
 
-use crate::observer::{LogCause, PushCounts, Troubles};
+use crate::observer::{PushCounts, Troubles};
 use crate::peers::PeerState;
+use sb_control::LogCause;
 use sb_session::Ended;
 use sb_types::Fault;
 use std::sync::atomic::{AtomicBool, AtomicU64, Ordering};

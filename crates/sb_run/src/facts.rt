@@ -2,9 +2,10 @@
 ghost use Rattle.std.specs.Prelude.{◌≡◌, ◌++◌, OnOk, IfOk, IfErr};
 ghost use Rattle.sb_run.specs.Facts as spec;
 
-use crate::observer::{LogCause, Troubles};
+use crate::observer::Troubles;
 use crate::schedule::RoundCounts;
 use sb_codec::{Figure, FigureKind};
+use sb_control::LogCause;
 use sb_types::Fault;
 use std::alloc::Global;
 

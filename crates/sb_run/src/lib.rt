@@ -3,8 +3,7 @@
 //! `run_node` runs the node that owns a log. One thread accepts at both sockets. Workers serve the peers that connect, and
 //! answer questions of clients. One thread dials the peers in turn, and others dial them if there is news. The calling thread
 //! makes the writes of clients: each is in the log before the directory takes it. `run_closed_node` runs a node whose log takes
-//! no writes. A program with connections of its own serves them by `Serving`, and asks by
-//! `ask_control`.
+//! no writes. A program with connections of its own serves them by `Serving`, and asks by `ask_control` of `sb_control`.
 //!
 //! ```rust
 //! /// Runs the node of this name over a log in memory, until it has made its rounds.
@@ -114,7 +113,7 @@
 //! - An owner has a wrong age, or a beat is missing or comes too often. No proof is about ages. The tests of `sb_run` and
 //!   `tools/check-node` refuse it.
 //! - A peer that dials counts as one that is not known, although its Hello has its name. `tools/check-node` refuses it.
-//! - `OwnWrites::put`, `serve_control`, `ask_control`, `serve_pool` or `run_node` never returns. Tests end.
+//! - `OwnWrites::put`, `serve_control`, `serve_pool` or `run_node` never returns. Tests end.
 #![tactic(auto)]
 
 mod accepting;
@@ -135,6 +134,8 @@ mod first_message;
 mod forgetting;
 mod gate;
 mod heard;
+mod http_socket;
+mod http_threads;
 mod laws;
 mod log_watch;
 mod node;
@@ -152,14 +153,15 @@ mod threads;
 mod vain_offers;
 mod watchers;
 
-pub use control::ask_control;
 pub use forgetting::ForgottenOwners;
 pub use gate::{Gate, GatePoint, Open};
+pub use http_socket::is_own_port;
+pub use http_threads::HTTP_WORKERS;
 pub use laws::{forgotten_owners_stay_out, running_nodes_keep_truth, running_nodes_tell_truth};
 pub use node::{
     Beat, NodeConfig, OnLogFault, Pace, Paths, Ran, Runtime, run_closed_node, run_node,
 };
-pub use observer::{LogCause, LogLoss, Nobody, Observer, PushCounts, Status, Troubles};
+pub use observer::{Nobody, Observer, PushCounts, Status, Troubles};
 pub use own_writes::{OwnWrites, Stored};
 pub use peers::{DownReason, Peer, PeerState};
 pub use pool::{Pooled, Serving, Source, Taken};

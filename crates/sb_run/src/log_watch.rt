@@ -1,7 +1,8 @@
 //! How a node finds that the file of its log is lost.
 ghost use Rattle.std.specs.Prelude.{◌≡◌, None};
 
-use crate::observer::{LogLoss, Observer};
+use crate::observer::Observer;
+use sb_control::LogLoss;
 
 /// Finds whether the file of a log is lost.
 pub(crate) trait LogWatch {

@@ -12,6 +12,7 @@ use crate::dialer::{Dialing, RoundsTag, rounds_channel};
 use crate::first_hearing::FirstHearing;
 use crate::forgetting::ForgottenOwners;
 use crate::heard::HeardTimes;
+use crate::http_threads::HTTP_WORKERS;
 use crate::observer::Observer;
 use crate::own_writes::{ClosableLog, OwnWrites};
 use crate::sockets::BoundSockets;
@@ -29,6 +30,7 @@ use sb_views::NewHistory;
 use std::alloc::Global;
 use std::marker::Brand;
 use std::net::{Net, TcpListener, TcpStream};
+use std::random::RandomSource;
 use std::rt::Files;
 use std::sync::ledger::Blank;
 use std::sync::{Mutex, Wait};
@@ -44,6 +46,8 @@ pub struct Paths<'a> {
     pub control: &'a str,
     /// The paths at which its peers listen.
     pub peers: &'a [&'a str],
+    /// The address at which it answers over HTTP: `127.0.0.1:PORT` or `[::1]:PORT`, or the path of a socket. `None` if it does not.
+    pub http: Option<&'a str>,
 }
 
 /// What a node does once a fault of its store has closed its log.
@@ -118,10 +122,10 @@ pub struct Ran {
 }
 
 /// Why a node does not run, before its log is read: the first reason that holds.
-fn start_refusal<L: WriteLog>(settings: &Settings, log: &L) -> Option<Fault>
-    ensures { result ≡ spec.start_refusal settings.now (L.seen log.now) }
+fn start_refusal<L: WriteLog>(settings: &Settings, http: Option<&str>, log: &L) -> Option<Fault>
+    ensures { result ≡ spec.start_refusal settings.now http.entry (L.seen log.now) }
 {
-    if settings.seats() < settings.workers() + 2 {
+    if settings.seats() < settings.workers() + 2 + u64::from(http.is_some()) {
         return Some(Fault::BadSetting);
     }
     let cluster = settings.cluster();
@@ -209,9 +213,9 @@ pub fn run_node<
     R: Runtime + Net<Listener = TcpListener, Stream = TcpStream>,
     O: Observer + Sync,
 >(rt: &R, alloc: Global, config: NodeConfig, log: L, observer: &O) -> Result<Ran, Fault>
-    ensures refused { IfSome (spec.start_refusal config.entry.settings (L.seen log)) (λ fault. result ≡ Err fault) }
-    ensures closed { spec.start_refusal config.entry.settings (L.seen log) ≡ None → (L.seen log).is_open ≡ false → result ≡ Err Fault.Closed }
-    ensures fault { IfErr result (IsRunningFault config.entry.settings (L.seen log) config.entry.pace.on_log_fault) }
+    ensures refused { IfSome (spec.start_refusal config.entry.settings config.entry.paths.http (L.seen log)) (λ fault. result ≡ Err fault) }
+    ensures closed { spec.start_refusal config.entry.settings config.entry.paths.http (L.seen log) ≡ None → (L.seen log).is_open ≡ false → result ≡ Err Fault.Closed }
+    ensures fault { IfErr result (IsRunningFault config.entry.settings config.entry.paths.http (L.seen log) config.entry.pace.on_log_fault) }
     ensures rounds { IfOk result (λ ran. ran.rounds ≡ config.entry.pace.rounds) }
 {
     let NodeConfig {
@@ -220,7 +224,7 @@ pub fn run_node<
         pace,
         forgotten,
     } = config;
-    if let Some(fault) = start_refusal(&settings, &log) {
+    if let Some(fault) = start_refusal(&settings, paths.http, &log) {
         return Err(fault);
     }
     let config = NodeConfig {
@@ -256,9 +260,9 @@ pub fn run_closed_node<
     table: Table,
     observer: &O,
 ) -> Result<Ran, Fault>
-    ensures refused { IfSome (spec.start_refusal config.entry.settings (L.seen log)) (λ fault. result ≡ Err fault) }
-    ensures closed { (L.seen log).is_open ≡ false → RunsClosed (spec.start_refusal config.entry.settings (L.seen log)) config.entry.pace.on_log_fault result }
-    ensures open { (L.seen log).is_open ≡ true → IfErr result (IsRunningFault config.entry.settings (L.seen log) config.entry.pace.on_log_fault) }
+    ensures refused { IfSome (spec.start_refusal config.entry.settings config.entry.paths.http (L.seen log)) (λ fault. result ≡ Err fault) }
+    ensures closed { (L.seen log).is_open ≡ false → RunsClosed (spec.start_refusal config.entry.settings config.entry.paths.http (L.seen log)) config.entry.pace.on_log_fault result }
+    ensures open { (L.seen log).is_open ≡ true → IfErr result (IsRunningFault config.entry.settings config.entry.paths.http (L.seen log) config.entry.pace.on_log_fault) }
     ensures rounds { IfOk result (λ ran. ran.rounds ≡ config.entry.pace.rounds) }
 {
     let NodeConfig {
@@ -295,8 +299,8 @@ fn run_with_table<
     observer: &O,
 ) -> Result<Ran, Fault>
     requires closed { (L.seen log).is_open ≡ false }
-    ensures runs { RunsClosed (spec.start_refusal config.entry.settings (L.seen log)) config.entry.pace.on_log_fault result }
-    ensures refused { IfSome (spec.start_refusal config.entry.settings (L.seen log)) (λ fault. result ≡ Err fault) }
+    ensures runs { RunsClosed (spec.start_refusal config.entry.settings config.entry.paths.http (L.seen log)) config.entry.pace.on_log_fault result }
+    ensures refused { IfSome (spec.start_refusal config.entry.settings config.entry.paths.http (L.seen log)) (λ fault. result ≡ Err fault) }
     ensures rounds { IfOk result (λ ran. ran.rounds ≡ config.entry.pace.rounds) }
 {
     let NodeConfig {
@@ -305,7 +309,7 @@ fn run_with_table<
         pace,
         forgotten,
     } = config;
-    if let Some(fault) = start_refusal(&settings, &log) {
+    if let Some(fault) = start_refusal(&settings, paths.http, &log) {
         return Err(fault);
     }
     let config = NodeConfig {
@@ -367,9 +371,9 @@ fn run_opened<
 
 /// What a running node asks of its runtime, beside sockets: threads, locks, a clock and files. A runtime that has all of them is
 /// one. The sockets are beside it in each signature, since a caller whose runtime is a type of its own has to see their types.
-pub trait Runtime: Threads + Wait + Clock + Files + Send + Sync {}
+pub trait Runtime: Threads + Wait + Clock + Files + RandomSource + Send + Sync {}
 
-impl<R: Threads + Wait + Clock + Files + Send + Sync> Runtime for R {}
+impl<R: Threads + Wait + Clock + Files + RandomSource + Send + Sync> Runtime for R {}
 
 /// What the directory of a node starts from.
 #[derive(Drop)]
@@ -392,11 +396,22 @@ pub(crate) struct NodeStart<L: WriteLog> {
     pub(crate) writes: OwnWrites<ClosableLog<L>>,
 }
 
-/// Makes the directory, and gives a seat to each thread; those beyond are for news, in a list with room for all. `NoMemory`.
+/// How many seats a node wants for HTTP: none if it has no address for that.
+fn http_seats(http: Option<&str>) -> usize {
+    if http.is_some() {
+        HTTP_WORKERS as usize
+    } else {
+        0
+    }
+}
+
+/// Makes the directory, and gives a seat to each thread. At most so many of those beyond are for HTTP, and the others for news, in a
+/// list with room for all. `NoMemory`.
 fn seat_all<S: RoundsTag, R: Wait>(
     rt: &R,
     alloc: Global,
     start: DirectoryStart,
+    http: usize,
 ) -> Result<(Directory<S, &R>, ThreadSeats<S>), Fault>
     requires history { start.new_history.seen.book ≡ S.history }
     requires tagged { IsTagOf S.opening S.settings S.seats S.parts start.core }
@@ -404,7 +419,7 @@ fn seat_all<S: RoundsTag, R: Wait>(
     requires parts { start.blank.parts ≡ S.parts }
     requires enough { start.core.settings.workers + 2 ≤ start.core.settings.seats }
     ensures workers { IfOk result (λ seated. vec_len seated.1.workers ≡ S.settings.workers) }
-    ensures all { IfOk result (λ seated. vec_len seated.1.news + (vec_len seated.1.workers + 2) ≡ S.seats) }
+    ensures all { IfOk result (λ seated. vec_len seated.1.news + vec_len seated.1.http + (vec_len seated.1.workers + 2) ≡ S.seats) }
     ensures room { IfOk result (λ seated. S.seats ≤ vec_capacity seated.1.news) }
     ensures memory { IfErr result (λ fault. fault ≡ Fault.NoMemory) }
 {
@@ -420,7 +435,7 @@ fn seat_all<S: RoundsTag, R: Wait>(
     let Ok((directory, seats)) = made else {
         return Err(Fault::NoMemory);
     };
-    let thread_seats = part_seats(seats, settings.workers() as usize)?;
+    let thread_seats = part_seats(seats, settings.workers() as usize, http)?;
     Ok((directory, thread_seats))
 }
 
@@ -452,12 +467,13 @@ pub(crate) fn run_tagged<
     let rounds = rounds_channel::<S>(alloc)?;
     let (handover, jobs, requests) = new_handover(alloc)?;
     let events = Acceptor::events(alloc)?;
-    let (directory, thread_seats) = seat_all::<S, R>(rt, alloc, start.directory)?;
+    let http = http_seats(paths.http);
+    let (directory, thread_seats) = seat_all::<S, R>(rt, alloc, start.directory, http)?;
     let threads = thread_seats.news.len();
     let (bell, parkers) = Bell::new(alloc, threads == 0)?;
     let (dialing, turns) = Dialing::new(alloc, paths.peers, &pace, threads, observer, parkers)?;
     let hearing = FirstHearing::new(alloc, paths.peers.len(), deadline_after(rt, pace.hearing))?;
-    let Ok((sockets, poll)) = BoundSockets::bind(rt, paths.sock, paths.control, observer) else {
+    let Ok((sockets, poll)) = BoundSockets::bind(rt, paths, observer) else {
         return Err(Fault::ReadFailed);
     };
     observer.listening();
@@ -496,7 +512,7 @@ fn close<S: RoundsTag, R: Wait>(
     finished: ThreadsEnd<S>,
 ) -> Result<Ran, Fault>
     requires parts { S.seats ≡ S.parts }
-    requires all { vec_len finished.thread_seats.news + (vec_len finished.thread_seats.workers + 2) ≡ S.seats }
+    requires all { vec_len finished.thread_seats.news + vec_len finished.thread_seats.http + (vec_len finished.thread_seats.workers + 2) ≡ S.seats }
     requires room { S.seats ≤ vec_capacity finished.thread_seats.news }
     ensures ok { IsOk result }
     ensures rounds { IfOk result (λ ran. ran.rounds ≡ S.rounds) }

@@ -1,13 +1,13 @@
 //! The observer of a running node.
-ghost use Rattle.std.specs.Prelude.{◌≡◌};
-ghost use Rattle.sb_run.specs.LogCauses as spec;
 
 use crate::peers::{Peer, PeerState};
 use sb_codec::OwnerAge;
+use sb_control::{LogCause, LogLoss};
 use sb_directory::Difference;
 use sb_log::StoreCause;
-use sb_types::Name;
+use sb_types::{Fault, Name};
 use sb_views::Snapshot;
+use std::alloc::Global;
 use std::fmt;
 
 /// Receives the events of a running node. Each method runs on the thread where the event happened, and that thread waits until it
@@ -96,6 +96,12 @@ pub trait Observer {
     /// that ends a second or more after the last call.
     fn status(&self, _status: &Status<'_>) {}
 
+    /// Returns the metrics of the node, in the text format of Prometheus, for whoever asks for them over HTTP. It may wait for
+    /// nobody. `NoMemory`; another fault if it has none now.
+    fn metrics(&self, alloc: Global) -> Result<Vec<u8>, Fault> {
+        Ok(Vec::new(alloc))
+    }
+
     /// At this path lay the socket of a node that no longer runs, and it was removed. It is called before `listening`.
     fn socket_removed(&self, _path: &str) {}
 }
@@ -110,67 +116,6 @@ impl Observer for Nobody {
     fn dialed(&self, _peer: &str, _state: PeerState) {}
 
     fn conflict(&self, _version: u64) {}
-}
-
-/// How the file of a log was lost while its node runs.
-#[derive(Clone, Copy, Debug, PartialEq, Eq)]
-pub enum LogLoss {
-    /// At its path there is no file any more.
-    Removed,
-    /// At its path there is another file.
-    Replaced,
-}
-
-/// Why a node takes no more writes into its log.
-#[derive(Clone, Copy, Debug, PartialEq, Eq)]
-pub enum LogCause {
-    /// The store of the log failed.
-    Store(StoreCause),
-    /// The file of the log was lost, so the next start would not find a write.
-    Lost(LogLoss),
-}
-
-impl LogCause {
-    /// Its number, 1 to 9.
-    pub(crate) fn number(self) -> u64
-        ensures { result ≡ spec.number_of_cause self }
-    {
-        match self {
-            LogCause::Store(cause) => cause.number(),
-            LogCause::Lost(LogLoss::Removed) => 8,
-            LogCause::Lost(LogLoss::Replaced) => 9,
-        }
-    }
-
-    /// The cause of this number; none if there is no such cause.
-    pub fn from_number(number: u64) -> Option<LogCause>
-        ensures { result ≡ spec.log_cause_numbered number }
-    {
-        match number {
-            8 => Some(LogCause::Lost(LogLoss::Removed)),
-            9 => Some(LogCause::Lost(LogLoss::Replaced)),
-            _ => Some(LogCause::Store(StoreCause::from_number(number)?)),
-        }
-    }
-
-    /// Its name in one word, for programs.
-    pub fn name(self) -> &'static str {
-        match self {
-            LogCause::Store(cause) => cause.name(),
-            LogCause::Lost(LogLoss::Removed) => "removed",
-            LogCause::Lost(LogLoss::Replaced) => "replaced",
-        }
-    }
-}
-
-impl fmt::Display for LogCause {
-    fn fmt<W: fmt::Write>(&self, f: &mut fmt::Formatter<W>) -> fmt::Result {
-        match self {
-            LogCause::Store(cause) => write!(f, "{cause}"),
-            LogCause::Lost(LogLoss::Removed) => f.write_str("its file was removed"),
-            LogCause::Lost(LogLoss::Replaced) => f.write_str("its file was replaced"),
-        }
-    }
 }
 
 /// How a running node is, as the thread that dials finds it.

@@ -18,7 +18,7 @@ use std::time::{Clock, Instant};
 const NEWS_INTERVAL: u64 = 20;
 
 /// The same after a burst of news that was gathered, as in a stream of writes.
-const STREAM_INTERVAL: u64 = 40;
+const STREAM_INTERVAL: u64 = 60;
 
 /// How a session with a peer ended: a round, or a push.
 #[derive(Clone, Copy)]

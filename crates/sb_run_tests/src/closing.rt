@@ -4,10 +4,10 @@ use crate::peers::{next_of, reach, serve_as_b};
 use crate::running::{Host, is_there, pace, paths_of};
 use crate::starting::log_of_two;
 use crate::{got, same};
+use sb_control::{LogCause, LogLoss};
 use sb_log::{Committed, StoreCause, WriteLog};
 use sb_run::{
-    LogCause, LogLoss, NodeConfig, Observer, OnLogFault, Pace, Paths, PeerState, Ran,
-    run_closed_node, run_node,
+    NodeConfig, Observer, OnLogFault, Pace, Paths, PeerState, Ran, run_closed_node, run_node,
 };
 use sb_table::Table;
 use sb_testing::wire::PUT;

@@ -3,21 +3,11 @@
 #![tactic(auto)]
 
 #[cfg(test)]
-mod asking;
-#[cfg(test)]
 mod auditing;
-#[cfg(test)]
-mod causes;
 #[cfg(test)]
 mod closing;
 #[cfg(test)]
-mod deferring;
-#[cfg(test)]
-mod desk;
-#[cfg(test)]
 mod examples;
-#[cfg(test)]
-mod failing;
 #[cfg(test)]
 mod forgetting;
 #[cfg(test)]
@@ -25,15 +15,7 @@ mod hearing;
 #[cfg(test)]
 mod making;
 #[cfg(test)]
-mod owing;
-#[cfg(test)]
-mod owning;
-#[cfg(test)]
 mod peers;
-#[cfg(test)]
-mod pooling;
-#[cfg(test)]
-mod purging;
 #[cfg(test)]
 mod pushing;
 #[cfg(test)]
@@ -64,12 +46,6 @@ use std::process::Abort;
 #[cfg(test)]
 fn got<T, E: Debug + Drop>(rt: &impl Abort, answer: Result<T, E>) -> T {
     answer.expect(rt, "error")
-}
-
-/// Returns what must be there. If it is not, ends the test.
-#[cfg(test)]
-fn there<T>(rt: &impl Abort, value: Option<T>) -> T {
-    value.expect(rt, "error: none")
 }
 
 /// Ends the test if the two differ. As a function it costs the prover a fifth of the macro.

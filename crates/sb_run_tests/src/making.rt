@@ -1,11 +1,10 @@
 //! Names, writes, logs and nodes for the tests.
 use crate::got;
-use sb_codec::Message;
 use sb_log::PlainLog;
 use sb_node::NodeCore;
 use sb_table::Table;
 use sb_testing::SETTINGS;
-use sb_types::{BUDGET_LEAST, Key, Name, RawSettings, Settings, Slot, Value, Write};
+use sb_types::{BUDGET_LEAST, Key, Name, RawSettings, Settings, Slot, Value};
 use std::alloc::Global;
 use std::process::Abort;
 
@@ -52,17 +51,4 @@ pub(crate) fn node_of(
     table: Table,
 ) -> NodeCore {
     got(rt, NodeCore::open(alloc, settings, name(rt, me), table))
-}
-
-/// A new node of the name a, with so many seats.
-pub(crate) fn new_node(rt: &impl Abort, alloc: Global, seats: u64) -> NodeCore {
-    node_of(rt, alloc, settings(rt, seats), b"a", Table::new(alloc))
-}
-
-/// A Put of the weight 5 under w.
-pub(crate) fn put_of_w(rt: &impl Abort) -> Message {
-    Message::Put(Write {
-        key: key(rt, b"w"),
-        slot: weight(rt, 5),
-    })
 }

@@ -1,11 +1,11 @@
 //! What a running node answers if it is asked how it is.
 
-use crate::asking::asked;
+use crate::examples::first_status;
 use crate::making::name;
 use crate::peers::{next_of, node_with, reach, talk};
 use crate::running::{pace, paths_of, run_a};
 use crate::{got, same};
-use sb_codec::{AskStatus, FigureKind, Message, NodeStatus};
+use sb_codec::{FigureKind, NodeStatus};
 use sb_query::status_in;
 use sb_run::Paths;
 use std::alloc::Global;
@@ -18,8 +18,7 @@ use std::{fs, thread};
 fn status_of<R: Net + Abort>(rt: &R, alloc: Global, control: &str) -> NodeStatus {
     let stream = reach(rt, control);
     let (mut reader, mut writer) = (&stream, &stream);
-    let request = Message::AskStatus(AskStatus::new(0));
-    let answer = got(rt, asked(alloc, &mut reader, &mut writer, &request, 9));
+    let answer = got(rt, first_status(alloc, &mut reader, &mut writer, 9));
     match status_in(answer) {
         Ok(status) => status,
         Err(_) => panic!(rt; "error: no status"),

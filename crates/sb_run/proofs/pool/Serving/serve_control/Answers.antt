@@ -1,7 +1,7 @@
 use Rattle.std.proofs.Common.{List, ℕ, Option, refl, subst, inl, inr}
 use Rattle.sb_frames.specs.Frames.{frame}
 use Rattle.sb_frames.specs.Sending.{Sends}
-use Rattle.sb_run.proofs.Receiving.{received_to, keeps_same}
+use Rattle.sb_control.proofs.Receiving.{received_to, keeps_same}
 use Rattle.sb_run.proofs.pool.Serving.serve_control.Goals as goal
 
 pub returns-in-Ok-clause-controls : goal.returns-in-Ok-clause-controls

@@ -1,6 +1,0 @@
-use Rattle.std.proofs.Common.{◌≡◌, ◌++◌, drop}
-use Rattle.attrdir.specs.Keeping.{rows_after}
-use Rattle.attrdir.proofs.keeping.kept_rows.Given as goal
-
-abbrev pub invariant-loop-row : goal.invariant-loop-row
-invariant-loop-row l = l.kept.items ++ rows_after l.reaches l.rest (drop l.row-index l.found) ≡ rows_after l.reaches l.fn.held l.found

@@ -1,6 +1,0 @@
-use Rattle.std.proofs.Common.{◌≡◌, ◌++◌, drop, Some}
-use Rattle.attrdir.specs.Rendering.{line_text, joined}
-use Rattle.attrdir.proofs.rendering.line_text.Given as goal
-
-abbrev pub invariant-loop-piece : goal.invariant-loop-piece
-invariant-loop-piece l = joined (Some l.line.items) (line_text l.owner l.rows (drop l.piece-index l.pieces)) ≡ line_text l.owner l.rows l.pieces

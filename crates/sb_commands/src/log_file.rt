@@ -1,0 +1,284 @@
+//! An owner's log in a file.
+ghost use Rattle.std.specs.Prelude.{◌≡◌, ◌≤◌, ◌<◌, ◌⊎◌, true, Ok, None, IfOk, IfSome, IfNone, IfErr, OnOk};
+ghost use Rattle.sb_log.specs.Puts.{content_after_purge};
+ghost use Rattle.sb_commands.specs.Removals as spec;
+
+use crate::failure::{Failure, FaultPlace};
+use crate::words::name_of;
+use sb_lines::{log_run, purge_run};
+use sb_log::{LogError, SqlLog, StoreCause, WriteLog};
+use sb_table::Table;
+use sb_types::{Fault, Name, Slot, VERSION_MOST};
+use sqlite::{Connection, Error, File, FileStore};
+use std::alloc::Global;
+use std::fs;
+use std::io::{ErrorKind, Write};
+
+/// A log in a file of the system.
+pub type FileLog = SqlLog<FileStore<File>>;
+
+/// Up to which version removals go.
+#[derive(Clone, Copy)]
+pub enum Floor {
+    At(u64),
+    /// The last version of the log.
+    Last,
+}
+
+/// The removals that a log dropped, and the version up to which they went.
+#[derive(Clone, Copy)]
+pub struct DroppedRemovals {
+    pub removals: usize,
+    pub floor: u64,
+}
+
+/// What became of the removals of a log when its node starts.
+#[derive(Drop)]
+pub enum StartPurge {
+    /// They stay: there are fewer than it takes.
+    Few,
+    /// They are dropped.
+    Dropped(DroppedRemovals),
+    /// The store of the log failed when they were to be dropped, and the log is closed. Before, it was read as this table.
+    Failed(Table),
+}
+
+/// A fault of a log, or of printing its lines.
+fn failure_of_fault(path: &str, fault: Fault) -> Failure<'_> {
+    match fault {
+        Fault::WriteFailed(_) => Failure::from(fault),
+        _ => Failure::at(FaultPlace::Log(path), fault),
+    }
+}
+
+/// An error of a log, or of printing its lines.
+pub(crate) fn failure(path: &str, error: LogError) -> Failure<'_> {
+    match error {
+        LogError::Store(cause) => Failure::of_store(path, cause),
+        LogError::Fault(fault) => failure_of_fault(path, fault),
+    }
+}
+
+/// The fault of a call of a log, with the cause by which the log is closed, if it is.
+pub fn error_of(fault: Fault, cause: Option<StoreCause>) -> LogError {
+    match (fault, cause) {
+        (Fault::StoreFailed, Some(cause)) => LogError::Store(cause),
+        (fault, _) => LogError::Fault(fault),
+    }
+}
+
+/// Whether the folder of a path is there.
+pub fn has_folder(rt: &HostRuntime, path: &str) -> bool {
+    match path.rsplit_once('/') {
+        Some(("", _)) | None => true,
+        Some((folder, _)) => fs::metadata(rt, folder).is_ok_and(|found| found.is_dir()),
+    }
+}
+
+/// Why a file was not opened.
+fn failure_of<'a>(rt: &HostRuntime, path: &'a str, error: &Error) -> Failure<'a> {
+    match StoreCause::of(error) {
+        StoreCause::NoMemory => Failure::at(FaultPlace::Log(path), Fault::NoMemory),
+        StoreCause::Damaged => Failure::at(FaultPlace::Log(path), Fault::LogDamaged),
+        StoreCause::Locked => Failure::at(FaultPlace::LockedLog(path), Fault::StoreFailed),
+        _ if !has_folder(rt, path) => Failure::at(
+            FaultPlace::NoLogFolder(path),
+            Fault::StoreFailed,
+        ),
+        cause => Failure::of_store(path, cause),
+    }
+}
+
+/// A connection to a file, which is made if it is not there. `StoreFailed` if it can't be opened or another has it open;
+/// `LogDamaged` if it is not a database; `NoMemory`.
+fn connect<'a>(
+    rt: &HostRuntime,
+    path: &'a str,
+) -> Result<Connection<FileStore<File>>, Failure<'a>> {
+    match Connection::open(rt, path) {
+        Ok(conn) => Ok(conn),
+        Err(error) => Err(failure_of(rt, path, &error)),
+    }
+}
+
+/// The log of an owner of a cluster, in a file that is made if it is not there. An empty one becomes a new log. It gives versions up to
+/// `max_version`. The faults of `connect` and of `SqlLog::open`.
+fn log_in<'a>(
+    rt: &HostRuntime,
+    path: &'a str,
+    owner: Name,
+    cluster: Name,
+    max_version: u64,
+) -> Result<FileLog, Failure<'a>> {
+    let conn = connect(rt, path)?;
+    match SqlLog::open(rt.alloc(), conn, owner, cluster, max_version) {
+        Ok(log) => Ok(log),
+        Err((error, _)) => Err(failure(path, error)),
+    }
+}
+
+/// The log of an owner of a cluster, in a file that is there. `StoreFailed` if it is not, or must not be read; the faults of
+/// `log_in`.
+pub fn open_log<'a>(
+    rt: &HostRuntime,
+    path: &'a str,
+    owner: Name,
+    cluster: Name,
+    max_version: u64,
+) -> Result<FileLog, Failure<'a>> {
+    if let Err(error) = fs::File::open(rt, path) {
+        let place = match error.kind() {
+            ErrorKind::NotFound if !has_folder(rt, path) => FaultPlace::NoLogFolder(path),
+            ErrorKind::NotFound => FaultPlace::NoLog(path),
+            _ => FaultPlace::UnreadableLog(path),
+        };
+        return Err(Failure::at(place, Fault::StoreFailed));
+    }
+    log_in(rt, path, owner, cluster, max_version)
+}
+
+/// The log of an owner of a cluster, in a file that is made if it is not there. It gives all versions. The faults of `log_in`.
+pub(crate) fn make_log<'a>(
+    rt: &HostRuntime,
+    path: &'a str,
+    owner: Name,
+    cluster: Name,
+) -> Result<FileLog, Failure<'a>> {
+    log_in(rt, path, owner, cluster, VERSION_MOST)
+}
+
+/// Whether another process has the log at a path open. Otherwise it makes the file, if there is none.
+pub(crate) fn is_locked(rt: &HostRuntime, path: &str) -> bool {
+    match Connection::open(rt, path) {
+        Ok(_) => false,
+        Err(error) => matches!(StoreCause::of(&error), StoreCause::Locked),
+    }
+}
+
+/// Copies what the `-wal` of a log has into the file of the log, which nobody has open. From then on that file has the whole
+/// log. The faults of `connect`, and `StoreFailed`.
+pub(crate) fn settle_log<'a>(rt: &HostRuntime, path: &'a str) -> Result<(), Failure<'a>> {
+    let conn = connect(rt, path)?;
+    match conn.close() {
+        Ok(()) => Ok(()),
+        Err(error) => Err(Failure::of_store(path, StoreCause::of(&error))),
+    }
+}
+
+/// Prints what a log holds, and ends it. The faults of `log_run`, then those of `close`.
+fn print_lines<L: WriteLog>(rt: &HostRuntime, log: L) -> Result<(), LogError> {
+    let mut log = log;
+    let (printed, _) = log_run(rt.alloc(), &mut log, &mut rt.stdout());
+    let cause = log.cause();
+    match printed.and(log.close()) {
+        Ok(()) => Ok(()),
+        Err(fault) => Err(error_of(fault, cause)),
+    }
+}
+
+/// Prints what the log of an owner of a cluster holds. `BadName` of either name, before the file is looked for; then the
+/// faults of `open_log`, of `log_run` and of `close`.
+pub fn print_log<'a>(
+    rt: &HostRuntime,
+    path: &'a str,
+    owner: &'a str,
+    cluster: &'a str,
+) -> Result<(), Failure<'a>> {
+    let owner = name_of("--name", owner)?;
+    let cluster = name_of("--cluster", cluster)?;
+    let log = open_log(rt, path, owner, cluster, VERSION_MOST)?;
+    match print_lines(rt, log) {
+        Ok(()) => Ok(()),
+        Err(error) => Err(failure(path, error)),
+    }
+}
+
+/// Drops the removals of a log up to a version, and prints that version. The faults of `load`, if the version is the last; then
+/// those of `purge_run`.
+fn purge_to<L: WriteLog, W: Write>(
+    alloc: Global,
+    log: &mut L,
+    floor: Floor,
+    writer: &mut W,
+) -> Result<(), Fault>
+    ensures purges { OnOk result ((L.seen log.new).is_clean ≡ true
+        → (L.seen log.new).content ≡ content_after_purge (spec.floor_of floor (L.seen log.old).content) (L.seen log.old).content) }
+    ensures result { spec.PurgesTo floor (L.seen log.old) (W.contents writer.old) result (L.seen log.new) (W.contents writer.new) }
+{
+    let version = match floor {
+        Floor::At(version) => version,
+        Floor::Last => log.load(alloc)?.upto(),
+    };
+    let (purged, _) = purge_run(alloc, log, version, writer);
+    purged
+}
+
+/// The same, and ends the log. The faults of `purge_to`, then those of `close`.
+fn purge_lines<L: WriteLog>(rt: &HostRuntime, log: L, floor: Floor) -> Result<(), LogError> {
+    let mut log = log;
+    let purged = purge_to(rt.alloc(), &mut log, floor, &mut rt.stdout());
+    let cause = log.cause();
+    match purged.and(log.close()) {
+        Ok(()) => Ok(()),
+        Err(fault) => Err(error_of(fault, cause)),
+    }
+}
+
+/// Drops the removals of the log of an owner of a cluster, and prints up to which version. `BadName` of either name, before the
+/// file is looked for; then the faults of `open_log`, of `load` and `purge_run`, and of `close`.
+pub fn purge_log<'a>(
+    rt: &HostRuntime,
+    path: &'a str,
+    owner: &'a str,
+    cluster: &'a str,
+    floor: Floor,
+) -> Result<(), Failure<'a>> {
+    let owner = name_of("--name", owner)?;
+    let cluster = name_of("--cluster", cluster)?;
+    let log = open_log(rt, path, owner, cluster, VERSION_MOST)?;
+    match purge_lines(rt, log, floor) {
+        Ok(()) => Ok(()),
+        Err(error) => Err(failure(path, error)),
+    }
+}
+
+/// How many keys of a table are removed ones.
+fn count_removals(table: &Table) -> usize
+    ensures { result ≡ spec.removals_in table.now.entries }
+{
+    let mut count = 0;
+    for entry in table.after(0) {
+        if matches!(entry.slot(), Slot::Removed) {
+            count += 1;
+        }
+    }
+    count
+}
+
+/// Drops the removals of a log up to its last version, if it has `least` of them or more, and says what became of them. Nothing is
+/// dropped if `least` is 0. A store that fails then leaves the log closed, and the removals are dropped
+/// or are not; that is not a fault. The faults are those of `load`.
+pub fn purge_removals<L: WriteLog>(
+    rt: &HostRuntime,
+    log: &mut L,
+    least: u64,
+) -> Result<StartPurge, Fault>
+    ensures never { least ≡ 0 → (result ≡ Ok StartPurge.Few) × (log.new ≡ log.old) }
+    ensures done { IfOk result (λ purge. spec.IsPurged least (L.seen log.old) purge (L.seen log.new)) }
+    ensures failed { IfErr result (λ fault. spec.FailsToDrop (L.seen log.old) fault (L.seen log.new)) }
+{
+    if least == 0 {
+        return Ok(StartPurge::Few);
+    }
+    let table = log.load(rt.alloc())?;
+    let removals = count_removals(&table);
+    if (removals as u64) < least {
+        return Ok(StartPurge::Few);
+    }
+    let floor = table.upto();
+    match log.purge(floor) {
+        Ok(()) => Ok(StartPurge::Dropped(DroppedRemovals { removals, floor })),
+        Err(Fault::StoreFailed) => Ok(StartPurge::Failed(table)),
+        Err(fault) => Err(fault),
+    }
+}

@@ -1,0 +1,4 @@
+use Rattle.sb_run_tests.proofs.examples.first_status.Given as goal
+
+abbrev pub ghosts-ask_on : goal.ghosts-ask_on
+ghosts-ask_on g a = record { name = a.blank.name; parts = a.blank.parts }
