@@ -1,18 +1,23 @@
 //! Callers that wait for a change at a running node, ages of owners, and beats.
+ghost use Rattle.std.specs.Prelude.{◌≡◌, ◌<◌};
 
-use crate::asking::asked;
 use crate::making::{key, name};
 use crate::peers::{next_of, node_with, put_is_done, reach, talk};
 use crate::running::{pace, paths_of, run_a};
 use crate::{got, holds, same};
 use sb_codec::{Ages, Message};
+use sb_control::ask_control;
+use sb_frames::{Connection, Steps};
 use sb_query::ages_in;
 use sb_run::{Beat, Pace, Paths};
+use sb_types::Fault;
 use std::alloc::Global;
 use std::io::{Read, Write};
+use std::marker::Brand;
 use std::net::Net;
 use std::os::unix::net::{UnixListener, UnixStream};
 use std::process::Abort;
+use std::sync::ledger::{Blank, Ledger};
 use std::{fs, thread};
 
 /// Asks for the next change under w, within 30,000 milliseconds.
@@ -55,14 +60,20 @@ fn notices<R: Net + Abort>(rt: &R, control: &str) -> [u8; 4] {
     [first, second, third, heard(rt, &under_w)]
 }
 
+/// What a node says to an AskAges over a connection.
+fn ages_over<K: Ledger>(alloc: Global, stream: &UnixStream, blank: Blank) -> Result<Message, Fault>
+    requires name { blank.name ≡ K.name }
+    requires parts { blank.parts ≡ K.parts }
+    requires some { 0 < blank.parts }
+{
+    let mut connection = Connection::new(alloc, stream, stream, 9, Steps::<K>::new(blank));
+    ask_control(&mut connection, &Message::AskAges)
+}
+
 /// How long ago the node heard owners.
 fn ages_at<R: Net + Abort>(rt: &R, alloc: Global, control: &str) -> Ages {
     let stream = reach(rt, control);
-    let (mut reader, mut writer) = (&stream, &stream);
-    let answer = got(
-        rt,
-        asked(alloc, &mut reader, &mut writer, &Message::AskAges, 9),
-    );
+    let answer = got(rt, ages_over::<Brand>(alloc, &stream, Blank::new(1)));
     match ages_in(answer) {
         Ok(ages) => ages,
         Err(_) => panic!(rt; "error: no ages"),
