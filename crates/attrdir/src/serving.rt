@@ -10,9 +10,7 @@ use sb_commands::{
     Failure, FaultPlace, StartPurge, error_of, has_folder, name_of, open_log, purge_removals,
 };
 use sb_log::{LogError, WriteLog};
-use sb_run::{
-    Beat, NodeConfig, Pace, Paths, Ran, Runtime, is_own_port, run_closed_node, run_node,
-};
+use sb_run::{Beat, NodeConfig, Pace, Paths, Ran, Runtime, is_own_port, run_closed_node, run_node};
 use sb_table::Table;
 use sb_types::{Fault, Key, Name, RawSettings, Settings};
 use std::alloc::Global;
