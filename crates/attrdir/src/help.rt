@@ -306,9 +306,9 @@ Example:
 
 pub(crate) const GET: &str =
     "Each row is a line: owner, key, version, kind and value, in ascending owner and then key. A removed key has no row. With --format json it is a
-JSON object of key, kind, owner, value and version, and with --ages of age too: how many milliseconds ago the node heard the owner. There the value of an addr or a text is a string, of a weight a number, and of a flag true
-or false. Rows of other owners are as far as the node has heard of them. Rows come page by page: each page is one state of the node, and no
-page is older than the page before.
+JSON object of key, kind, owner, value and version. There the value of an addr or a text is a string, of a weight a number, and of a flag true or
+false. With --ages the object has an age too: how many milliseconds ago the node heard the owner. Rows of other owners are as far as the node has
+heard of them. Rows come page by page: each page is one state of the node, and no page is older than the page before.
 
 With --owner and --key it prints only the row of that key. With --value too it prints only its value, a text as it is spelled in the row. With
 --raw too it prints a text as it is. If there is no such row it prints nothing, and the exit status is 1.
