@@ -47,8 +47,8 @@ def soon(check):
             near.put("w", at)
             watch.awaits([f"set a w {at + 2} weight {at}"])
             times.append((time.monotonic() - began) * 1000)
-            # (news is gathered for 40 ms at the most after the burst before)
-            time.sleep(0.05)
+            # (news is gathered for 60 ms at the most after the burst before)
+            time.sleep(0.1)
     finally:
         watch.stop()
     if statistics.median(times) >= MEDIAN_MOST:
