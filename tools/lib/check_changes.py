@@ -11,6 +11,8 @@ from nodes import BYE, SECONDS, Difference, connect, delta, frame, hello, number
 # how many milliseconds may pass from `set` at a node to the line of `watch` at its peer, at the median
 MEDIAN_MOST = 10
 WRITES = 200
+# up to which age rows are asked for; the part of ages takes that long
+SECONDS_MOST = 5
 
 
 def ask_change(owner, prefix, wait):
@@ -136,22 +138,33 @@ def over_restarts(check):
         watch.stop()
 
 
+def told_between(node, *words):
+    """Tells a node of writes. The moments between which it heard them."""
+    began = time.monotonic()
+    tell(node, *words)
+    return began, time.monotonic()
+
+
 def owner_ages(check):
-    """Ages say how long ago a version rose; old rows are left out; and a beat keeps an owner young."""
+    """Ages say how long ago a version rose; old rows are left out; and a repeat makes no owner younger."""
     node = check.node("a").start()
-    tell(node, "p", 0, ("x", 1, 10))
-    time.sleep(1.2)
-    tell(node, "q", 0, ("x", 1, 10))
+    times = {"p": told_between(node, "p", 0, ("x", 1, 10))}
+    time.sleep(SECONDS_MOST + 1)
+    times["q"] = told_between(node, "q", 0, ("x", 1, 10))
+    asked = time.monotonic()
     ages = {it["owner"]: it["age"] for it in map(json.loads, node.get("--format", "json", "--ages"))}
+    answered = time.monotonic()
     want("whose ages", sorted(ages), ["p", "q"])
-    if not (1200 <= ages["p"] <= 5000 and ages["q"] <= 1000):
-        raise Difference(f"ages: {ages}")
-    want("rows of a second", node.get("--max-age", "1"), ["q x 1 weight 10"])
+    for owner, (began, ended) in times.items():
+        if not (asked - ended) * 1000 - 1 <= ages[owner] <= (answered - began) * 1000 + 1:
+            raise Difference(f"the age of {owner} is {ages[owner]}, and it was heard from {asked - ended} to {answered - began} s ago")
+    late = str(SECONDS_MOST)
+    want("rows of some seconds", node.get("--max-age", late), ["q x 1 weight 10"])
     want("rows of an hour", node.get("--max-age", "3600"), ["p x 1 weight 10", "q x 1 weight 10"])
     tell(node, "p", 0, ("x", 1, 10))
-    want("rows of a second, after a repeat", node.get("--max-age", "1"), ["q x 1 weight 10"])
+    want("rows of some seconds, after a repeat", node.get("--max-age", late), ["q x 1 weight 10"])
     tell(node, "p", 1, ("y", 2, 20))
-    want("rows of a second, after a write", node.get("--max-age", "1"), ["p x 1 weight 10", "p y 2 weight 20", "q x 1 weight 10"])
+    want("rows of some seconds, after a write", node.get("--max-age", late), ["p x 1 weight 10", "p y 2 weight 20", "q x 1 weight 10"])
     words = ["owners", "--sock", str(node.sock), "--cluster", "c", "--ages-from", str(node.control)]
     status, printed, said = run(node.program, *words)
     lines = [it.split() for it in printed.splitlines()]
