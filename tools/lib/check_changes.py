@@ -173,12 +173,20 @@ def owner_ages(check):
     want("ages without JSON", node.command("get", "--ages")[:2], (2, ""))
 
 
+def beats_in(rows, owner, key):
+    """The version of the beat, if it is the only row of these."""
+    words = [it.split() for it in rows]
+    if [[*it[:2], *it[3:]] for it in words] != [[owner, key, "flag", "true"]]:
+        return 0
+    return int(words[0][2])
+
+
 def beats(check):
     """A node with a beat writes it again and again, under the key that is given."""
     node = check.node("a", "--beat", "1").start()
     other = check.node("b", "--beat", "1", "--beat-key", "lives").start()
-    node.awaits("the third beat", lambda rows: rows == ["a beat 3 flag true"])
-    other.awaits("the second beat", lambda rows: rows[:1] != [] and rows[0].startswith("b lives ") and rows[0] != "b lives 1 flag true")
+    node.awaits("the third beat", lambda rows: beats_in(rows, "a", "beat") >= 3)
+    other.awaits("the second beat", lambda rows: beats_in(rows, "b", "lives") >= 2)
     silent = check.node("c").start()
     time.sleep(0.1)
     want("a node without", silent.get(), [])
