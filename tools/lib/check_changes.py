@@ -82,7 +82,8 @@ def notices(check):
 def many(check):
     """A node watches for 64 callers; one more is refused, and its watch asks by the clock; a caller that leaves makes room."""
     node = check.node("a").start()
-    streams = [ask_for_change(node) for _ in range(64)]
+    # (no time is over before the part is)
+    streams = [ask_for_change(node, wait=600_000) for _ in range(64)]
     want("64 answers", {it for _, it in streams}, {(0x18, b"\x01")})
     want("one more", ask_for_change(node)[1], (0x14, bytes([27])))
     watch = Watching(node, "--every", "20")
@@ -93,7 +94,7 @@ def many(check):
     finally:
         watch.stop()
     want("the answers", {read_frame(it) for it, _ in streams}, {(0x18, b"\x02")})
-    left = [ask_for_change(node)[0] for _ in range(64)]
+    left = [ask_for_change(node, wait=600_000)[0] for _ in range(64)]
     for it in left[:10]:
         it.close()
     end = time.monotonic() + SECONDS
