@@ -1,13 +1,14 @@
 //! The status and the body of a response, from what a backend answers.
-ghost use Rattle.std.specs.Prelude.{◌≡◌, if◌then◌else◌, Ok, IfOk};
+ghost use Rattle.std.specs.Prelude.{◌≡◌, ◌≢◌, if◌then◌else◌, Ok, IfOk};
 ghost use Rattle.sb_query.specs.Statuses.{is_ready};
 ghost use Rattle.sb_http.specs.Acts.{Act};
-ghost use Rattle.sb_http.specs.Answers.{IsCallFor, Says, IsFault, IsNone, IsPage, IsRow, IsHealth, IsWritten, put_status};
+ghost use Rattle.sb_http.specs.Answers.{IsCallFor, Says, IsFault, IsNone, IsPage, IsMarkedPage, IsRow, IsHealth, IsWritten, put_status};
 
-use crate::asked::Asked;
-use crate::backend::Backend;
+use crate::asked::{Asked, Patience};
+use crate::backend::{Backend, MarkedReply};
 use crate::bodies::{
-    error_line, fault_line, health_line, owners_line, page_line, row_line, version_line,
+    error_line, fault_line, health_line, marked_page_line, owners_line, page_line, row_line,
+    version_line,
 };
 use http::StatusCode;
 use sb_codec::{Ask, AskStatus, Message, NodeStatus, Rows};
@@ -78,6 +79,23 @@ fn page_content(alloc: Global, page: &Result<Rows, NoAnswer>) -> Result<Content,
         Ok(page) => Ok(Content {
             status: StatusCode::OK,
             body: page_line(alloc, page)?,
+        }),
+        Err(reason) => none_content(alloc, *reason),
+    }
+}
+
+/// Has a page with a mark. `NoMemory`.
+fn marked_content(
+    alloc: Global,
+    page: &Result<Rows, NoAnswer>,
+    mark: &Key,
+) -> Result<Content, Fault>
+    ensures { IfOk result (λ content. IsMarkedPage mark.now page.now (content.status, content.body.items)) }
+{
+    match page {
+        Ok(page) => Ok(Content {
+            status: StatusCode::OK,
+            body: marked_page_line(alloc, page, mark)?,
         }),
         Err(reason) => none_content(alloc, *reason),
     }
@@ -182,6 +200,24 @@ fn answer_health<B: Backend>(alloc: Global, backend: &mut B) -> Result<Content, 
     health_content(alloc, &status)
 }
 
+/// Asks for a page of rows once they are others than those that were seen. `NoMemory`.
+fn answer_poll<B: Backend>(
+    alloc: Global,
+    backend: &mut B,
+    ask: &Ask,
+    patience: &Patience,
+) -> Result<Content, Fault>
+    ensures { (act : Act) × B.step backend.old act backend.new × IsCallFor (Asked.Poll ask.now patience.now) act × IfOk result (λ content. Says (Asked.Poll ask.now patience.now) act (content.status, content.body.items)) }
+{
+    match backend.poll(ask, patience) {
+        Ok(found) => {
+            let MarkedReply { reply, mark } = found;
+            marked_content(alloc, &page_in(reply), &mark)
+        }
+        Err(fault) => fault_content(alloc, StatusCode::SERVICE_UNAVAILABLE, fault),
+    }
+}
+
 /// Asks for a write to be made. `NoMemory`, after it was asked for.
 fn answer_put<B: Backend>(alloc: Global, backend: &mut B, write: Write) -> Result<Content, Fault>
     ensures { (act : Act) × B.step backend.old act backend.new × IsCallFor (Asked.Put write) act × IfOk result (λ content. Says (Asked.Put write) act (content.status, content.body.items)) }
@@ -225,14 +261,17 @@ pub(crate) fn answer<B: Backend>(
     backend: &mut B,
     asked: Asked,
 ) -> Result<Content, Fault>
+    requires { asked ≢ Asked.Page }
     ensures { (act : Act) × B.step backend.old act backend.new × IsCallFor asked act × IfOk result (λ content. Says asked act (content.status, content.body.items)) }
 {
     match asked {
         Asked::Rows(ask) => answer_rows(alloc, backend, ask),
         Asked::Row(owner, key) => answer_row(alloc, backend, owner, key),
+        Asked::Poll(ask, patience) => answer_poll(alloc, backend, &ask, &patience),
         Asked::Put(write) => answer_put(alloc, backend, write),
         Asked::Health => answer_health(alloc, backend),
         Asked::Owners => answer_owners(alloc, backend),
         Asked::Metrics => Ok(answer_metrics(alloc, backend)),
+        Asked::Page => unreachable!(),
     }
 }

@@ -30,14 +30,15 @@ mod bodies;
 mod contents;
 mod host;
 mod laws;
+mod page;
 mod parts;
 mod rows_query;
 mod service;
 mod serving;
 mod write_body;
 
-pub use asked::{Asked, Door, Unasked, asked_by};
-pub use backend::{Backend, HeldOwner};
+pub use asked::{Asked, Door, Patience, Unasked, asked_by};
+pub use backend::{Backend, HeldOwner, MarkedReply};
 pub use laws::{other_methods_only_read, ports_only_read, ports_take_local_hosts};
 pub use service::HttpService;
 pub use serving::serve_connection;

@@ -102,7 +102,7 @@ fn a_write_has_a_key_and_a_method(rt: HostRuntime) {
     case(&rt, alloc, "PUT /v1/keys/K", "", "400", key);
     case(&rt, alloc, "DELETE /v1/keys/", "", "400", key);
     let parameters =
-        "{\"error\":\"the parameters are owner, prefix and after, or owner and key, or key for a write, each once\"}\n";
+        "{\"error\":\"the parameters are owner, prefix, after, wait and seen, or owner and key, or key for a write, each once\"}\n";
     case(&rt, alloc, "PUT /v1/keys", "", "400", parameters);
     case(&rt, alloc, "PUT /v1/keys?key=k&owner=a", "", "400", parameters);
     let method = "{\"error\":\"this path is only written\"}\n";

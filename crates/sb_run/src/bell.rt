@@ -5,7 +5,7 @@ use crate::gate::{Gate, GatePoint};
 use crossbeam_utils::sync::{Parker, Unparker};
 use sb_types::{Delta, Fault};
 use std::alloc::Global;
-use std::sync::atomic::{AtomicBool, Ordering};
+use std::sync::atomic::{AtomicBool, AtomicU64, Ordering};
 
 /// Wakes the threads that dial when there is something new to pass on. Sessions pass it as a gate that turns nobody away.
 #[derive(Drop)]
@@ -16,6 +16,8 @@ pub(crate) struct Bell {
     news: Unparker,
     /// Whether there is news that no burst has taken up.
     has_news: AtomicBool,
+    /// How much news there was.
+    news_count: AtomicU64,
     /// Whether an owner may have come that was not held.
     has_new_owner: AtomicBool,
     /// Whether a peer sent writes after ones that are missing.
@@ -52,6 +54,7 @@ impl Bell {
             turns: parkers.turns.unparker().clone()?,
             news: waits_for_news(&parkers, is_alone).clone()?,
             has_news: AtomicBool::new(false),
+            news_count: AtomicU64::new(0),
             has_new_owner: AtomicBool::new(false),
             has_gap: AtomicBool::new(false),
         };
@@ -60,6 +63,7 @@ impl Bell {
 
     /// Says that there is news, and whether it is of an owner that was not held.
     pub(crate) fn ring(&self, is_new_owner: bool) {
+        self.news_count.fetch_add(1, Ordering::SeqCst);
         if is_new_owner {
             self.has_new_owner.store(true, Ordering::SeqCst);
         }
@@ -78,6 +82,11 @@ impl Bell {
     pub(crate) fn wake(&self) {
         self.turns.unpark();
         self.wake_for_news();
+    }
+
+    /// How much news there was until now. Polls over HTTP look at it.
+    pub(crate) fn news_count(&self) -> u64 {
+        self.news_count.load(Ordering::SeqCst)
     }
 
     /// Whether there is news that was not taken.

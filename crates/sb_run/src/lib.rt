@@ -130,6 +130,7 @@ mod first_hearing;
 mod first_message;
 mod forgetting;
 mod gate;
+mod http_polls;
 mod http_socket;
 mod http_threads;
 mod http_writes;
