@@ -17,7 +17,7 @@ _attrdir() {
     [--format]='text json'
   )
   local -A options_of=(
-    [serve]='--name --cluster --log --sock --control --budget --order --max-version --workers --seats --rounds --pause --fanout --idle --session --dial-idle --request --max-reads --on-log-fault --purge-removals --audit --no-wait --forget --log-time --metrics --metrics-owners --metrics-peers --help'
+    [serve]='--name --cluster --log --sock --control --budget --order --max-version --workers --seats --rounds --pause --fanout --idle --session --dial-idle --request --max-reads --on-log-fault --purge-removals --audit --no-wait --forget --log-time --metrics --metrics-owners --metrics-peers --http --help'
     [set]='--control --raw --help'
     [del]='--control --help'
     [get]='--control --owner --prefix --key --value --raw --format --help'

@@ -11,8 +11,11 @@ use sb_control::{LogCause, LogLoss};
 use sb_directory::Difference;
 use sb_run::{Observer, PeerState, Status};
 use sb_types::{Fault, KEYS_MOST, Name, OWNERS_MOST};
+use std::alloc::Global;
 use std::fmt;
 use std::sync::atomic::{AtomicBool, Ordering};
+use std::sync::{Mutex, MutexGuard};
+use std::thread::yield_now;
 
 /// How much a line matters.
 #[derive(Clone, Copy)]
@@ -72,6 +75,8 @@ pub(crate) struct Console<'r, 'a> {
     pub(crate) has_time: bool,
     /// The file of metrics.
     pub(crate) metrics: Option<MetricsFile<'a>>,
+    /// The metrics of the last report, if they are asked for over HTTP.
+    pub(crate) metrics_text: Option<Mutex<Vec<u8>>>,
     /// Which metrics the file has.
     pub(crate) series: Series,
     /// When the node was started, in seconds since 1970; 0 if the clock could not be read.
@@ -249,6 +254,38 @@ impl Console<'_, '_> {
     }
 }
 
+/// How many times a thread tries to lock the kept text. Who holds it only copies a text.
+const LOCK_TRIES: u64 = 10_000;
+
+/// The kept text, once no other thread holds it. `None` if it is held for so many tries.
+fn lock_kept(text: &Mutex<Vec<u8>>) -> Option<MutexGuard<'_, Vec<u8>>> {
+    for _ in 0..LOCK_TRIES {
+        if let Some(kept) = text.try_lock() {
+            return Some(kept);
+        }
+        yield_now();
+    }
+    None
+}
+
+/// Keeps the text of metrics, unless there is no memory for it, or other threads hold it for too long.
+fn keep_metrics(alloc: Global, text: &Mutex<Vec<u8>>, metrics: &Metrics<'_, '_>) {
+    let Ok(newest) = format!(in alloc; "{metrics}") else {
+        return;
+    };
+    if let Some(mut kept) = lock_kept(text) {
+        *kept = newest.into_bytes();
+    }
+}
+
+/// A copy of the kept text. `NoMemory`; `Closed` if other threads hold it for too long.
+fn kept_metrics(alloc: Global, text: &Mutex<Vec<u8>>) -> Result<Vec<u8>, Fault> {
+    match lock_kept(text) {
+        Some(kept) => Ok(Vec::from_slice(alloc, &kept)?),
+        None => Err(Fault::Closed),
+    }
+}
+
 impl Observer for Console<'_, '_> {
     fn release(&self) -> &str {
         RELEASE
@@ -349,6 +386,16 @@ impl Observer for Console<'_, '_> {
         self.report_troubles(status);
         if let Some(file) = &self.metrics {
             self.write_metrics(file, &metrics);
+        }
+        if let Some(text) = &self.metrics_text {
+            keep_metrics(self.rt.alloc(), text, &metrics);
+        }
+    }
+
+    fn metrics(&self, alloc: Global) -> Result<Vec<u8>, Fault> {
+        match &self.metrics_text {
+            Some(text) => kept_metrics(alloc, text),
+            None => Err(Fault::Closed),
         }
     }
 

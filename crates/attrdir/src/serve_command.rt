@@ -5,7 +5,7 @@ use crate::metrics::Series;
 use crate::serving::ServeArguments;
 use clap::ArgMatches;
 use sb_commands::{Kind, Part, Range};
-use sb_run::{OnLogFault, Pace};
+use sb_run::{HTTP_WORKERS, OnLogFault, Pace};
 use sb_types::{
     BUDGET_LEAST, BUDGET_MOST, Order, RawSettings, SEATS_MOST, VERSION_MOST, WORKERS_MOST,
 };
@@ -101,12 +101,16 @@ const WORKERS: Part = Part {
     help: "How many connections of peers the node serves at once",
 };
 
-/// The seats beyond workers and 2 are for news: so many peers get it at a time. See [News](#news).
+/// Of the seats beyond workers and 2, the first 8 are for HTTP if there is `--http`, and it needs one. The others are for news: so
+/// many peers get it at a time. See [News](#news).
 /// Greater: More slow peers delay nobody else, in more threads.
 /// Smaller: With workers and 2, peers get news one after another. Less: Fault 5.
 pub(crate) const SEATS: Part = Part {
     name: "seats",
-    kind: Kind::NumberElse(Range::Seats(SEATS_MOST), "workers, fanout and 2"),
+    kind: Kind::NumberElse(
+        Range::Seats(SEATS_MOST),
+        "workers, fanout and 2, and 8 with --http",
+    ),
     value: "S",
     help: "How many threads read and write the directory",
 };
@@ -253,6 +257,15 @@ const METRICS: Part = Part {
     help: "The file in which the node reports how it is, in the text format of Prometheus",
 };
 
+/// With it the node answers over HTTP, for reading: rows, owners, whether it is ready, and metrics. It takes only an address of this
+/// machine, or the path of a socket. Up to 8 connections are answered at once, each from a seat of its own. See [HTTP](#http).
+const HTTP: Part = Part {
+    name: "http",
+    kind: Kind::ValueElse("none"),
+    value: "ADDRESS",
+    help: "Where the node answers over HTTP: 127.0.0.1:PORT, [::1]:PORT, or the path of a socket",
+};
+
 /// With none the file stays small in a large cluster: a thousand nodes that hold each other make two million series.
 const METRICS_OWNERS: Part = Part {
     name: "metrics-owners",
@@ -295,22 +308,29 @@ pub(crate) fn serve_arguments<'a>(
             has_owners: is_all(METRICS_OWNERS.value(given)),
             has_peers: is_all(METRICS_PEERS.value(given)),
         },
+        http: HTTP.value_if_any(given),
     })
 }
 
-/// How many seats so many workers and so many sessions for news have use for: two more, but not more than there may be.
-fn seats_for(workers: u64, fanout: u64) -> u64 {
+/// How many seats so many workers, sessions for news and connections over HTTP have use for: two more. It is not more than there may
+/// be.
+fn seats_for(workers: u64, fanout: u64, http: u64) -> u64 {
     let least = workers.saturating_add(2);
-    least.max(least.saturating_add(fanout).min(SEATS_MOST))
+    let wanted = least.saturating_add(fanout).saturating_add(http);
+    least.max(wanted.min(SEATS_MOST))
 }
 
-/// The settings of a node. Without `--seats` there is a seat for each worker, for each peer that is dialed at once for news, and
-/// two more. There are at most as many as there may be.
+/// The settings of a node. Without `--seats` there are two seats, and one for each worker, each connection over HTTP, and
+/// each peer that is dialed at once for news. There are at most as many as there may be.
 fn settings_of<'a>(given: &ArgMatches<'a>) -> RawSettings<'a> {
     let workers = WORKERS.number(given);
     let order = match ORDER.value(given) {
         "depth" => Order::Depth,
         _ => Order::Breadth,
+    };
+    let http = match HTTP.value_if_any(given) {
+        Some(_) => HTTP_WORKERS,
+        None => 0,
     };
     RawSettings {
         cluster: NODE_CLUSTER.value(given).as_bytes(),
@@ -319,7 +339,7 @@ fn settings_of<'a>(given: &ArgMatches<'a>) -> RawSettings<'a> {
         max_version: MAX_VERSION.number(given),
         seats: SEATS
             .number_if_any(given)
-            .unwrap_or(seats_for(workers, FANOUT.number(given))),
+            .unwrap_or(seats_for(workers, FANOUT.number(given), http)),
         workers,
     }
 }
@@ -382,5 +402,6 @@ pub(crate) const SERVE_TASK: Task = Task {
         METRICS,
         METRICS_OWNERS,
         METRICS_PEERS,
+        HTTP,
     ],
 };

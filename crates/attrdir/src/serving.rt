@@ -10,15 +10,16 @@ use sb_commands::{
     Failure, FaultPlace, StartPurge, error_of, has_folder, name_of, open_log, purge_removals,
 };
 use sb_log::{LogError, WriteLog};
-use sb_run::{NodeConfig, Pace, Paths, Ran, Runtime, run_closed_node, run_node};
+use sb_run::{NodeConfig, Pace, Paths, Ran, Runtime, is_own_port, run_closed_node, run_node};
 use sb_table::Table;
 use sb_types::{Fault, Name, RawSettings, Settings};
 use std::alloc::Global;
 use std::fs::{remove_file, symlink_metadata};
 use std::io::ErrorKind;
-use std::net::{Net, TcpListener, TcpStream};
+use std::net::{Net, SocketAddr, TcpListener, TcpStream};
 use std::os::unix::fs::FileTypeExt;
 use std::os::unix::net::UnixListener;
+use std::sync::Mutex;
 
 /// The most bytes of the path of a socket.
 const SOCKET_PATH_MOST: usize = 107;
@@ -45,6 +46,8 @@ pub(crate) struct ServeArguments<'a> {
     pub(crate) metrics: Option<&'a str>,
     /// Which metrics that file has.
     pub(crate) series: Series,
+    /// The address at which the node answers over HTTP.
+    pub(crate) http: Option<&'a str>,
 }
 
 /// Prints what the node did. `WriteFailed` if standard output does not take it.
@@ -107,7 +110,52 @@ fn socket_of<'a>(rt: &HostRuntime, given: &ServeArguments<'a>) -> FaultPlace<'a>
             return place;
         }
     }
-    FaultPlace::Sockets(given.sock, given.control)
+    match given.http {
+        Some(address) => socket_of_http(rt, given, address),
+        None => FaultPlace::Sockets(given.sock, given.control),
+    }
+}
+
+/// The same if the node has a place for HTTP too.
+fn socket_of_http<'a>(
+    rt: &HostRuntime,
+    given: &ServeArguments<'a>,
+    address: &'a str,
+) -> FaultPlace<'a> {
+    let both = FaultPlace::Sockets(given.sock, given.control);
+    if given.sock == given.control {
+        return both;
+    }
+    if let Ok(port) = address.parse::<SocketAddr>() {
+        return if TcpListener::bind(rt, port).is_ok() {
+            both
+        } else {
+            FaultPlace::Port(address)
+        };
+    }
+    if address == given.sock || address == given.control {
+        return FaultPlace::Listening(address);
+    }
+    obstacle_at(rt, address).unwrap_or(both)
+}
+
+/// Whether a node may answer over HTTP at an address: a port of this machine, or the path of a socket. What has a colon and no
+/// slash is meant as an address, and what is a number as a port.
+fn is_own_address(address: &str) -> bool {
+    match address.parse::<SocketAddr>() {
+        Ok(port) => is_own_port(port),
+        Err(_) => {
+            address.contains('/') || !address.contains(':') && address.parse::<u64>().is_err()
+        }
+    }
+}
+
+/// The address for HTTP, if no node answers there.
+fn other_address<'a>(given: &ServeArguments<'a>) -> Option<&'a str> {
+    match given.http {
+        Some(address) if !is_own_address(address) => Some(address),
+        _ => None,
+    }
 }
 
 /// The first of the peers whose path cannot be that of a socket.
@@ -125,7 +173,8 @@ fn taken_for_metrics<'a>(rt: &HostRuntime, given: &ServeArguments<'a>) -> Option
     if path.is_empty() {
         return Some(FaultPlace::MetricsNowhere);
     }
-    for other in [given.log, given.sock, given.control] {
+    let http = given.http.unwrap_or(given.control);
+    for other in [given.log, given.sock, given.control, http] {
         if writes_over(path, other) {
             return Some(FaultPlace::MetricsOver(path));
         }
@@ -212,6 +261,10 @@ fn console_of<'r, 'a>(rt: &'r HostRuntime, given: &ServeArguments<'a>) -> Consol
         control: given.control,
         has_time: given.has_time,
         metrics,
+        metrics_text: match given.http {
+            Some(_) => Some(Mutex::new(Vec::new(rt.alloc()))),
+            None => None,
+        },
         series: given.series,
         started: match Timestamp::now(rt) {
             Ok(now) => now.as_second().max(0) as u64,
@@ -238,6 +291,7 @@ fn run<'a, L: WriteLog + Drop, R: Runtime + Net<Listener = TcpListener, Stream =
         sock: given.sock,
         control: given.control,
         peers: given.peers.as_slice(),
+        http: given.http,
     };
     let console = console_of(rt, given);
     let left = purge_first(rt, &console, given, &mut log)?;
@@ -264,7 +318,7 @@ fn run<'a, L: WriteLog + Drop, R: Runtime + Net<Listener = TcpListener, Stream =
 /// Runs a node. The faults before it opens the log, in this order:
 ///
 /// - `BadName` of its name.
-/// - `BadSetting`, also for too few seats, and for a name that it cannot forget.
+/// - `BadSetting`, also for too few seats, for an address that is not one for HTTP, and for a name that it cannot forget.
 /// - `ReadFailed` if the path of a peer cannot be that of a socket.
 /// - `WriteFailed` if metrics would replace something else.
 ///
@@ -280,8 +334,11 @@ pub(crate) fn serve<'a, R: Runtime + Net<Listener = TcpListener, Stream = TcpStr
         Ok(settings) => settings,
         Err(fault) => return Err(Failure::at(place_of(rt, &fault, given), fault)),
     };
-    if settings.seats() < settings.workers() + 2 {
+    if settings.seats() < settings.workers() + 2 + u64::from(given.http.is_some()) {
         return Err(Failure::at(SEATS.place(), Fault::BadSetting));
+    }
+    if let Some(address) = other_address(given) {
+        return Err(Failure::at(FaultPlace::OtherAddress(address), Fault::BadSetting));
     }
     let forgotten = forgotten_of(rt.alloc(), given, &name)?;
     if let Some(path) = unreachable_peer(given) {

@@ -6,5 +6,3 @@ pub mod Rendering
 pub mod Owners
 pub mod Removals
 pub mod Restoring
-pub mod Rows
-pub mod Status

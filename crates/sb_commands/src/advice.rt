@@ -58,6 +58,9 @@ fn about_reading(place: FaultPlace<'_>) -> &'static str {
         FaultPlace::Forbidden(_) => {
             "the node needs write permission on the folder of this path, and x on each folder above it: correct that, or give another path"
         }
+        FaultPlace::Port(_) => {
+            "end the program that listens there, or give another port; one below 1024 is for root alone"
+        }
         FaultPlace::Sockets(..) => {
             "see that these are two different paths, that the disk has room, and that the process may open more files (ulimit -n)"
         }
@@ -178,6 +181,9 @@ if there is no room for that, end the name by --after 1099511627775, and take a 
         }
         FaultPlace::OwnName(_) => {
             "this is the node's own name: to end a name, see RUNBOOK, A retired machine"
+        }
+        FaultPlace::OtherAddress(_) => {
+            "give 127.0.0.1:PORT or [::1]:PORT, with a port from 1 to 65535, or the path of a socket: over HTTP a node answers only programs of its machine"
         }
         _ => "give 1 to 32 lower-case letters, digits and -",
     }

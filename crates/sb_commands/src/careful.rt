@@ -7,8 +7,8 @@ use crate::care::{
 use crate::keeping::copy_of;
 use crate::output::Output;
 use crate::rendered_file::{FileWrite, RenderedFile};
-use sb_codec::{Row, Rows};
-use sb_listing::{changes, print_changes, print_json_rows};
+use sb_codec::Row;
+use sb_listing::{add_json_array, changes, print_changes};
 use sb_types::Fault;
 use std::alloc::Global;
 use std::io::Write;
@@ -51,29 +51,11 @@ fn rows_of(alloc: Global, kept: &[KeptRow]) -> Result<Vec<Row>, Fault> {
     Ok(rows)
 }
 
-/// Adds a row as JSON, and the byte `end`. `NoMemory`.
-fn add_json(alloc: Global, line: &mut Vec<u8>, row: &Row) -> Result<(), Fault> {
-    let page = Rows::new(false, vec![in alloc; copy_of(alloc, row)?]?)?;
-    let (printed, _) = print_json_rows(alloc, line, &page);
-    printed?;
-    // The end of its line.
-    let _ = line.pop();
-    Ok(())
-}
-
 /// The line of a listing: an array with an object for each row. `NoMemory`.
 fn listing_line(alloc: Global, rows: &[Row]) -> Result<Vec<u8>, Fault> {
     let mut line = Vec::new(alloc);
-    line.push(b'[')?;
-    let mut is_first = true;
-    for row in rows {
-        if !is_first {
-            line.push(b',')?;
-        }
-        is_first = false;
-        add_json(alloc, &mut line, row)?;
-    }
-    line.extend_from_slice(b"]\n")?;
+    add_json_array(alloc, &mut line, rows)?;
+    line.push(b'\n')?;
     Ok(line)
 }
 

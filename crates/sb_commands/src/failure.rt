@@ -107,6 +107,10 @@ pub enum FaultPlace<'a> {
     Peer(&'a str),
     /// At one of the two sockets that a node makes.
     Sockets(&'a str, &'a str),
+    /// At a port that a node cannot listen at.
+    Port(&'a str),
+    /// At an address for HTTP that is not one of this machine, or has the port 0.
+    OtherAddress(&'a str),
     /// In a template, or at its path.
     Template(&'a str),
     /// At the path for metrics, because something else is there.
@@ -216,6 +220,7 @@ fn text_of_reading(place: FaultPlace<'_>) -> Option<&'static str> {
         FaultPlace::NoFolder(_) => "a socket could not be made: its folder does not exist",
         FaultPlace::Forbidden(_) => "a socket could not be made: not permitted",
         FaultPlace::Sockets(..) => "a socket could not be made",
+        FaultPlace::Port(_) => "the node cannot listen at this port",
         _ => return None,
     })
 }
@@ -334,6 +339,9 @@ impl fmt::Display for FaultPlace<'_> {
             | FaultPlace::Forbidden(path) => write!(f, "socket {path}: "),
             FaultPlace::Peer(path) => write!(f, "peer {path}: "),
             FaultPlace::Sockets(sock, control) => write!(f, "sockets {sock} and {control}: "),
+            FaultPlace::Port(address) | FaultPlace::OtherAddress(address) => {
+                write!(f, "http {address}: ")
+            }
             FaultPlace::Metrics(path) | FaultPlace::MetricsOver(path) => {
                 write!(f, "metrics {path}: ")
             }

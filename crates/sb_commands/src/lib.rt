@@ -1,4 +1,4 @@
-//! The commands of the program, except `serve`: each asks a node or opens a log, and prints what comes.
+//! The commands of the program, except `serve` and `sim`: each asks a node or opens a log, and prints what comes.
 //!
 //! ```rust
 //! /// Makes the node at a control socket write an address, and prints the rows that it shows under a prefix.

@@ -1,12 +1,9 @@
 //! The row of one key, and its value alone.
-ghost use Rattle.std.specs.Prelude.{◌≡◌};
-ghost use Rattle.std.specs.Option.{option_copied};
-ghost use Rattle.sb_commands.specs.Rows as spec;
-
 use crate::asking::{RowFormat, first_page_of, print_page};
 use crate::failure::Failure;
 use crate::output::Output;
 use sb_codec::{Ask, Row, Rows};
+use sb_query::first_at;
 use sb_types::{ContentRef, Fault, Key, Name, Prefix, Spelled, Value};
 use std::alloc::Global;
 use std::io::Write;
@@ -27,23 +24,6 @@ pub struct RowQuery {
     pub owner: Name,
     pub key: Key,
     pub portion: Portion,
-}
-
-/// The first row, if it has this owner and key. A page of an owner's rows whose keys begin with this key has that row
-/// first, if it has it at all.
-fn first_at<'a>(rows: &'a [Row], owner: &Name, key: &Key) -> Option<&'a Row>
-    ensures { option_copied result ≡ spec.first_at rows.now owner.now key.now }
-{
-    match rows.split_first() {
-        Some((row, _)) => {
-            if row.owner() == owner && row.key() == key {
-                Some(row)
-            } else {
-                None
-            }
-        }
-        None => None,
-    }
 }
 
 /// Makes a page of this row alone. `NoMemory`.

@@ -1,13 +1,10 @@
 //! How a node is, which it is asked at its control socket.
-ghost use Rattle.std.specs.Prelude.{◌≡◌};
-ghost use Rattle.sb_commands.specs.Status as spec;
-
 use crate::asking::{RowFormat, answer_of, unanswered};
 use crate::failure::{Failure, FaultPlace};
 use crate::output::Output;
 use sb_codec::{AskStatus, Figure, FigureKind, Message, NodeIdentity, NodeStatus, PeerStatus};
 use sb_control::LogCause;
-use sb_query::status_in;
+use sb_query::{is_ready, status_in};
 use sb_types::{Fault, KIND_NODE_STATUS, Name, ShortText, Spelled};
 use serde_json::{Map, Value, json};
 use std::alloc::{AllocError, Global};
@@ -71,15 +68,6 @@ fn ask_whole<'a>(rt: &HostRuntime, control: &'a str) -> Result<WholeStatus, Fail
         more = page.more();
     }
     Ok(WholeStatus { head, rest })
-}
-
-/// Whether a node is ready: it is caught up, its log takes writes, and it saw no other node write under its name.
-fn is_ready(status: &NodeStatus) -> bool
-    ensures { result ≡ spec.is_ready status.now.figures }
-{
-    status.figure(FigureKind::CaughtUp) == Some(1)
-        && status.figure(FigureKind::LogFault) == Some(0)
-        && status.figure(FigureKind::Conflict) == Some(0)
 }
 
 fn text_of(text: &ShortText) -> &str {

@@ -19,37 +19,25 @@ use std::sync::Wait;
 
 /// Adds an owner's entries above a version to the batch, and gives the version of the last one. If there is none, it gives the
 /// version itself. `NoMemory`.
-fn push_entries(
-    alloc: Global,
-    batch: &mut Batch,
-    owner: &Name,
-    table: &Table,
-    version: u64,
-) -> Result<u64, Fault>
+fn push_entries(batch: &mut Batch, owner: &Name, table: &Table, version: u64) -> Result<u64, Fault>
     ensures ok { OnOk result (batch.new ≡ batch.old ++ changes_of_owner owner.now (map changes.Enter (newer_entries version table.now.entries))) }
     ensures last { IfOk result (λ last. last ≡ last_version version (newer_entries version table.now.entries)) }
     ensures memory { IfErr result (λ fault. fault ≡ Fault.NoMemory) }
 {
     let mut last = version;
-    for entry in table.after(version) {
-        batch.push(*owner, entry.copy(alloc)?)?;
-        last = entry.version();
+    for entry in table.shared_after(version) {
+        batch.push(*owner, entry.share()?)?;
+        last = entry.entry().version();
     }
     Ok(last)
 }
 
 /// Adds to the batch what an owner's table has above a version, and up to which version it is held. `NoMemory`.
-fn push_above(
-    alloc: Global,
-    batch: &mut Batch,
-    owner: &Name,
-    table: &Table,
-    version: u64,
-) -> Result<(), Fault>
+fn push_above(batch: &mut Batch, owner: &Name, table: &Table, version: u64) -> Result<(), Fault>
     ensures ok { OnOk result (batch.new ≡ batch.old ++ changes_of_owner owner.now (changes_above version table.now)) }
     ensures memory { IfErr result (λ fault. fault ≡ Fault.NoMemory) }
 {
-    let last = push_entries(alloc, batch, owner, table, version)?;
+    let last = push_entries(batch, owner, table, version)?;
     if last >= table.upto() {
         return Ok(());
     }
@@ -59,7 +47,6 @@ fn push_above(
 /// Adds to the batch what views lack of an owner's table. They have it up to a version, and with a floor. If the floor rose they lack
 /// all of the table, since keys that they show may be gone with their removals. `NoMemory`.
 fn push_lacked(
-    alloc: Global,
     batch: &mut Batch,
     owner: &Name,
     table: &Table,
@@ -70,10 +57,10 @@ fn push_lacked(
 {
     let (version, floor) = since;
     if floor >= table.floor() {
-        return push_above(alloc, batch, owner, table, version);
+        return push_above(batch, owner, table, version);
     }
     batch.push_clear(*owner)?;
-    push_above(alloc, batch, owner, table, 0)
+    push_above(batch, owner, table, 0)
 }
 
 /// All that views lack, owner by owner. `NoMemory`.
@@ -88,7 +75,7 @@ fn lacked_changes(
     let mut batch = Batch::new(alloc);
     for (owner, since) in lacking.owners() {
         if let Some(table) = holdings.table(owner) {
-            push_lacked(alloc, &mut batch, owner, table, *since)?;
+            push_lacked(&mut batch, owner, table, *since)?;
         }
     }
     Ok(batch)

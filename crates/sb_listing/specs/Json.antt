@@ -1,9 +1,9 @@
 -- A row as JSON.
-use Rattle.std.specs.Prelude.{ℕ, List, [], ◌∷◌, ◌++◌, codes}
+use Rattle.std.specs.Prelude.{ℕ, List, [], ◌∷◌, ◌++◌, map, codes}
 use Rattle.std.specs.List.{flat_map}
 use Rattle.sb_types.specs.Kinds.{Content, Word, Text, Number, Truth, word_of, kind_of, content_of}
 use Rattle.sb_codec.specs.Records.{Row}
-use Rattle.serde_json.specs.Data.{Data, boolean, number, unsigned, string, object, member, no_members}
+use Rattle.serde_json.specs.Data.{Data, boolean, number, unsigned, string, array, object, Items, no_items, item, member, no_members}
 use Rattle.serde_json.specs.Written.{compact_text}
 
 abbrev pub content_data : Content → Data
@@ -21,6 +21,14 @@ object_data key kind owner value version =
 -- a row as an object: its key, the word of its kind, its owner, what its value holds, and its version
 unfoldable pub row_data : Row → Data
 row_data row = object_data row.key (word_of (kind_of row.value)) row.owner (content_data (content_of row.value)) row.version
+
+abbrev pub items_of : List Data → Items
+items_of [] = no_items
+items_of (d ∷ ds) = item d (items_of ds)
+
+-- the array of the objects of rows
+abbrev pub rows_data : List Row → Data
+rows_data rows = array (items_of (map row_data rows))
 
 -- the text of the object, without spaces, and the end of the line
 abbrev pub json_line : Row → List ℕ

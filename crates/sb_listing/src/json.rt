@@ -1,10 +1,10 @@
 //! Rows as JSON.
-ghost use Rattle.std.specs.Prelude.{◌≡◌, ◌∷◌, ◌++◌, [], false, IsUtf8, OnOk, IfOk, IfErr};
+ghost use Rattle.std.specs.Prelude.{◌≡◌, ◌∷◌, ◌++◌, [], false, map, IsUtf8, OnOk, OnErr, IfOk, IfErr};
 ghost use Rattle.sb_types.specs.Kinds.{word_of, kind_of, content_of};
 ghost use Rattle.sb_frames.specs.Sending.{Sends, OnlyWhereFailed};
 ghost use Rattle.serde_json.specs.View.{view};
-ghost use Rattle.serde_json.specs.Written.{has_float};
-ghost use Rattle.sb_listing.specs.Json.{content_data, object_data, row_data, json_line, json_lines};
+ghost use Rattle.serde_json.specs.Written.{compact_text, has_float, items_text};
+ghost use Rattle.sb_listing.specs.Json.{content_data, object_data, row_data, items_of, rows_data, json_line, json_lines};
 
 use sb_codec::{Row, Rows};
 use sb_frames::{LastWrite, write_counted};
@@ -67,13 +67,50 @@ fn object_of(alloc: Global, row: &Row) -> Result<Value, AllocError>
     object_with(alloc, key, kind, owner, &value, row.version())
 }
 
-fn add_json(alloc: Global, out: &mut Vec<u8>, row: &Row) -> Result<(), Fault>
-    ensures added { OnOk result (out.new.items ≡ out.old.items ++ json_line row.now) }
+/// Adds the object of a row, without spaces and without the end of a line. `NoMemory`, with nothing added.
+pub fn add_json_object(alloc: Global, out: &mut Vec<u8>, row: &Row) -> Result<(), Fault>
+    ensures added { OnOk result (out.new.items ≡ out.old.items ++ compact_text (row_data row.now)) }
+    ensures left { OnErr result (out.new.items ≡ out.old.items) }
     ensures memory { IfErr result (λ fault. fault ≡ Fault.NoMemory) }
 {
     let object = object_of(alloc, row)?;
     let text = object.to_vec(alloc)?;
     out.extend_from_slice(&text)?;
+    Ok(())
+}
+
+/// Adds rows as the items of an array, with commas between them, and the end of the array. `NoMemory`.
+fn add_items(alloc: Global, out: &mut Vec<u8>, rows: &[Row]) -> Result<(), Fault>
+    ensures added { OnOk result (out.new.items ≡ out.old.items ++ items_text false (items_of (map row_data rows.now))) }
+    ensures memory { IfErr result (λ fault. fault ≡ Fault.NoMemory) }
+{
+    let mut is_later = false;
+    for row in rows {
+        if is_later {
+            out.push(b',')?;
+        }
+        add_json_object(alloc, out, row)?;
+        is_later = true;
+    }
+    out.push(b']')?;
+    Ok(())
+}
+
+/// Adds the array of the objects of these rows, without spaces and without the end of a line. `NoMemory`, with a part of the
+/// array added, or nothing.
+pub fn add_json_array(alloc: Global, out: &mut Vec<u8>, rows: &[Row]) -> Result<(), Fault>
+    ensures added { OnOk result (out.new.items ≡ out.old.items ++ compact_text (rows_data rows.now)) }
+    ensures memory { IfErr result (λ fault. fault ≡ Fault.NoMemory) }
+{
+    out.push(b'[')?;
+    add_items(alloc, out, rows)
+}
+
+fn add_json(alloc: Global, out: &mut Vec<u8>, row: &Row) -> Result<(), Fault>
+    ensures added { OnOk result (out.new.items ≡ out.old.items ++ json_line row.now) }
+    ensures memory { IfErr result (λ fault. fault ≡ Fault.NoMemory) }
+{
+    add_json_object(alloc, out, row)?;
     out.push(b'\n')?;
     Ok(())
 }

@@ -27,6 +27,6 @@ mod laws;
 mod printing;
 
 pub use changing::{RowChange, changes};
-pub use json::print_json_rows;
+pub use json::{add_json_array, add_json_object, print_json_rows};
 pub use laws::changes_tell_all;
 pub use printing::print_changes;

@@ -1,5 +1,6 @@
 -- The page that answers a question for rows.
-use Rattle.std.specs.Prelude.{◌≡◌, ℕ, ◌+◌, ◌≤◌, ◌<◌, nat_lt, List, length, take, map, Some}
+use Rattle.std.specs.Prelude.{◌≡◌, ℕ, ◌+◌, ◌≤◌, ◌<◌, ◌&&◌, nat_eq, nat_lt, if◌then◌else◌, List, [], ◌∷◌, length, take, map, Option, Some, None}
+use Rattle.std.specs.Cmp.Lexicographic.{pointwise}
 use Rattle.sb_types.specs.declared.format.TheConstants.{HEADER_LENGTH}
 use Rattle.sb_codec.specs.declared.message.ask.Ask.{Ask}
 use Rattle.sb_codec.specs.Records.{Row, Rows, row_of}
@@ -34,3 +35,8 @@ pub record IsLongestPage (budget : ℕ) (asked : List Row) (page : Rows) : Type 
   pub more : page.more ≡ nat_lt count (length asked)
   pub fits : rows_frame_length page.rows ≤ budget
   pub longest : (n : ℕ) → count < n → n ≤ length asked → budget < rows_frame_length (take n asked)
+
+-- the first row, if it is of this owner and key
+abbrev pub first_at : List Row → List ℕ → List ℕ → Option Row
+first_at [] owner key = None
+first_at (x ∷ xs) owner key = if pointwise nat_eq x.owner owner && pointwise nat_eq x.key key then Some x else None

@@ -1,10 +1,12 @@
 -- The page of a node's status that answers a question.
-use Rattle.std.specs.Prelude.{◌≡◌, ℕ, ◌+◌, ◌-◌, true, nat_le, nat_lt, if◌then◌else◌, List, [], ◌∷◌, length, drop, Option, Some, None, Result, Ok, Err}
+use Rattle.std.specs.Prelude.{◌≡◌, ℕ, ◌+◌, ◌-◌, Bool, true, false, ◌&&◌, nat_eq, nat_le, nat_lt, if◌then◌else◌, List, [], ◌∷◌, length, drop, Option, Some, None, Result, Ok, Err}
 use Rattle.sb_types.specs.declared.fault.Fault.{Fault}
 use Rattle.sb_types.specs.declared.fault.Fault.TheVariants.{Malformed}
 use Rattle.sb_types.specs.declared.format.TheConstants.{HEADER_LENGTH, KIND_NODE_STATUS}
 use Rattle.sb_types.specs.declared.limits.TheConstants.{PAYLOAD_MOST}
 use Rattle.sb_codec.specs.declared.message.node_identity.NodeIdentity.{NodeIdentity}
+use Rattle.sb_codec.specs.declared.message.figure.FigureKind.TheVariants.{CaughtUp, LogFault, Conflict}
+use Rattle.sb_codec.specs.Figures.{number_of, value_at}
 use Rattle.sb_codec.specs.Records.{Figure, Peer, NodeStatus, status_of}
 use Rattle.sb_codec.specs.Lengths.{peer_length, status_length}
 use Rattle.sb_codec.specs.Limits.{are_status_parts}
@@ -31,3 +33,12 @@ status_page identity figures peers after budget = status_with identity figures (
 
 abbrev pub if_status : NodeStatus → Result NodeStatus Fault
 if_status status = if are_status_parts status then Ok status else Err (Malformed KIND_NODE_STATUS)
+
+-- there is such a number
+abbrev pub is_told : ℕ → Option ℕ → Bool
+is_told wanted None = false
+is_told wanted (Some number) = nat_eq number wanted
+
+-- it is caught up, its log takes writes, and it saw no other node write under its name
+abbrev pub is_ready : List Figure → Bool
+is_ready figures = is_told 1 (value_at (number_of CaughtUp) figures) && is_told 0 (value_at (number_of LogFault) figures) && is_told 0 (value_at (number_of Conflict) figures)

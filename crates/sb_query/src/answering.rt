@@ -1,13 +1,17 @@
 //! The page that answers a question for rows.
 ghost use Rattle.std.specs.Prelude.{◌≡◌, ◌≤◌, ◌<◌, true, length, map, IfOk, IfErr};
 ghost use Rattle.std.specs.List.{list_all};
+ghost use Rattle.std.specs.Option.{option_copied};
 ghost use Rattle.sb_codec.specs.Records.{rows_of};
 ghost use Rattle.sb_codec.specs.Limits.{is_row};
 ghost use Rattle.sb_views.specs.LiveRows.{row_lent};
+ghost use Rattle.sb_query.specs.Pages as pages;
 ghost use Rattle.sb_query.specs.Pages.{message_row, asked_rows, IsLongestPage};
 
 use sb_codec::{Ask, Row, Rows};
-use sb_types::{BUDGET_LEAST, BUDGET_MOST, BYTE_LENGTH, COUNT_LENGTH, Fault, HEADER_LENGTH};
+use sb_types::{
+    BUDGET_LEAST, BUDGET_MOST, BYTE_LENGTH, COUNT_LENGTH, Fault, HEADER_LENGTH, Key, Name,
+};
 use sb_views::Snapshot;
 use std::alloc::Global;
 
@@ -66,4 +70,21 @@ pub fn answer(alloc: Global, snapshot: &Snapshot<'_>, ask: &Ask, budget: u64) ->
     let asked = snapshot.rows_behind(ask.owner, ask.prefix, ask.after);
     let (more, rows) = gather(alloc, asked, budget)?;
     Rows::new(more, rows)
+}
+
+/// Returns the first row, if it has this owner and key. A page of an owner's rows whose keys begin with this key has
+/// that row first, if it has it at all.
+pub fn first_at<'a>(rows: &'a [Row], owner: &Name, key: &Key) -> Option<&'a Row>
+    ensures { option_copied result ≡ pages.first_at rows.now owner.now key.now }
+{
+    match rows.split_first() {
+        Some((row, _)) => {
+            if row.owner() == owner && row.key() == key {
+                Some(row)
+            } else {
+                None
+            }
+        }
+        None => None,
+    }
 }

@@ -38,9 +38,9 @@ mod paging;
 mod printing;
 mod status_pages;
 
-pub use answering::answer;
+pub use answering::{answer, first_at};
 pub use answers::{NoAnswer, page_in, status_in, version_in};
 pub use laws::{listings_are_whole, pages_follow};
 pub use paging::{Pager, PagingFault, ask_all, goes_on};
 pub use printing::{add_row, print_rows};
-pub use status_pages::status_page;
+pub use status_pages::{is_ready, status_page};

@@ -3,7 +3,7 @@ ghost use Rattle.std.specs.Prelude.{◌≡◌, ◌≤◌, length, take, drop};
 ghost use Rattle.sb_types.specs.Faults.{Gives};
 ghost use Rattle.sb_query.specs.Statuses as spec;
 
-use sb_codec::{Figure, NodeIdentity, NodeStatus, PeerStatus};
+use sb_codec::{Figure, FigureKind, NodeIdentity, NodeStatus, PeerStatus};
 use sb_types::{Fault, HEADER_LENGTH};
 use std::alloc::Global;
 
@@ -63,4 +63,14 @@ pub fn status_page(
     let count = count_fitting(room, asked);
     let run = Vec::from_slice(alloc, &asked[..count])?;
     NodeStatus::new(count < asked.len(), identity, figures, run)
+}
+
+/// Returns whether a node is ready: it is caught up, its log takes writes, and it saw no other node write under its
+/// name. If the status lacks one of these figures, the node is not ready.
+pub fn is_ready(status: &NodeStatus) -> bool
+    ensures { result ≡ spec.is_ready status.now.figures }
+{
+    status.figure(FigureKind::CaughtUp) == Some(1)
+        && status.figure(FigureKind::LogFault) == Some(0)
+        && status.figure(FigureKind::Conflict) == Some(0)
 }

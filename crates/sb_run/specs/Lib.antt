@@ -1,10 +1,6 @@
 pub mod OwnWriting
 pub mod OwnPurging
 pub mod Control
-pub mod Forgetting
-pub mod Deferring
-pub mod KeptOffers
-pub mod Gates
 pub mod Hellos
 pub mod Pools
 pub mod Sources
@@ -18,3 +14,5 @@ pub mod Closing
 pub mod Facts
 pub mod StatusReplies
 pub mod Auditing
+pub mod HttpPorts
+pub mod HttpReads

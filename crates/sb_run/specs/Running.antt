@@ -1,5 +1,6 @@
 -- With what a node opens, what it starts from, and why it does not run.
-use Rattle.std.specs.Prelude.{◌≡◌, ◌⊎◌, ◌+◌, ◌≤◌, ℕ, true, nat_eq, nat_lt, if◌then◌else◌, Option, Some, None, Result, Err, IfErr, IsErr}
+use Rattle.std.specs.Prelude.{◌≡◌, ◌⊎◌, ◌+◌, ◌≤◌, ℕ, true, nat_eq, nat_lt, if◌then◌else◌, List, Option, Some, None, is_some, Result, Err, IfErr, IsErr}
+use Rattle.std.specs.Borrow.{Bor}
 use Rattle.std.specs.Cmp.Lexicographic.{pointwise}
 use Rattle.sb_types.specs.declared.fault.Fault.{Fault}
 use Rattle.sb_types.specs.declared.fault.Fault.TheVariants.{NoMemory, BadSetting, ReadFailed, StoreFailed, WrongCluster}
@@ -28,10 +29,14 @@ IsTagOf opening settings seats parts core =
 abbrev pub IsStarted : Log → Core → Type 0
 IsStarted log core = IsOpenedFrom log core.node × (core.settings.workers + 2 ≤ core.settings.seats)
 
+-- a seat for each worker and two more; and one if it answers over HTTP
+abbrev pub seats_least : Settings → Option (Bor (List ℕ)) → ℕ
+seats_least settings http = settings.workers + 2 + (if is_some http then 1 else 0)
+
 -- why a node does not run, before its log is read: the first reason that holds
-abbrev pub start_refusal : Settings → Log → Option Fault
-start_refusal settings log =
-    if nat_lt settings.seats (settings.workers + 2) then Some BadSetting
+abbrev pub start_refusal : Settings → Option (Bor (List ℕ)) → Log → Option Fault
+start_refusal settings http log =
+    if nat_lt settings.seats (seats_least settings http) then Some BadSetting
     else (if pointwise nat_eq log.cluster settings.cluster then None else Some WrongCluster)
 
 -- there is no memory or no thread; or the log failed, and the node is to exit then
@@ -48,8 +53,8 @@ IsStartFault (Some refused) log on_log_fault fault = fault ≡ refused
 IsStartFault None log on_log_fault fault =
     ((new : Log) × Loads log (Err fault) new) ⊎ ((log.is_open ≡ true) × IsOpenedFault on_log_fault fault)
 
-abbrev pub IsRunningFault : Settings → Log → OnLogFault → Fault → Type 0
-IsRunningFault settings log on_log_fault fault = IsStartFault (start_refusal settings log) log on_log_fault fault
+abbrev pub IsRunningFault : Settings → Option (Bor (List ℕ)) → Log → OnLogFault → Fault → Type 0
+IsRunningFault settings http log on_log_fault fault = IsStartFault (start_refusal settings http log) log on_log_fault fault
 
 -- that reason; else the node ends by a fault, or a socket can't be bound: a closed log is not read
 abbrev pub IsClosedStartFault : Option Fault → OnLogFault → Fault → Type 0

@@ -70,7 +70,7 @@ fn look_up<S: NodeTag>(
 }
 
 /// Answers an Ask by a page of what the seat reads.
-fn reply_to_ask<S: NodeTag>(
+pub(crate) fn reply_to_ask<S: NodeTag>(
     alloc: Global,
     settings: &Settings,
     seat: ReaderSeat<S>,

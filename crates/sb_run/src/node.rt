@@ -10,15 +10,15 @@ use crate::bell::Bell;
 use crate::counts::Counts;
 use crate::dialer::{Dialing, RoundsTag, rounds_channel};
 use crate::first_hearing::FirstHearing;
-use crate::forgetting::ForgottenOwners;
+use crate::http_threads::HTTP_WORKERS;
 use crate::observer::Observer;
 use crate::own_writes::{ClosableLog, OwnWrites};
 use crate::sockets::BoundSockets;
 use crate::threads::{
     EndFlag, Links, NodeContext, ThreadSeats, ThreadsEnd, gather_seats, part_seats,
 };
-use crate::vain_offers::VainOffers;
 use sb_directory::Directory;
+use sb_handlers::{ForgottenOwners, VainOffers};
 use sb_log::WriteLog;
 use sb_node::NodeCore;
 use sb_table::Table;
@@ -27,6 +27,7 @@ use sb_views::NewHistory;
 use std::alloc::Global;
 use std::marker::Brand;
 use std::net::{Net, TcpListener, TcpStream};
+use std::random::RandomSource;
 use std::rt::Files;
 use std::sync::ledger::Blank;
 use std::sync::{Mutex, Wait};
@@ -42,6 +43,8 @@ pub struct Paths<'a> {
     pub control: &'a str,
     /// The paths at which its peers listen.
     pub peers: &'a [&'a str],
+    /// The address at which it answers over HTTP: `127.0.0.1:PORT` or `[::1]:PORT`, or the path of a socket. `None` if it does not.
+    pub http: Option<&'a str>,
 }
 
 /// What a node does once a fault of its store has closed its log.
@@ -106,10 +109,10 @@ pub struct Ran {
 }
 
 /// Why a node does not run, before its log is read: the first reason that holds.
-fn start_refusal<L: WriteLog>(settings: &Settings, log: &L) -> Option<Fault>
-    ensures { result ≡ spec.start_refusal settings.now (L.seen log.now) }
+fn start_refusal<L: WriteLog>(settings: &Settings, http: Option<&str>, log: &L) -> Option<Fault>
+    ensures { result ≡ spec.start_refusal settings.now http.entry (L.seen log.now) }
 {
-    if settings.seats() < settings.workers() + 2 {
+    if settings.seats() < settings.workers() + 2 + u64::from(http.is_some()) {
         return Some(Fault::BadSetting);
     }
     let cluster = settings.cluster();
@@ -127,7 +130,7 @@ fn start_refusal<L: WriteLog>(settings: &Settings, log: &L) -> Option<Fault>
 /// A round has as many exchanges of digests and deltas as it takes to name all owners that the node holds: one, if the budget
 /// has room for a digest of all. A peer that let a round wait for `dial_idle` milliseconds is passed over in its next seven
 /// turns, unless nobody else is left. The observer gets each change of a peer's state. After the last round the node waits for
-/// the connections that are open, and ends. It removes what is at the paths of both sockets, even if another put it there since.
+/// the connections that are open, and ends. It removes what is at the paths of its sockets, even if another put it there since.
 ///
 /// After a write of a client, or something new from a peer, the node dials the next `fanout` peers. A peer whose last two
 /// sessions were not made to their end is left out. The node pushes to each what this peer may lack: its Hello, one delta
@@ -138,10 +141,11 @@ fn start_refusal<L: WriteLog>(settings: &Settings, log: &L) -> Option<Fault>
 /// - The delta is longer than 1,024 bytes, and than the node's own digests.
 /// - Its frame has no room for one more entry within the budget.
 ///
-/// The seats beyond two and one for each worker are for this: so many peers are dialed side by side. Without such seats they
-/// are dialed one after another, between the rounds in turn. A peer has at most one session for news at a time; news during
-/// one makes another after it. Peers whose last session took half a second or more leave one of these seats to others. News
-/// that comes within twenty milliseconds goes together, in a stream within forty. With no pause there is no need of it.
+/// The seats beyond two, one for each worker and those for HTTP are for this: so many peers are dialed side by side. Without
+/// such seats they are dialed one after another, between the rounds in turn. A peer has at most one session for news at a time;
+/// news during one makes another after it. Peers whose last session took half a second or more leave one of these seats to
+/// others. News that comes within twenty milliseconds goes together, in a stream within forty. With no pause there is no need
+/// of it.
 ///
 /// A push is not a round. It counts as taken only if the peer greeted and ended the connection itself. If not, the next push to
 /// this peer has the same again. A peer's delta can have writes after ones that the node lacks. Then the next round in turn is
@@ -169,6 +173,11 @@ fn start_refusal<L: WriteLog>(settings: &Settings, log: &L) -> Option<Fault>
 /// - No byte moved for `idle` milliseconds, or for `dial_idle` if the node has dialed.
 /// - A session that a peer dialed took longer than `session`, or a request or its answer longer than `request`.
 ///
+/// With an address for HTTP the node answers there too, by `HttpService`. Each thread for that answers one connection after
+/// another, from a seat of its own. There are `HTTP_WORKERS` of them, or as many as there are seats beyond two and one for each
+/// worker. A request, and then its answer, may take `request` milliseconds each. The connection ends if no byte moves for
+/// `idle` milliseconds.
+///
 /// If a fault of its store closes the log, the node reports that to the observer, and goes on or ends, as `on_log_fault` says.
 /// It does the same if the observer finds that the file of the log is lost: it closes the log, and refuses writes by `Closed`.
 ///
@@ -177,12 +186,12 @@ fn start_refusal<L: WriteLog>(settings: &Settings, log: &L) -> Option<Fault>
 ///
 /// After each of these faults no file is left that was not there before:
 ///
-/// - `BadSetting` if there are fewer seats than two beside one for each worker.
+/// - `BadSetting` if there are fewer seats than two beside one for each worker, and one more with an address for HTTP.
 /// - `WrongCluster` if the log is of another cluster than the settings'.
 /// - The faults of the log's `load`.
-/// - `ReadFailed` if a socket cannot be bound.
-/// - `NoMemory`, also if the thread that accepts, that of the pool, the first for news, or the one that dials in turn cannot be
-///   made.
+/// - `ReadFailed` if a socket cannot be bound, also if `is_own_port` is false for the address for HTTP.
+/// - `NoMemory`, also if the thread that accepts, that of the pool, the first for HTTP, the first for news, or the one that dials
+///   in turn cannot be made.
 /// - `StoreFailed` if the log failed or its file was lost, and the node is to exit then.
 ///
 /// If the thread of a worker cannot be made, the node serves fewer peers at once.
@@ -191,9 +200,9 @@ pub fn run_node<
     R: Runtime + Net<Listener = TcpListener, Stream = TcpStream>,
     O: Observer + Sync,
 >(rt: &R, alloc: Global, config: NodeConfig, log: L, observer: &O) -> Result<Ran, Fault>
-    ensures refused { IfSome (spec.start_refusal config.entry.settings (L.seen log)) (λ fault. result ≡ Err fault) }
-    ensures closed { spec.start_refusal config.entry.settings (L.seen log) ≡ None → (L.seen log).is_open ≡ false → result ≡ Err Fault.Closed }
-    ensures fault { IfErr result (IsRunningFault config.entry.settings (L.seen log) config.entry.pace.on_log_fault) }
+    ensures refused { IfSome (spec.start_refusal config.entry.settings config.entry.paths.http (L.seen log)) (λ fault. result ≡ Err fault) }
+    ensures closed { spec.start_refusal config.entry.settings config.entry.paths.http (L.seen log) ≡ None → (L.seen log).is_open ≡ false → result ≡ Err Fault.Closed }
+    ensures fault { IfErr result (IsRunningFault config.entry.settings config.entry.paths.http (L.seen log) config.entry.pace.on_log_fault) }
     ensures rounds { IfOk result (λ ran. ran.rounds ≡ config.entry.pace.rounds) }
 {
     let NodeConfig {
@@ -202,7 +211,7 @@ pub fn run_node<
         pace,
         forgotten,
     } = config;
-    if let Some(fault) = start_refusal(&settings, &log) {
+    if let Some(fault) = start_refusal(&settings, paths.http, &log) {
         return Err(fault);
     }
     let config = NodeConfig {
@@ -238,9 +247,9 @@ pub fn run_closed_node<
     table: Table,
     observer: &O,
 ) -> Result<Ran, Fault>
-    ensures refused { IfSome (spec.start_refusal config.entry.settings (L.seen log)) (λ fault. result ≡ Err fault) }
-    ensures closed { (L.seen log).is_open ≡ false → RunsClosed (spec.start_refusal config.entry.settings (L.seen log)) config.entry.pace.on_log_fault result }
-    ensures open { (L.seen log).is_open ≡ true → IfErr result (IsRunningFault config.entry.settings (L.seen log) config.entry.pace.on_log_fault) }
+    ensures refused { IfSome (spec.start_refusal config.entry.settings config.entry.paths.http (L.seen log)) (λ fault. result ≡ Err fault) }
+    ensures closed { (L.seen log).is_open ≡ false → RunsClosed (spec.start_refusal config.entry.settings config.entry.paths.http (L.seen log)) config.entry.pace.on_log_fault result }
+    ensures open { (L.seen log).is_open ≡ true → IfErr result (IsRunningFault config.entry.settings config.entry.paths.http (L.seen log) config.entry.pace.on_log_fault) }
     ensures rounds { IfOk result (λ ran. ran.rounds ≡ config.entry.pace.rounds) }
 {
     let NodeConfig {
@@ -277,8 +286,8 @@ fn run_with_table<
     observer: &O,
 ) -> Result<Ran, Fault>
     requires closed { (L.seen log).is_open ≡ false }
-    ensures runs { RunsClosed (spec.start_refusal config.entry.settings (L.seen log)) config.entry.pace.on_log_fault result }
-    ensures refused { IfSome (spec.start_refusal config.entry.settings (L.seen log)) (λ fault. result ≡ Err fault) }
+    ensures runs { RunsClosed (spec.start_refusal config.entry.settings config.entry.paths.http (L.seen log)) config.entry.pace.on_log_fault result }
+    ensures refused { IfSome (spec.start_refusal config.entry.settings config.entry.paths.http (L.seen log)) (λ fault. result ≡ Err fault) }
     ensures rounds { IfOk result (λ ran. ran.rounds ≡ config.entry.pace.rounds) }
 {
     let NodeConfig {
@@ -287,7 +296,7 @@ fn run_with_table<
         pace,
         forgotten,
     } = config;
-    if let Some(fault) = start_refusal(&settings, &log) {
+    if let Some(fault) = start_refusal(&settings, paths.http, &log) {
         return Err(fault);
     }
     let config = NodeConfig {
@@ -349,9 +358,9 @@ fn run_opened<
 
 /// What a running node asks of its runtime, beside sockets: threads, locks, a clock and files. A runtime that has all of them is
 /// one. The sockets are beside it in each signature, since a caller whose runtime is a type of its own has to see their types.
-pub trait Runtime: Threads + Wait + Clock + Files + Send + Sync {}
+pub trait Runtime: Threads + Wait + Clock + Files + RandomSource + Send + Sync {}
 
-impl<R: Threads + Wait + Clock + Files + Send + Sync> Runtime for R {}
+impl<R: Threads + Wait + Clock + Files + RandomSource + Send + Sync> Runtime for R {}
 
 /// What the directory of a node starts from.
 #[derive(Drop)]
@@ -374,11 +383,22 @@ pub(crate) struct NodeStart<L: WriteLog> {
     pub(crate) writes: OwnWrites<ClosableLog<L>>,
 }
 
-/// Makes the directory, and gives a seat to each thread; those beyond are for news, in a list with room for all. `NoMemory`.
+/// How many seats a node wants for HTTP: none if it has no address for that.
+fn http_seats(http: Option<&str>) -> usize {
+    if http.is_some() {
+        HTTP_WORKERS as usize
+    } else {
+        0
+    }
+}
+
+/// Makes the directory, and gives a seat to each thread. At most so many of those beyond are for HTTP, and the others for news, in a
+/// list with room for all. `NoMemory`.
 fn seat_all<S: RoundsTag, R: Wait>(
     rt: &R,
     alloc: Global,
     start: DirectoryStart,
+    http: usize,
 ) -> Result<(Directory<S, &R>, ThreadSeats<S>), Fault>
     requires history { start.new_history.seen.book ≡ S.history }
     requires tagged { IsTagOf S.opening S.settings S.seats S.parts start.core }
@@ -386,7 +406,7 @@ fn seat_all<S: RoundsTag, R: Wait>(
     requires parts { start.blank.parts ≡ S.parts }
     requires enough { start.core.settings.workers + 2 ≤ start.core.settings.seats }
     ensures workers { IfOk result (λ seated. vec_len seated.1.workers ≡ S.settings.workers) }
-    ensures all { IfOk result (λ seated. vec_len seated.1.news + (vec_len seated.1.workers + 2) ≡ S.seats) }
+    ensures all { IfOk result (λ seated. vec_len seated.1.news + vec_len seated.1.http + (vec_len seated.1.workers + 2) ≡ S.seats) }
     ensures room { IfOk result (λ seated. S.seats ≤ vec_capacity seated.1.news) }
     ensures memory { IfErr result (λ fault. fault ≡ Fault.NoMemory) }
 {
@@ -402,7 +422,7 @@ fn seat_all<S: RoundsTag, R: Wait>(
     let Ok((directory, seats)) = made else {
         return Err(Fault::NoMemory);
     };
-    let thread_seats = part_seats(seats, settings.workers() as usize)?;
+    let thread_seats = part_seats(seats, settings.workers() as usize, http)?;
     Ok((directory, thread_seats))
 }
 
@@ -434,12 +454,13 @@ pub(crate) fn run_tagged<
     let (rounds_sender, rounds_receiver) = rounds_channel::<S>(alloc)?;
     let (handover, jobs, requests) = new_handover(alloc)?;
     let events = Acceptor::events(alloc)?;
-    let (directory, thread_seats) = seat_all::<S, R>(rt, alloc, start.directory)?;
+    let http = http_seats(paths.http);
+    let (directory, thread_seats) = seat_all::<S, R>(rt, alloc, start.directory, http)?;
     let threads = thread_seats.news.len();
     let (bell, parkers) = Bell::new(alloc, threads == 0)?;
     let (dialing, turns) = Dialing::new(alloc, paths.peers, &pace, threads, observer, parkers)?;
     let hearing = FirstHearing::new(alloc, paths.peers.len(), deadline_after(rt, pace.hearing))?;
-    let Ok((sockets, poll)) = BoundSockets::bind(rt, paths.sock, paths.control, observer) else {
+    let Ok((sockets, poll)) = BoundSockets::bind(rt, paths, observer) else {
         return Err(Fault::ReadFailed);
     };
     observer.listening();
@@ -480,7 +501,7 @@ fn close<S: RoundsTag, R: Wait>(
     finished: ThreadsEnd<S>,
 ) -> Result<Ran, Fault>
     requires parts { S.seats ≡ S.parts }
-    requires all { vec_len finished.thread_seats.news + (vec_len finished.thread_seats.workers + 2) ≡ S.seats }
+    requires all { vec_len finished.thread_seats.news + vec_len finished.thread_seats.http + (vec_len finished.thread_seats.workers + 2) ≡ S.seats }
     requires room { S.seats ≤ vec_capacity finished.thread_seats.news }
     ensures ok { IsOk result }
     ensures rounds { IfOk result (λ ran. ran.rounds ≡ S.rounds) }

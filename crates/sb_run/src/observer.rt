@@ -4,8 +4,9 @@ use crate::peers::{Peer, PeerState};
 use sb_control::{LogCause, LogLoss};
 use sb_directory::Difference;
 use sb_log::StoreCause;
-use sb_types::Name;
+use sb_types::{Fault, Name};
 use sb_views::Snapshot;
+use std::alloc::Global;
 use std::fmt;
 
 /// Receives the events of a running node. Each method runs on the thread where the event happened, and that thread waits until it
@@ -93,6 +94,12 @@ pub trait Observer {
     /// How the node is, if it wants to know. It is called after a round by which a peer is otherwise than before, and after each
     /// that ends a second or more after the last call.
     fn status(&self, _status: &Status<'_>) {}
+
+    /// Returns the metrics of the node, in the text format of Prometheus, for whoever asks for them over HTTP. It may wait for
+    /// nobody. `NoMemory`; another fault if it has none now.
+    fn metrics(&self, alloc: Global) -> Result<Vec<u8>, Fault> {
+        Ok(Vec::new(alloc))
+    }
 
     /// At this path lay the socket of a node that no longer runs, and it was removed. It is called before `listening`.
     fn socket_removed(&self, _path: &str) {}

@@ -1,8 +1,10 @@
-//! The two sockets that a node binds, and the connections on them and to its peers.
+//! The sockets that a node binds, and the connections on them and to its peers.
 ghost use Rattle.std.specs.Prelude.{◌≡◌, IfErr, ◌≢◌, ◌⊎◌, ◌+◌, ◌*◌, ◌<◌, ◌≤◌, None, Some, Ok, IfOk, IfSome, IsSome};
 ghost use Rattle.std.specs.Duration.{as_nanos};
 ghost use Rattle.std.specs.Time.{instant_nanos};
 
+use crate::http_socket::HttpSocket;
+use crate::node::Paths;
 use crate::observer::Observer;
 use mio::net::UnixListener;
 use mio::{Interest, Poll, Registry, Token, Waker, net};
@@ -10,9 +12,10 @@ use sb_types::Fault;
 use std::fs::{remove_file, symlink_metadata};
 use std::io;
 use std::io::{Read, Write};
-use std::net::Net;
+use std::net::{Net, TcpListener, TcpStream};
 use std::os::unix::fs::FileTypeExt;
 use std::os::unix::net::UnixStream;
+use std::random::RandomSource;
 use std::rt::Files;
 use std::time::{Clock, Duration, Instant};
 
@@ -32,11 +35,12 @@ pub(crate) struct BoundSocket<'a> {
     listener: UnixListener,
 }
 
-/// The sockets of a node: for its peers, and for its clients.
+/// The sockets of a node: for its peers, for its clients, and for HTTP if it answers over that.
 #[derive(Drop)]
 pub(crate) struct BoundSockets<'a> {
     pub(crate) sock: BoundSocket<'a>,
     pub(crate) control: BoundSocket<'a>,
+    pub(crate) http: Option<HttpSocket<'a>>,
     waker: Waker,
 }
 
@@ -45,6 +49,13 @@ fn is_left_behind<R: Files + Net>(rt: &R, path: &str) -> bool {
     let is_socket = symlink_metadata(rt, path).is_ok_and(|found| found.file_type().is_socket());
     is_socket
         && connect(rt, path).is_err_and(|error| error.kind() == io::ErrorKind::ConnectionRefused)
+}
+
+/// Removes a socket at a path at which nobody listens any more, and reports that to the observer.
+pub(crate) fn remove_left_behind<R: Files + Net, O: Observer>(rt: &R, path: &str, observer: &O) {
+    if is_left_behind(rt, path) && remove_file(rt, path).is_ok() {
+        observer.socket_removed(path);
+    }
 }
 
 impl<'a> BoundSocket<'a> {
@@ -61,9 +72,7 @@ impl<'a> BoundSocket<'a> {
         if path.is_empty() {
             return Err(Fault::ReadFailed);
         }
-        if is_left_behind(rt, path) && remove_file(rt, path).is_ok() {
-            observer.socket_removed(path);
-        }
+        remove_left_behind(rt, path, observer);
         match UnixListener::bind(rt, path) {
             Ok(listener) => Ok(BoundSocket { path, listener }),
             Err(_) => Err(Fault::ReadFailed),
@@ -100,35 +109,66 @@ fn poll_of<R: Net>(
     Ok((poll, waker))
 }
 
+/// Binds both sockets. `ReadFailed` if one can't be bound; then there is no file that was not there.
+fn bind_both<'a, R: Files + Net, O: Observer>(
+    rt: &R,
+    sock: &'a str,
+    control: &'a str,
+    observer: &O,
+) -> Result<(BoundSocket<'a>, BoundSocket<'a>), Fault>
+    ensures { IfErr result (λ fault. fault ≡ Fault.ReadFailed) }
+{
+    let sock = BoundSocket::bind(rt, sock, observer)?;
+    match BoundSocket::bind(rt, control, observer) {
+        Ok(control) => Ok((sock, control)),
+        Err(fault) => {
+            sock.remove(rt);
+            Err(fault)
+        }
+    }
+}
+
+/// Binds the socket for HTTP, if there is an address for it. `ReadFailed`.
+fn bind_http<
+    'a,
+    R: Files + Net<Listener = TcpListener, Stream = TcpStream> + RandomSource,
+    O: Observer,
+>(rt: &R, http: Option<&'a str>, observer: &O) -> Result<Option<HttpSocket<'a>>, Fault>
+    ensures { IfErr result (λ fault. fault ≡ Fault.ReadFailed) }
+{
+    match http {
+        Some(address) => Ok(Some(HttpSocket::bind(rt, address, observer)?)),
+        None => Ok(None),
+    }
+}
+
 impl<'a> BoundSockets<'a> {
-    /// Binds both sockets, and reports to the observer each that was left from before. The poll reports the connections that wait at
-    /// them. `ReadFailed` if one can't be bound, or if there is no poll; then there is no file that was not there.
-    pub(crate) fn bind<R: Files + Net, O: Observer>(
-        rt: &R,
-        sock: &'a str,
-        control: &'a str,
-        observer: &O,
-    ) -> Result<(BoundSockets<'a>, Poll), Fault>
+    /// Binds the sockets, and reports to the observer each that was left from before. The poll reports the connections that wait
+    /// at the first two. `ReadFailed` if one can't be bound, or if there is no poll; then there is no file that was not there.
+    pub(crate) fn bind<
+        R: Files + Net<Listener = TcpListener, Stream = TcpStream> + RandomSource,
+        O: Observer,
+    >(rt: &R, paths: &Paths<'a>, observer: &O) -> Result<(BoundSockets<'a>, Poll), Fault>
         ensures { IfErr result (λ fault. fault ≡ Fault.ReadFailed) }
     {
-        let mut sock = BoundSocket::bind(rt, sock, observer)?;
-        let mut control = match BoundSocket::bind(rt, control, observer) {
-            Ok(control) => control,
-            Err(fault) => {
-                sock.remove(rt);
-                return Err(fault);
-            }
+        let (mut sock, mut control) = bind_both(rt, paths.sock, paths.control, observer)?;
+        let Ok(http) = bind_http(rt, paths.http, observer) else {
+            control.remove(rt);
+            sock.remove(rt);
+            return Err(Fault::ReadFailed);
         };
         match poll_of(rt, &mut sock, &mut control) {
             Ok((poll, waker)) => Ok((
                 BoundSockets {
                     sock,
                     control,
+                    http,
                     waker,
                 },
                 poll,
             )),
             Err(_) => {
+                remove_http(rt, &http);
                 control.remove(rt);
                 sock.remove(rt);
                 Err(Fault::ReadFailed)
@@ -136,15 +176,26 @@ impl<'a> BoundSockets<'a> {
         }
     }
 
-    /// Wakes the thread that accepts.
+    /// Wakes the thread that accepts, and those that accept over HTTP.
     pub(crate) fn wake(&self) {
         let _ = self.waker.wake();
+        if let Some(http) = &self.http {
+            http.wake();
+        }
     }
 
-    /// Removes the files of both.
+    /// Removes the files of all.
     pub(crate) fn remove<R: Files>(&self, rt: &R) {
+        remove_http(rt, &self.http);
         self.control.remove(rt);
         self.sock.remove(rt);
+    }
+}
+
+/// Removes the file of the socket for HTTP, if there is one.
+fn remove_http<R: Files>(rt: &R, http: &Option<HttpSocket<'_>>) {
+    if let Some(http) = http {
+        http.remove(rt);
     }
 }
 

@@ -1,5 +1,5 @@
 //! The threads of a running node.
-ghost use Rattle.std.specs.Prelude.{◌≡◌, ◌⊎◌, true, false, IsSome, vec_len, vec_capacity, Ok, Err, IfOk, IfErr, IsErr, ◌+◌, ◌≤◌, length};
+ghost use Rattle.std.specs.Prelude.{◌≡◌, ◌⊎◌, true, false, IsSome, vec_len, vec_capacity, Ok, Err, IfOk, IfErr, IsErr, ◌+◌, ◌-◌, ◌≤◌, min, length};
 ghost use Rattle.std.specs.Thread.{IsSend, IsSync};
 ghost use Rattle.sb_run.specs.Closing.{seen_by, why_of};
 ghost use Rattle.sb_run.specs.Running.{IsEndFault, IsOpenedFrom};
@@ -11,17 +11,15 @@ use crate::control_socket::ControlEnd;
 use crate::counts::Counts;
 use crate::dialer::{Dialing, Rounds, RoundsReceiver, RoundsSender, RoundsTag, Turns};
 use crate::first_hearing::FirstHearing;
-use crate::forgetting::ForgottenOwners;
-use crate::gate::{Gate, GatePoint};
 use crate::log_watch::LogWatch;
 use crate::node::{OnLogFault, Pace, Runtime};
 use crate::observer::Observer;
 use crate::own_writes::{ClosableLog, OwnWrites};
 use crate::pool::{Pooled, Serving};
 use crate::sockets::BoundSockets;
-use crate::vain_offers::VainOffers;
 use sb_control::LogCause;
 use sb_directory::{Directory, DirectoryTag, ReaderSeat};
+use sb_handlers::{ForgottenOwners, Gate, GatePoint, VainOffers};
 use sb_log::{StoreCause, WriteLog};
 use sb_session::Ended;
 use sb_types::{Delta, Fault};
@@ -72,6 +70,19 @@ struct ServingThreads<S: RoundsTag> {
 struct DialingThreads<S: RoundsTag> {
     news: PromisedHandle<Vec<ReaderSeat<S>>, AsManyIn>,
     turns: JoinHandle<ReaderSeat<S>>,
+}
+
+/// The first thread that answers over HTTP. It ends at once if there is no seat for it.
+type HttpThread<S> = PromisedHandle<Vec<ReaderSeat<S>>, AsManySeats>;
+
+/// That a thread gives so many seats back.
+#[derive(Clone, Copy)]
+struct AsManySeats(usize);
+
+impl<S: DirectoryTag> Promise<Vec<ReaderSeat<S>>> for AsManySeats {
+    ghost use Rattle.std.specs.Prelude.{◌≡◌, vec_len};
+
+    ghost kept_by = { λ p seats. vec_len seats ≡ p.0 };
 }
 
 /// That threads give as many seats back, in a list with as much room.
@@ -233,9 +244,35 @@ impl<'a, O: Observer + Sync> Dialing<'a, O> {
         Ok(DialingThreads { news, turns })
     }
 
+    /// Starts the first thread that answers over HTTP. `NoMemory` if it can't be made; then the node has ended.
+    fn start_http<
+        's,
+        E,
+        S: RoundsTag + Send + Sync,
+        H: Wait + Drop + Send + Sync,
+        Q: Runtime + Net<Listener = TcpListener, Stream = TcpStream>,
+    >(
+        &'s self,
+        scope: &Scope<'s, E>,
+        node: &'s NodeContext<'s, S, H, Q>,
+        seats: Vec<ReaderSeat<S>>,
+    ) -> Result<HttpThread<S>, Fault>
+        ensures seats { IfOk result (λ thread. thread.promise.0 ≡ vec_len seats) }
+        ensures memory { IfErr result (λ fault. fault ≡ Fault.NoMemory) }
+    {
+        let as_many = AsManySeats(seats.len());
+        match scope.spawn_with(as_many, move || node.answer_http(self, seats)) {
+            Ok(thread) => Ok(thread),
+            Err(_) => {
+                node.end();
+                Err(Fault::NoMemory)
+            }
+        }
+    }
+
     /// Runs the threads of a node to their end, in a scope of their own. One accepts, some are workers, some dial, and the calling
-    /// one makes the own writes. `NoMemory` if the thread that accepts, that of the pool, the first for news, or the one that dials
-    /// in turn can't be made. `StoreFailed` if the log failed and the node is to exit then.
+    /// one makes the own writes. `NoMemory` if the thread that accepts, that of the pool, the first for HTTP, the first for news,
+    /// or the one that dials in turn can't be made. `StoreFailed` if the log failed and the node is to exit then.
     fn run_within<
         's,
         E,
@@ -255,12 +292,14 @@ impl<'a, O: Observer + Sync> Dialing<'a, O> {
         ensures thread_seats { IfOk result (λ finished. vec_len finished.thread_seats.workers ≡ vec_len thread_seats.workers) }
         ensures news { IfOk result (λ finished. (vec_len finished.thread_seats.news ≡ vec_len thread_seats.news)
             × (vec_capacity finished.thread_seats.news ≡ vec_capacity thread_seats.news)) }
+        ensures http { IfOk result (λ finished. vec_len finished.thread_seats.http ≡ vec_len thread_seats.http) }
         ensures fault { IfErr result (IsEndFault node.now.pace.on_log_fault) }
         ensures failed { writes.has_failed ≡ true → node.now.pace.on_log_fault ≡ OnLogFault.Exit → IsErr result }
     {
         let ThreadSeats {
             workers,
             news,
+            http,
             dialing,
             control,
         } = thread_seats;
@@ -279,15 +318,20 @@ impl<'a, O: Observer + Sync> Dialing<'a, O> {
             news,
             turns: dialing,
         };
+        let Ok(http) = self.start_http(scope, node, http) else {
+            serving.join(node.rt);
+            return Err(Fault::NoMemory);
+        };
         let Ok(dialing) = self.start_dialing(scope, node, turns, seats, rounds_sender) else {
+            http.join(node.rt);
             serving.join(node.rt);
             return Err(Fault::NoMemory);
         };
         let at_control = node.answer_requests(requests, writes, control, self);
         let rounds = rounds_receiver.receive(node.rt);
         let dialed = dialing.join(node.rt);
-        let (pooled, of_accepting) = serving.join(node.rt);
-        threads_end(pooled, dialed, at_control, of_accepting, rounds)
+        let served = (serving.join(node.rt), http.join(node.rt));
+        threads_end(served, dialed, at_control, rounds)
     }
 
     /// Does the same in a scope, which lets the threads borrow what they share.
@@ -308,6 +352,7 @@ impl<'a, O: Observer + Sync> Dialing<'a, O> {
         ensures thread_seats { IfOk result (λ finished. vec_len finished.thread_seats.workers ≡ vec_len thread_seats.workers) }
         ensures news { IfOk result (λ finished. (vec_len finished.thread_seats.news ≡ vec_len thread_seats.news)
             × (vec_capacity finished.thread_seats.news ≡ vec_capacity thread_seats.news)) }
+        ensures http { IfOk result (λ finished. vec_len finished.thread_seats.http ≡ vec_len thread_seats.http) }
         ensures fault { IfErr result (IsEndFault node.now.pace.on_log_fault) }
         ensures failed { writes.has_failed ≡ true → node.now.pace.on_log_fault ≡ OnLogFault.Exit → IsErr result }
     {
@@ -320,6 +365,7 @@ impl<'a, O: Observer + Sync> Dialing<'a, O> {
                 ensures thread_seats { IfOk result (λ finished. vec_len finished.thread_seats.workers ≡ vec_len thread_seats.workers) }
                 ensures news { IfOk result (λ finished. (vec_len finished.thread_seats.news ≡ vec_len thread_seats.news)
                     × (vec_capacity finished.thread_seats.news ≡ vec_capacity thread_seats.news)) }
+                ensures http { IfOk result (λ finished. vec_len finished.thread_seats.http ≡ vec_len thread_seats.http) }
                 ensures fault { IfErr result (IsEndFault node.entry.now.pace.on_log_fault) }
                 ensures failed { writes.has_failed ≡ true → node.entry.now.pace.on_log_fault ≡ OnLogFault.Exit → IsErr result }
             { self.run_within(scope, node, writes, thread_seats, links) },
@@ -330,17 +376,17 @@ impl<'a, O: Observer + Sync> Dialing<'a, O> {
 /// Puts together what the threads left. `StoreFailed` if the calling one ended the node because its log failed; then the fault of
 /// the rounds.
 fn threads_end<S: RoundsTag>(
-    pooled: Pooled<S>,
+    served: ((Pooled<S>, u64), Vec<ReaderSeat<S>>),
     dialed: DialingSeats<S>,
     at_control: ControlEnd<S>,
-    of_accepting: u64,
     rounds: Result<Rounds<S>, Fault>,
 ) -> Result<ThreadsEnd<S>, Fault>
     ensures left { at_control.has_left ≡ true → result ≡ Err Fault.StoreFailed }
     ensures fault { at_control.has_left ≡ false → IfErr result (λ fault. rounds ≡ Err fault) }
     ensures rounds { IfOk result (λ finished. rounds ≡ Ok finished.rounds) }
-    ensures seats { IfOk result (λ finished. (finished.thread_seats.workers ≡ pooled.seats) × (finished.thread_seats.news ≡ dialed.news)) }
+    ensures seats { IfOk result (λ finished. (finished.thread_seats.workers ≡ served.0.0.seats) × (finished.thread_seats.news ≡ dialed.news) × (finished.thread_seats.http ≡ served.1)) }
 {
+    let ((pooled, of_accepting), http) = served;
     let Pooled {
         sessions: _,
         faults: of_workers,
@@ -366,6 +412,7 @@ fn threads_end<S: RoundsTag>(
     let thread_seats = ThreadSeats {
         workers,
         news,
+        http,
         dialing,
         control,
     };
@@ -383,18 +430,23 @@ pub(crate) struct ThreadSeats<S: DirectoryTag> {
     pub(crate) workers: Vec<ReaderSeat<S>>,
     /// With room for all seats of the node.
     pub(crate) news: Vec<ReaderSeat<S>>,
+    /// Those that answer over HTTP.
+    pub(crate) http: Vec<ReaderSeat<S>>,
     pub(crate) dialing: ReaderSeat<S>,
     pub(crate) control: ReaderSeat<S>,
 }
 
-/// Gives so many workers, the thread that dials in turn and the calling thread a seat each; all others are for news. `NoMemory`.
+/// Gives so many workers, the thread that dials in turn and the calling thread a seat each. Of the others at most so many are for
+/// HTTP, and the rest for news. `NoMemory`.
 pub(crate) fn part_seats<S: DirectoryTag>(
     seats: Vec<ReaderSeat<S>>,
     workers: usize,
+    http: usize,
 ) -> Result<ThreadSeats<S>, Fault>
     requires { workers + 2 ≤ vec_len seats }
     ensures workers { IfOk result (λ parted. vec_len parted.workers ≡ workers) }
-    ensures news { IfOk result (λ parted. vec_len parted.news + (workers + 2) ≡ vec_len seats) }
+    ensures news { IfOk result (λ parted. vec_len parted.news + vec_len parted.http + (workers + 2) ≡ vec_len seats) }
+    ensures http { IfOk result (λ parted. vec_len parted.http ≡ min http (vec_len seats - (workers + 2))) }
     ensures room { IfOk result (λ parted. vec_len seats ≤ vec_capacity parted.news) }
     ensures memory { IfErr result (λ fault. fault ≡ Fault.NoMemory) }
 {
@@ -407,32 +459,50 @@ pub(crate) fn part_seats<S: DirectoryTag>(
     let Some(control) = news.pop() else {
         unreachable!();
     };
+    let left = news.len().saturating_sub(http);
+    let http = news.split_off(left)?;
     Ok(ThreadSeats {
         workers: front,
         news,
+        http,
         dialing,
         control,
     })
 }
 
+/// Adds seats to a list that has room for them.
+fn with_seats<S: DirectoryTag>(
+    all: Vec<ReaderSeat<S>>,
+    seats: Vec<ReaderSeat<S>>,
+) -> Vec<ReaderSeat<S>>
+    requires { vec_len all + vec_len seats ≤ vec_capacity all }
+    ensures len { vec_len result ≡ vec_len all + vec_len seats }
+    ensures room { vec_capacity all ≤ vec_capacity result }
+{
+    let mut all = all;
+    let mut seats = seats;
+    match all.append(&mut seats) {
+        Ok(()) => all,
+        Err(_) => unreachable!(),
+    }
+}
+
 /// All seats, those for news first.
 pub(crate) fn gather_seats<S: DirectoryTag>(thread_seats: ThreadSeats<S>) -> Vec<ReaderSeat<S>>
-    requires { vec_len thread_seats.news + (vec_len thread_seats.workers + 2) ≤ vec_capacity thread_seats.news }
-    ensures { vec_len result ≡ vec_len thread_seats.news + (vec_len thread_seats.workers + 2) }
+    requires { vec_len thread_seats.news + vec_len thread_seats.http + (vec_len thread_seats.workers + 2) ≤ vec_capacity thread_seats.news }
+    ensures { vec_len result ≡ vec_len thread_seats.news + vec_len thread_seats.http + (vec_len thread_seats.workers + 2) }
 {
     let ThreadSeats {
-        mut workers,
+        workers,
         news,
+        http,
         dialing,
         control,
     } = thread_seats;
     let mut all = news;
     all.push_reserved(control);
     all.push_reserved(dialing);
-    match all.append(&mut workers) {
-        Ok(()) => all,
-        Err(_) => unreachable!(),
-    }
+    with_seats(with_seats(all, http), workers)
 }
 
 /// A running node, which its threads share.

@@ -60,6 +60,7 @@ pub(crate) fn paths_of<'a>(sock: &'a str, control: &'a str, peers: &'a [&'a str]
         sock,
         control,
         peers,
+        http: None,
     }
 }
 

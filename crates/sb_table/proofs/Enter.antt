@@ -21,7 +21,7 @@ are_distinct-push [] e apart new = refl
 are_distinct-push (x ∷ xs) e apart new =
     grind (arith, are_distinct-push xs e, list_any-append (λ y. pointwise nat_eq y.key x.key) xs (e ∷ []), nat_list_eq_equiv.symm e.key x.key)
 
-has_key-without : (e : Entry) (es : List Entry) → has_key e.key (entries_without_keys (e ∷ []) es) ≡ false
+pub has_key-without : (e : Entry) (es : List Entry) → has_key e.key (entries_without_keys (e ∷ []) es) ≡ false
 has_key-without e [] = refl
 has_key-without e (x ∷ xs) = grind (arith, has_key-without e xs, nat_list_eq_equiv.symm e.key x.key)
 

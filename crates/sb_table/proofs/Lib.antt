@@ -1,15 +1,12 @@
 pub mod Ascent
 pub mod Enter
 pub mod Plain
-pub mod ByKey
 pub mod Lookup
 pub mod Sorting
-pub mod Maps
-pub mod Reached
 pub mod Copying
 pub mod Order
 pub mod Markers
 pub mod Merging
-pub mod Dropping
-pub mod Removing
 pub mod Keeping
+pub mod ByKey
+pub mod Keys

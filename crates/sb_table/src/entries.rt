@@ -1,44 +1,43 @@
 //! The entries of one owner, by version and by key, and those of a list above a version.
 
-ghost use Rattle.std.specs.Prelude.{◌≡◌, ◌<◌, ◌≤◌, ◌==◌, ℕ, List, true, [], if◌then◌else◌, Ok, Err, OnOk, OnErr, IfErr, Some, ◌∷◌, length, drop, find};
+ghost use Rattle.std.specs.Prelude.{◌≡◌, ◌<◌, ◌≤◌, ◌==◌, ◌^◌, ℕ, true, [], if◌then◌else◌, Ok, Err, OnOk, OnErr, ◌∷◌, length, drop};
 ghost use Rattle.std.specs.Option.{option_map};
-ghost use Rattle.std.specs.Map.{values_of};
 ghost use Rattle.sb_types.specs.Faults.{Gives};
-ghost use Rattle.sb_types.specs.Runs.{newer_entries, entries_up_to, live_entries, has_key, are_ascending, entries_after, entry_at, last_version};
+ghost use Rattle.sb_types.specs.Runs.{newer_entries, entries_up_to, live_entries, has_key, are_ascending, entries_after, entry_at};
 ghost use Rattle.sb_table.specs.Plain.{IsPlainTable, plain_table, with_entry, is_full_for, version_and_slot};
 ghost use Rattle.sb_table.specs.Order.{by_key, entries_with_prefix};
-ghost use Rattle.sb_table.specs.Maps.{Agree, version_at};
-ghost use Rattle.sb_table.specs.Floors.{is_dead, entries_without_key};
+ghost use Rattle.sb_table.specs.Floors.{is_dead};
 
-use crate::after::After;
+use crate::after::{After, SharedAfter};
+use crate::places::{first_above_in, keep_live, last_version_of, place_of, under};
 use crate::prefixed::Prefixed;
+use crate::replacing::enter;
+use crate::shared::SharedEntry;
 use sb_types::{Entry, Fault, KEYS_MOST, Key, Prefix, Slot};
 use std::alloc::Global;
-use std::collections::BTreeMap;
 use std::marker::Model;
-use std::ops::Bound;
 
 /// The entries of a table or of a stage: at most 4,096, in ascending version, one for each key. Contracts see them as
 /// the table of these entries with floor 0. A tombstone is the marker of a removed key.
 #[derive(Debug, Drop)]
 pub(crate) struct Entries {
-    // The entries by version.
-    entries: BTreeMap<u64, Entry>,
-    // The version of each key's entry.
-    versions: BTreeMap<Key, u64>,
+    // The entries in ascending version.
+    entries: Vec<SharedEntry>,
+    // The same entries in ascending order of their keys.
+    keys: Vec<SharedEntry>,
 }
 
 impl Model for Entries {
-    ghost use Rattle.std.specs.Map.{values_of};
+    ghost use Rattle.std.specs.Prelude.{◌≡◌};
     ghost use Rattle.sb_types.specs.Records as records;
     ghost use Rattle.sb_table.specs.Plain.{IsPlainTable, plain_table};
-    ghost use Rattle.sb_table.specs.Maps.{Agree};
+    ghost use Rattle.sb_table.specs.Order.{by_key};
 
     ghost Value = { records.Table };
 
-    ghost view = { λ t. plain_table (values_of t.entries.entries) };
+    ghost view = { λ t. plain_table t.entries.items };
 
-    ghost invariant = { λ t. IsPlainTable (plain_table (values_of t.entries.entries)) × Agree t.entries.entries t.versions.entries };
+    ghost invariant = { λ t. IsPlainTable (plain_table t.entries.items) × (t.keys.items ≡ by_key t.entries.items) };
 }
 
 impl Entries {
@@ -48,8 +47,8 @@ impl Entries {
         ensures table { IsPlainTable result }
     {
         Entries {
-            entries: BTreeMap::new(alloc),
-            versions: BTreeMap::new(alloc),
+            entries: Vec::new(alloc),
+            keys: Vec::new(alloc),
         }
     }
 
@@ -67,7 +66,25 @@ impl Entries {
         if self.is_full_for(entry.key()) {
             return Err(Fault::TableFull);
         }
-        enter(&mut self.entries, &mut self.versions, entry)
+        let alloc = *self.entries.allocator();
+        let entry = SharedEntry::new(alloc, entry)?;
+        enter(&mut self.entries, &mut self.keys, entry)
+    }
+
+    /// Enters the same write as another table has. It faults as `push` does.
+    pub(crate) fn push_shared(&mut self, entry: &SharedEntry) -> Result<(), Fault>
+        requires { self.old.held < entry.now.version }
+        ensures answer { Gives result (if is_full_for entry.now.key self.old.entries then Err Fault.TableFull else Ok tt) }
+        ensures full { is_full_for entry.now.key self.old.entries ≡ true → result ≡ Err Fault.TableFull }
+        ensures ok { OnOk result (self.new ≡ with_entry self.old entry.now) }
+        ensures err { OnErr result (self.new ≡ self.old) }
+        ensures table { IsPlainTable self.new }
+    {
+        if self.is_full_for(entry.entry().key()) {
+            return Err(Fault::TableFull);
+        }
+        let same = entry.share()?;
+        enter(&mut self.entries, &mut self.keys, same)
     }
 
     /// Returns equal entries. The only fault is `NoMemory`.
@@ -76,8 +93,8 @@ impl Entries {
         ensures table { IsPlainTable self.now }
     {
         let mut copy = Entries::new(alloc);
-        for entry in self.after(0) {
-            copy.push(entry.copy(alloc)?)?;
+        for entry in self.shared_after(0) {
+            copy.push_shared(entry)?;
         }
         Ok(copy)
     }
@@ -87,7 +104,15 @@ impl Entries {
         ensures full { result ≡ is_full_for key.now self.now.entries }
         ensures table { IsPlainTable self.now }
     {
-        self.len() >= KEYS_MOST && !self.versions.contains_key(key)
+        self.len() >= KEYS_MOST && !self.has(key)
+    }
+
+    /// Returns whether a key has an entry.
+    fn has(&self, key: &Key) -> bool
+        ensures has { result ≡ has_key key.now self.now.entries }
+        ensures table { IsPlainTable self.now }
+    {
+        place_of(&self.keys, key).is_ok()
     }
 
     /// Returns the version of the last write, or 0 if there is none.
@@ -95,10 +120,7 @@ impl Entries {
         ensures version { result ≡ self.now.held }
         ensures table { IsPlainTable self.now }
     {
-        match self.entries.last_key_value() {
-            Some((version, _)) => *version,
-            None => 0,
-        }
+        last_version_of(&self.entries)
     }
 
     /// Returns how many keys there are, those with tombstones included.
@@ -123,9 +145,13 @@ impl Entries {
         ensures found { option_map (λ p. (p.0, p.1.now)) result ≡ option_map version_and_slot (entry_at key.now self.now.entries) }
         ensures table { IsPlainTable self.now }
     {
-        let version = self.versions.get(key)?;
-        let entry = self.entries.get(version)?;
-        Some((*version, entry.slot()))
+        match place_of(&self.keys, key) {
+            Ok(place) => {
+                let entry = self.keys[place].entry();
+                Some((entry.version(), entry.slot()))
+            }
+            Err(_) => None,
+        }
     }
 
     /// Returns the entries above a version, in ascending version.
@@ -133,8 +159,24 @@ impl Entries {
         ensures entries { result ≡ newer_entries version self.now.entries }
         ensures table { IsPlainTable self.now }
     {
-        let above = (Bound::Excluded(version), Bound::Unbounded);
-        After::new(self.entries.range(above))
+        After::new(self.above(version))
+    }
+
+    /// Returns the same entries, to share them with others.
+    pub(crate) fn shared_after(&self, version: u64) -> SharedAfter<'_>
+        ensures entries { result ≡ newer_entries version self.now.entries }
+        ensures table { IsPlainTable self.now }
+    {
+        SharedAfter::new(self.above(version))
+    }
+
+    /// Returns the entries above a version, in ascending version, as a part of the list.
+    fn above(&self, version: u64) -> &[SharedEntry]
+        ensures entries { result.now ≡ newer_entries version self.now.entries }
+        ensures length { length result.now < 2 ^ 63 }
+        ensures table { IsPlainTable self.now }
+    {
+        &self.entries[first_above_in(&self.entries, version)..]
     }
 
     /// Returns whether a key has an entry at or below a version.
@@ -153,34 +195,8 @@ impl Entries {
         ensures dropped { self.new ≡ plain_table (live_entries floor self.old.entries) }
         ensures table { IsPlainTable self.new }
     {
-        let _ = &self.entries;
-        let mut from = 0;
-        while let Some((key, version)) = self.first_marker(from, floor) {
-            self.remove(&key, version);
-            from = version;
-        }
-    }
-
-    /// Returns the key and the version of the first tombstone that is above `from`, and at or below `floor`.
-    fn first_marker(&self, from: u64, floor: u64) -> Option<(Key, u64)>
-        ensures first { result ≡ option_map (λ e. (e.key, e.version)) (find (λ e. is_dead floor e) (newer_entries from self.now.entries)) }
-        ensures table { IsPlainTable self.now }
-    {
-        for entry in self.after(from) {
-            if is_dead(entry, floor) {
-                return Some((*entry.key(), entry.version()));
-            }
-        }
-        None
-    }
-
-    /// Removes the entry of a key, which has this version.
-    fn remove(&mut self, key: &Key, version: u64)
-        requires { version_at key.now self.old.entries ≡ Some version }
-        ensures gone { self.new ≡ plain_table (entries_without_key key.now self.old.entries) }
-        ensures table { IsPlainTable self.new }
-    {
-        take_out(&mut self.entries, &mut self.versions, key, version);
+        keep_live(&mut self.entries, floor);
+        keep_live(&mut self.keys, floor);
     }
 
     /// Returns the entries whose keys begin with the prefix, in ascending order of their keys.
@@ -188,8 +204,7 @@ impl Entries {
         ensures entries { result ≡ by_key (entries_with_prefix prefix.now self.now.entries) }
         ensures table { IsPlainTable self.now }
     {
-        let from_start = (prefix.start(), Bound::Unbounded);
-        Prefixed::new(&self.entries, self.versions.range(from_start), *prefix)
+        Prefixed::new(under(&self.keys, prefix))
     }
 }
 
@@ -222,54 +237,6 @@ pub(crate) fn drop_between(entries: &mut Entries, before: u64, floor: u64)
     if floor > before {
         entries.drop_markers(floor);
     }
-}
-
-/// Enters an entry after all others, and removes the entry that its key had. The only fault is `NoMemory`, which leaves
-/// the entries as they were.
-fn enter(
-    entries: &mut BTreeMap<u64, Entry>,
-    versions: &mut BTreeMap<Key, u64>,
-    entry: Entry,
-) -> Result<(), Fault>
-    requires table { IsPlainTable (plain_table (values_of entries.old.entries)) }
-    requires agree { Agree entries.old.entries versions.old.entries }
-    requires later { last_version 0 (values_of entries.old.entries) < entry.version }
-    ensures ok { OnOk result (values_of entries.new.entries ≡ entries_after (values_of entries.old.entries) (entry ∷ [])) }
-    ensures err { OnErr result (values_of entries.new.entries ≡ values_of entries.old.entries) }
-    ensures agree { Agree entries.new.entries versions.new.entries }
-    ensures fault { IfErr result (λ fault. fault ≡ Fault.NoMemory) }
-{
-    let key = *entry.key();
-    let version = entry.version();
-    entries.insert(version, entry)?;
-    match versions.insert(key, version) {
-        Ok(Some(earlier)) => {
-            entries.remove(&earlier);
-            Ok(())
-        }
-        Ok(None) => Ok(()),
-        Err(_) => {
-            entries.remove(&version);
-            Err(Fault::NoMemory)
-        }
-    }
-}
-
-/// Removes the entry of a key, which has this version, from both maps.
-fn take_out(
-    entries: &mut BTreeMap<u64, Entry>,
-    versions: &mut BTreeMap<Key, u64>,
-    key: &Key,
-    version: u64,
-)
-    requires table { IsPlainTable (plain_table (values_of entries.old.entries)) }
-    requires agree { Agree entries.old.entries versions.old.entries }
-    requires stands { version_at key.now (values_of entries.old.entries) ≡ Some version }
-    ensures values { values_of entries.new.entries ≡ entries_without_key key.now (values_of entries.old.entries) }
-    ensures agree { Agree entries.new.entries versions.new.entries }
-{
-    versions.remove(key);
-    entries.remove(&version);
 }
 
 /// Returns whether an entry is a tombstone at or below a version.

@@ -8,7 +8,7 @@ ghost use Rattle.sb_table.specs.Plain.{IsPlainTable, plain_table, with_entry, is
 ghost use Rattle.sb_table.specs.Order.{by_key, entries_with_prefix};
 ghost use Rattle.sb_table.specs.Floors.{IsKeptTable, are_table_entries, table_at_floor, restored_table, table_after_swap};
 
-use crate::after::After;
+use crate::after::{After, SharedAfter};
 use crate::entries::{Entries, drop_between, push_later};
 use crate::prefixed::Prefixed;
 use crate::restore::{are_table_entries, fill};
@@ -172,6 +172,14 @@ impl Table {
         self.entries.after(version)
     }
 
+    /// Returns the entries above a version, in ascending version, to be shared with others. It takes no memory.
+    pub fn shared_after(&self, version: u64) -> SharedAfter<'_>
+        ensures entries { result ≡ newer_entries version self.now.entries }
+        ensures table { IsKeptTable self.now }
+    {
+        self.entries.shared_after(version)
+    }
+
     /// Returns the entries whose keys begin with the prefix, in ascending order of their keys. It takes no memory.
     pub fn prefix(&self, prefix: &Prefix) -> Prefixed<'_>
         ensures entries { result ≡ by_key (entries_with_prefix prefix.now self.now.entries) }
@@ -239,8 +247,8 @@ impl Table {
     {
         let mut entries = Entries::new(alloc);
         let (old, new) = (&self.entries, &stage.entries);
-        keep_shown(alloc, &mut entries, old, new, self.upto, stage.floor)?;
-        add_staged(alloc, &mut entries, new, self.upto, stage.floor)?;
+        keep_shown(&mut entries, old, new, self.upto, stage.floor)?;
+        add_staged(&mut entries, new, self.upto, stage.floor)?;
         Ok(Table {
             upto: stage.progress,
             floor: stage.floor,

@@ -18,3 +18,4 @@ pub mod Behind
 pub mod Rising
 pub mod Starts
 pub mod Purged
+pub mod LiveEntries

@@ -17,7 +17,7 @@ pub record LiveRow : Type 0 where
   pub version : ℕ
 
 abbrev pub row_lent : rust.LiveRow → LiveRow
-row_lent r = record { owner = r.owner.now; key = r.key.now; value = r.live.now.0; version = r.live.now.1 }
+row_lent r = record { owner = r.owner.now; key = r.key.now; value = r.live.0; version = r.live.1 }
 
 abbrev pub row_at : List ℕ → List ℕ × (Value × ℕ) → LiveRow
 row_at owner p = record { owner = owner; key = p.0; value = p.1.0; version = p.1.1 }
@@ -63,11 +63,6 @@ rest_of wanted prefix owner key view =
 abbrev pub live_rows_under : List ℕ → List ℕ → List (List ℕ × (Value × ℕ)) → List LiveRow
 live_rows_under owner prefix [] = []
 live_rows_under owner prefix (p ∷ ps) = if starts_with nat_eq p.0 prefix then row_at owner p ∷ live_rows_under owner prefix ps else []
-
--- none, once there was an end
-abbrev pub rows_left : Bool → List ℕ → List ℕ → List (List ℕ × (Value × ℕ)) → List LiveRow
-rows_left true owner prefix ps = []
-rows_left false owner prefix ps = live_rows_under owner prefix ps
 
 -- those of the owner that is read, and then those of the owners behind
 abbrev pub rows_to_come : List ℕ → Option (List LiveRow) → List (List ℕ × OwnerView) → List LiveRow

@@ -1,13 +1,14 @@
 -- The view of a node: what its readers get.
-use Rattle.std.specs.Prelude.{◌≡◌, ℕ, List, [], ◌∷◌, Option, unwrap_or}
+use Rattle.std.specs.Prelude.{◌≡◌, ℕ, true, false, List, [], ◌∷◌, map, Option, unwrap_or}
 use Rattle.std.specs.Ordering.{nat_cmp}
 use Rattle.std.specs.Cmp.Lexicographic.{slice_cmp}
 use Rattle.std.specs.FinMap.{FinMap, empty, get, insert, remove, from_sorted}
 use Rattle.sb_types.specs.declared.entry.Slot.{Slot}
 use Rattle.sb_types.specs.declared.entry.Slot.TheVariants.{Set, Removed}
-use Rattle.sb_types.specs.Value.{Value}
+use Rattle.sb_types.specs.Value.{Value, Flag}
 use Rattle.sb_types.specs.Records.{Entry, Table}
-use Rattle.sb_types.specs.Runs.{shown_at}
+use Rattle.sb_types.specs.Runs.{Stands, is_set, shown_at}
+use Rattle.sb_table.specs.Order.{IsRising}
 use Rattle.sb_views.specs.declared.change.Change.{Change}
 use Rattle.sb_views.specs.declared.change.Change.TheVariants.{Enter, Clear, Hold}
 
@@ -15,6 +16,28 @@ use Rattle.sb_views.specs.declared.change.Change.TheVariants.{Enter, Clear, Hold
 pub record OwnerView : Type 0 where
   pub upto : ℕ
   pub rows : FinMap (slice_cmp nat_cmp) (Value × ℕ)
+
+-- the value of a slot that is set
+abbrev pub set_value : Slot → Value
+set_value (Set value) = value
+set_value Removed = Flag false
+
+-- what is live of an entry that sets its key: the value, with the version of its write
+abbrev pub live_of : Entry → Value × ℕ
+live_of e = (set_value e.slot, e.version)
+
+-- of each entry its key, and what is live under it
+abbrev pub live_rows_of : List Entry → List (List ℕ × (Value × ℕ))
+live_rows_of entries = map (λ e. (e.key, live_of e)) entries
+
+-- each entry sets its key
+abbrev pub AllSet : List Entry → Type 0
+AllSet entries = (e : Entry) → Stands entries e → is_set e.slot ≡ true
+
+-- the entries are live, in ascending order of their keys
+pub record AreLive (entries : List Entry) : Type 0 where
+  pub rising : IsRising entries
+  pub set : AllSet entries
 
 -- the views of the owners, by name
 abbrev pub NodeView : Type 0

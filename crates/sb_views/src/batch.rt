@@ -4,7 +4,8 @@ ghost use Rattle.sb_views.specs.Operations.{changes_of, are_changes};
 
 use crate::change::Change;
 use crate::view_copy::Operation;
-use sb_types::{Entry, Fault, Name};
+use sb_table::SharedEntry;
+use sb_types::{Fault, Name};
 use std::alloc::Global;
 use std::collections::VecDeque;
 use std::marker::Model;
@@ -53,7 +54,7 @@ impl Batch {
     }
 
     /// Puts behind the others that an entry of an owner is entered. `NoMemory`, which leaves the batch as it was.
-    pub fn push(&mut self, owner: Name, entry: Entry) -> Result<(), Fault>
+    pub fn push(&mut self, owner: Name, entry: SharedEntry) -> Result<(), Fault>
         ensures ok { OnOk result (self.new ≡ self.old ++ (owner, Change.Enter entry) ∷ []) }
         ensures err { OnErr result (self.new ≡ self.old) }
         ensures memory { IfErr result (λ fault. fault ≡ Fault.NoMemory) }

@@ -2,14 +2,14 @@
 ghost use Rattle.std.specs.Prelude.{◌≡◌};
 ghost use Rattle.sb_views.specs.Changes.{change_of};
 
-use sb_types::Entry;
+use sb_table::SharedEntry;
 
 /// A change of an owner, as it is to be shown.
 #[derive(Drop)]
 pub enum Change {
     /// A write is entered: its value stands under its key, or nothing where it is a removal, and the owner is held up to
     /// its version.
-    Enter(Entry),
+    Enter(SharedEntry),
     /// Nothing stands under any key of the owner.
     Clear,
     /// The owner is held up to this version.
@@ -19,7 +19,7 @@ pub enum Change {
 /// The parts of a change, lent.
 #[derive(Clone, Copy)]
 pub enum ChangeRef<'a> {
-    Enter(&'a Entry),
+    Enter(&'a SharedEntry),
     Clear,
     Hold(u64),
 }

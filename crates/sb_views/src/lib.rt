@@ -23,6 +23,7 @@
 
 mod batch;
 mod change;
+mod entries_from;
 mod event;
 mod history;
 mod laws;

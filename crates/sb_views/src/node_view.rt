@@ -86,9 +86,8 @@ impl NodeView {
         ensures ok { OnOk result (self.new ≡ node_views.view_with self.old owner.now (change_of change.entry)) }
         ensures err { OnErr result (self.new ≡ self.old) }
     {
-        let alloc = self.alloc;
         match self.owners.get_mut(owner) {
-            Some(owner_view) => owner_view.change(alloc, change),
+            Some(owner_view) => owner_view.change(change),
             None => self.add(owner, change),
         }
     }
@@ -100,7 +99,7 @@ impl NodeView {
         ensures err { OnErr result (self.new ≡ self.old) }
     {
         let mut owner_view = OwnerView::new(self.alloc);
-        owner_view.change(self.alloc, change)?;
+        owner_view.change(change)?;
         put_owner_view(&mut self.owners, *owner, owner_view)
     }
 

@@ -25,9 +25,9 @@ fn enter_all(view: &mut NodeView, owner: &Name, table: &Table) -> Result<u64, Al
     ensures last { IfOk result (λ last. last ≡ last_version 0 (newer_entries 0 table.now.entries)) }
 {
     let mut last = 0;
-    for entry in table.after(0) {
+    for entry in table.shared_after(0) {
         view.change(owner, ChangeRef::Enter(entry))?;
-        last = entry.version();
+        last = entry.entry().version();
     }
     Ok(last)
 }

@@ -1,23 +1,25 @@
 //! What is shown of one owner.
 ghost use Rattle.std.specs.Prelude.{◌≡◌, ◌≤◌, ℕ, true, nat_eq, List, filter, Some, OnOk, OnErr, length};
+ghost use Rattle.std.specs.List as lists;
 ghost use Rattle.std.specs.List.{starts_with};
 ghost use Rattle.std.specs.Option.{option_map};
 ghost use Rattle.std.specs.FinMap.{get, insert, remove, entries};
 ghost use Rattle.std.specs.Ordering.{nat_cmp, is_lt, is_le};
 ghost use Rattle.std.specs.BTreeMap.Range.{is_from_start};
+ghost use Rattle.sb_types.specs.Runs.{is_set};
 ghost use Rattle.sb_views.specs.LiveRows as spec;
 ghost use Rattle.std.specs.Cmp.Lexicographic.{slice_cmp};
-ghost use Rattle.std.specs.BTreeMap.{IsOrdered};
 ghost use Rattle.sb_views.specs.declared.change.Change.TheVariants as changes;
 ghost use Rattle.sb_views.specs.Changes.{change_of};
 ghost use Rattle.sb_views.specs.NodeViews as node_views;
 
 use crate::change::ChangeRef;
+use crate::entries_from::from_start;
 use crate::live::LiveValue;
 use crate::rows::OwnerRows;
-use sb_types::{Entry, Key, Name, Prefix, Slot, Value};
+use sb_table::{SharedEntry, place_of};
+use sb_types::{Key, Name, Prefix, Slot, Value};
 use std::alloc::{AllocError, Global};
-use std::collections::BTreeMap;
 use std::marker::Model;
 use std::ops::Bound;
 
@@ -25,13 +27,11 @@ use std::ops::Bound;
 #[derive(Drop)]
 pub struct OwnerView {
     upto: u64,
-    rows: BTreeMap<Key, LiveValue>,
+    // The entries that are live, in ascending order of their keys. The table shares them.
+    rows: Vec<SharedEntry>,
 }
 
 impl Model for OwnerView {
-    ghost use Rattle.std.specs.Ordering.{nat_cmp};
-    ghost use Rattle.std.specs.Cmp.Lexicographic.{slice_cmp};
-    ghost use Rattle.std.specs.BTreeMap.{IsOrdered};
     ghost use Rattle.std.specs.Coded.{codes};
     ghost use Rattle.std.specs.FinMap.{code};
     ghost use Rattle.sb_views.specs.NodeViews as node_views;
@@ -40,33 +40,23 @@ impl Model for OwnerView {
 
     ghost coded = { Prim.hlevel (codes, code) };
 
-    ghost view = { λ s. record { upto = s.upto; rows = node_views.rows_of s.rows.entries } };
+    ghost view = { λ s. record { upto = s.upto; rows = node_views.rows_of (node_views.live_rows_of s.rows.items) } };
 
-    ghost invariant = { λ s. IsOrdered (slice_cmp nat_cmp) s.rows };
+    ghost invariant = { λ s. node_views.AreLive s.rows.items };
 }
 
-/// Puts a value under a key, with the version of its write. Where memory is wanting nothing changes.
-fn set_row(
-    alloc: Global,
-    rows: &mut BTreeMap<Key, LiveValue>,
-    key: Key,
-    value: &Value,
-    version: u64,
+/// Puts an entry at this place. If memory is missing, nothing changes.
+fn insert_row(
+    rows: &mut Vec<SharedEntry>,
+    place: usize,
+    entry: SharedEntry,
 ) -> Result<(), AllocError>
-    requires ordered { IsOrdered (slice_cmp nat_cmp) rows.old }
-    requires version { 1 ≤ version }
-    ensures ok { OnOk result (node_views.rows_of rows.new.entries ≡ insert (node_views.rows_of rows.old.entries) key (value.now, version)) }
-    ensures err { OnErr result (rows.new.entries ≡ rows.old.entries) }
-    ensures ordered { IsOrdered (slice_cmp nat_cmp) rows.new }
+    requires { place ≤ length rows.old.items }
+    ensures ok { OnOk result (rows.new.items ≡ lists.insert rows.old.items place entry) }
+    ensures err { OnErr result (rows.new.items ≡ rows.old.items) }
 {
-    let Ok(copy) = value.copy(alloc) else {
-        return Err(AllocError);
-    };
-    match rows.insert(key, LiveValue::new(copy, version)) {
-        Ok(earlier) => {
-            drop(earlier);
-            Ok(())
-        }
+    match rows.insert(place, entry) {
+        Ok(()) => Ok(()),
         Err(refused) => {
             drop(refused);
             Err(AllocError)
@@ -74,31 +64,49 @@ fn set_row(
     }
 }
 
-/// Takes out what is under a key.
-fn remove_row(rows: &mut BTreeMap<Key, LiveValue>, key: &Key)
-    requires { IsOrdered (slice_cmp nat_cmp) rows.old }
-    ensures removed { node_views.rows_of rows.new.entries ≡ remove (node_views.rows_of rows.old.entries) key.now }
-    ensures ordered { IsOrdered (slice_cmp nat_cmp) rows.new }
+/// Puts an entry in place of what its key had. If memory is missing, nothing changes.
+fn set_row(rows: &mut Vec<SharedEntry>, entry: SharedEntry) -> Result<(), AllocError>
+    requires live { node_views.AreLive rows.old.items }
+    requires set { is_set entry.slot ≡ true }
+    ensures ok { OnOk result (node_views.rows_of (node_views.live_rows_of rows.new.items) ≡ insert (node_views.rows_of (node_views.live_rows_of rows.old.items)) entry.key (node_views.live_of entry)) }
+    ensures err { OnErr result (rows.new.items ≡ rows.old.items) }
+    ensures live { node_views.AreLive rows.new.items }
 {
-    let earlier = rows.remove(key);
-    drop(earlier);
+    match place_of(rows, entry.entry().key()) {
+        Ok(place) => {
+            rows[place] = entry;
+            Ok(())
+        }
+        Err(place) => insert_row(rows, place, entry),
+    }
 }
 
-/// Shows what a write puts under its key. Where memory is wanting nothing changes.
-fn enter_row(
-    alloc: Global,
-    rows: &mut BTreeMap<Key, LiveValue>,
-    entry: &Entry,
-) -> Result<(), AllocError>
-    requires { IsOrdered (slice_cmp nat_cmp) rows.old }
-    ensures ok { OnOk result (node_views.rows_of rows.new.entries ≡ node_views.rows_with (node_views.rows_of rows.old.entries) entry.now entry.now.slot) }
-    ensures err { OnErr result (rows.new.entries ≡ rows.old.entries) }
-    ensures ordered { IsOrdered (slice_cmp nat_cmp) rows.new }
+/// Removes what is under a key.
+fn remove_row(rows: &mut Vec<SharedEntry>, key: &Key)
+    requires { node_views.AreLive rows.old.items }
+    ensures removed { node_views.rows_of (node_views.live_rows_of rows.new.items) ≡ remove (node_views.rows_of (node_views.live_rows_of rows.old.items)) key.now }
+    ensures live { node_views.AreLive rows.new.items }
 {
-    match entry.slot() {
-        Slot::Set(value) => set_row(alloc, rows, *entry.key(), value, entry.version()),
+    match place_of(rows, key) {
+        Ok(place) => drop(rows.remove(place)),
+        Err(_) => {}
+    }
+}
+
+/// Shows what a write puts under its key. If memory is missing, nothing changes.
+fn enter_row(rows: &mut Vec<SharedEntry>, shared: &SharedEntry) -> Result<(), AllocError>
+    requires { node_views.AreLive rows.old.items }
+    ensures ok { OnOk result (node_views.rows_of (node_views.live_rows_of rows.new.items) ≡ node_views.rows_with (node_views.rows_of (node_views.live_rows_of rows.old.items)) shared.now shared.now.slot) }
+    ensures err { OnErr result (rows.new.items ≡ rows.old.items) }
+    ensures live { node_views.AreLive rows.new.items }
+{
+    match shared.entry().slot() {
+        Slot::Set(_) => match shared.share() {
+            Ok(same) => set_row(rows, same),
+            Err(_) => Err(AllocError),
+        },
         Slot::Removed => {
-            remove_row(rows, entry.key());
+            remove_row(rows, shared.entry().key());
             Ok(())
         }
     }
@@ -111,17 +119,17 @@ impl OwnerView {
     {
         OwnerView {
             upto: 0,
-            rows: BTreeMap::new(alloc),
+            rows: Vec::new(alloc),
         }
     }
 
-    /// Shows a change. Where memory is wanting nothing changes.
-    pub(crate) fn change(&mut self, alloc: Global, change: ChangeRef<'_>) -> Result<(), AllocError>
+    /// Shows a change. If memory is missing, nothing changes.
+    pub(crate) fn change(&mut self, change: ChangeRef<'_>) -> Result<(), AllocError>
         ensures ok { OnOk result (self.new ≡ node_views.owner_view_with self.old (change_of change.entry)) }
         ensures err { OnErr result (self.new ≡ self.old) }
     {
         match change {
-            ChangeRef::Enter(entry) => self.enter(alloc, entry),
+            ChangeRef::Enter(entry) => self.enter(entry),
             ChangeRef::Clear => {
                 self.clear();
                 Ok(())
@@ -133,14 +141,14 @@ impl OwnerView {
         }
     }
 
-    /// Shows a write. Where memory is wanting nothing changes.
-    fn enter(&mut self, alloc: Global, entry: &Entry) -> Result<(), AllocError>
+    /// Shows a write. If memory is missing, nothing changes.
+    fn enter(&mut self, entry: &SharedEntry) -> Result<(), AllocError>
         ensures ok { OnOk result (self.new ≡ node_views.owner_view_with self.old (changes.Enter entry.now)) }
         ensures err { OnErr result (self.new ≡ self.old) }
     {
-        match enter_row(alloc, &mut self.rows, entry) {
+        match enter_row(&mut self.rows, entry) {
             Ok(()) => {
-                self.upto = entry.version();
+                self.upto = entry.entry().version();
                 Ok(())
             }
             Err(refused) => Err(refused),
@@ -179,9 +187,12 @@ impl OwnerView {
     pub(crate) fn get(&self, key: &Key) -> Option<(&Value, u64)>
         ensures { option_map (λ p. (p.0.now, p.1)) result ≡ get self.now.rows key.now }
     {
-        match self.rows.get(key) {
-            Some(live) => Some((live.value(), live.version())),
-            None => None,
+        match place_of(&self.rows, key) {
+            Ok(place) => {
+                let live = LiveValue::of(&self.rows[place]);
+                Some((live.value(), live.version()))
+            }
+            Err(_) => None,
         }
     }
 
@@ -189,8 +200,7 @@ impl OwnerView {
     pub(crate) fn rows<'a>(&'a self, owner: &'a Name, prefix: Prefix) -> OwnerRows<'a>
         ensures { result ≡ spec.rows_under prefix owner.now self.now }
     {
-        let from_start = (prefix.start(), Bound::Unbounded);
-        OwnerRows::new(owner, self.rows.range(from_start), prefix)
+        OwnerRows::new(owner, from_start(&self.rows, prefix.start()), prefix)
     }
 
     /// Those of them that stand behind the key.
@@ -202,8 +212,8 @@ impl OwnerView {
     ) -> OwnerRows<'a>
         ensures { result ≡ filter (spec.is_behind (Some (owner.now, key))) (spec.rows_under prefix owner.now self.now) }
     {
-        let behind = (start_behind(key, prefix), Bound::Unbounded);
-        OwnerRows::new(owner, self.rows.range(behind), prefix)
+        let behind = start_behind(key, prefix);
+        OwnerRows::new(owner, from_start(&self.rows, behind), prefix)
     }
 }
 

@@ -1,55 +1,56 @@
 //! Live rows, lent in the order of their owners and keys.
-ghost use Rattle.std.specs.Prelude.{◌≡◌, ◌++◌, false};
+ghost use Rattle.std.specs.Prelude.{◌≡◌, ◌++◌};
 ghost use Rattle.std.specs.Option.{option_map};
 ghost use Rattle.std.specs.Iterator.{YieldsFirstBy, item_count};
 ghost use Rattle.sb_views.specs.LiveRows as spec;
+ghost use Rattle.sb_views.specs.NodeViews as node_views;
 
 use crate::live::LiveValue;
 use crate::owner_view::OwnerView;
+use sb_table::SharedEntry;
 use sb_types::{Key, Name, Prefix};
 use std::collections::btree_map::Range;
 use std::iter::FusedIterator;
 use std::marker::Model;
 
 /// A live row, lent: what an owner has under a key.
-#[derive(Clone, Copy)]
+#[derive(Drop)]
 pub struct LiveRow<'a> {
     pub owner: &'a Name,
     pub key: &'a Key,
-    pub live: &'a LiveValue,
+    pub live: LiveValue<'a>,
 }
 
 /// The rows of one owner under the keys that begin with a prefix, in ascending order of the keys.
 #[derive(Drop)]
 pub(crate) struct OwnerRows<'a> {
     owner: &'a Name,
-    rows: Range<'a, Key, LiveValue>,
+    rows: &'a [SharedEntry],
     prefix: Prefix,
-    ended: bool,
 }
 
 impl<'a> Model for OwnerRows<'a> {
     ghost use Rattle.std.specs.Prelude.{List};
     ghost use Rattle.sb_views.specs.LiveRows as spec;
+    ghost use Rattle.sb_views.specs.NodeViews as node_views;
 
     ghost Value = { List spec.LiveRow };
 
-    ghost view = { λ it. spec.rows_left it.ended it.owner.now it.prefix it.rows };
+    ghost view = { λ it. spec.live_rows_under it.owner.now it.prefix (node_views.live_rows_of it.rows.now) };
+
+    ghost invariant = { λ it. node_views.AllSet it.rows.now };
 }
 
 impl<'a> OwnerRows<'a> {
-    pub(crate) fn new(
-        owner: &'a Name,
-        rows: Range<'a, Key, LiveValue>,
-        prefix: Prefix,
-    ) -> OwnerRows<'a>
-        ensures { result ≡ spec.rows_left false owner.now prefix rows.entry }
+    /// The first rows of these, as long as their keys begin with the prefix.
+    pub(crate) fn new(owner: &'a Name, rows: &'a [SharedEntry], prefix: Prefix) -> OwnerRows<'a>
+        requires { node_views.AllSet rows.now }
+        ensures { result ≡ spec.live_rows_under owner.now prefix (node_views.live_rows_of rows.now) }
     {
         OwnerRows {
             owner,
             rows,
             prefix,
-            ended: false,
         }
     }
 }
@@ -62,20 +63,18 @@ impl<'a> Iterator for OwnerRows<'a> {
     ghost remaining = { item_count (λ it. it) };
 
     fn next(&mut self) -> Option<LiveRow<'a>> {
-        if self.ended {
+        let (first, others) = self.rows.split_first()?;
+        let key = first.entry().key();
+        if !key.bytes().starts_with(self.prefix.bytes()) {
+            self.rows = &self.rows[..0];
             return None;
         }
-        if let Some((key, live)) = self.rows.next() {
-            if key.bytes().starts_with(self.prefix.bytes()) {
-                return Some(LiveRow {
-                    owner: self.owner,
-                    key,
-                    live,
-                });
-            }
-        }
-        self.ended = true;
-        None
+        self.rows = others;
+        Some(LiveRow {
+            owner: self.owner,
+            key,
+            live: LiveValue::of(first),
+        })
     }
 }
 

@@ -6,11 +6,11 @@ ghost use Rattle.sb_holdings.specs.Held.{shown_of};
 use crate::making::{apply, holdings_of_a, name};
 use crate::reading::{Look, read};
 use crate::views::{
-    Case, NET_B, OF_B, ReaderFindings, W, entry_of, is_found, is_upto, look_around,
+    Case, NET_B, OF_B, ReaderFindings, W, entry_of, is_found, is_upto, look_around, shared,
 };
 use crate::{got, same, there};
 use sb_holdings::Holdings;
-use sb_table::Table;
+use sb_table::{SharedEntry, Table};
 use sb_types::{Block, Entry, Fault, Name};
 use sb_views::{
     Batch, Change, EventRef, History, NewHistory, NodeTag, Snapshot, ViewWriter, views,
@@ -92,11 +92,11 @@ fn publish_first<S: NodeTag, R: Wait + Abort>(
 }
 
 /// Adds to an empty batch that the owner has this one entry and no other.
-fn push_anew(batch: &mut Batch, owner: Name, entry: Entry) -> Result<(), Fault>
+fn push_anew(batch: &mut Batch, owner: Name, entry: SharedEntry) -> Result<(), Fault>
     requires { batch.old ≡ [] }
     ensures { OnOk result (batch.new ≡ (owner, Change.Clear) ∷ (owner, Change.Enter entry) ∷ (owner, Change.Hold entry.version) ∷ []) }
 {
-    let version = entry.version();
+    let version = entry.entry().version();
     batch.push_clear(owner)?;
     batch.push(owner, entry)?;
     batch.push_hold(owner, version)
@@ -119,7 +119,7 @@ fn append_anew<S: NodeTag, R: Wait + Abort>(
 {
     history.add(EventRef::TookOwn(&entry));
     let mut batch = Batch::new(alloc);
-    match push_anew(&mut batch, *holdings.me(), entry) {
+    match push_anew(&mut batch, *holdings.me(), shared(rt, alloc, entry)) {
         Ok(()) => {}
         Err(fault) => panic!(rt; "error: {fault:?}"),
     }

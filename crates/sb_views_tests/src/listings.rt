@@ -2,7 +2,7 @@
 use crate::making::{Ended, RowParts, failed_behind, has_lines, rows_of, settled};
 use crate::{got, same};
 use sb_codec::{Row, Rows};
-use sb_listing::{changes, print_changes, print_json_rows};
+use sb_listing::{add_json_array, changes, print_changes, print_json_rows};
 use sb_testing::streams::FailingWriter;
 use std::alloc::Global;
 use std::process::Abort;
@@ -177,6 +177,23 @@ fn a_page_is_printed_as_json(rt: HostRuntime) {
     let alloc = rt.alloc();
     json_is(&rt, alloc, &page_of_kinds(&rt, alloc), AS_JSON);
     no_rows_are_empty(&rt, alloc);
+}
+
+/// Tests that the array of these rows is this, after a byte that was there.
+fn array_is(rt: &impl Abort, alloc: Global, rows: &[RowParts], wanted: &[u8]) {
+    let mut line = got(rt, Vec::from_slice(alloc, b"x"));
+    let rows = rows_of(rt, alloc, rows);
+    got(rt, add_json_array(alloc, &mut line, &rows));
+    same(rt, &line.as_slice(), &wanted);
+}
+
+#[test]
+fn an_array_has_a_comma_between_two_rows(rt: HostRuntime) {
+    let alloc = rt.alloc();
+    array_is(&rt, alloc, &[], b"x[]");
+    let both =
+        b"x[{\"key\":\"v\",\"kind\":\"addr\",\"owner\":\"a\",\"value\":\"h:80\",\"version\":1},{\"key\":\"w\",\"kind\":\"weight\",\"owner\":\"a\",\"value\":5,\"version\":2}]";
+    array_is(&rt, alloc, &[A_V, A_W], both);
 }
 
 /// How printing a change ends at a writer that closes after so many bytes.

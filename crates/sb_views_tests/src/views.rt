@@ -7,6 +7,7 @@ use crate::making::{apply, entry, holdings_of_a, key, name, owner_of, prefix, we
 use crate::reading::{Look, entered, read};
 use crate::{got, holds, same, there};
 use sb_holdings::{BlockEnd, Holdings, Report};
+use sb_table::SharedEntry;
 use sb_types::{Block, Delta, Entry, Key, Name, Value, ValueRef};
 use sb_views::{
     Batch, EventRef, History, LiveRow, LiveRows, NewHistory, NodeTag, OwnerView, Reader, Snapshot,
@@ -300,12 +301,22 @@ fn append_own<S: NodeTag, R: Wait + Abort>(
 {
     history.add(EventRef::TookOwn(&entry));
     let mut batch = Batch::new(alloc);
-    match batch.push(*holdings.me(), entry) {
+    match batch.push(*holdings.me(), shared(rt, alloc, entry)) {
         Ok(()) => {}
         Err(fault) => panic!(rt; "error: {fault:?}"),
     }
     if writer.append(batch, history.prefix()).is_err() {
         panic!(rt; "error: NoMemory");
+    }
+}
+
+/// The entry, to be shared.
+pub(crate) fn shared<R: Wait + Abort>(rt: &R, alloc: Global, entry: Entry) -> SharedEntry
+    ensures { result ≡ entry }
+{
+    match SharedEntry::new(alloc, entry) {
+        Ok(shared) => shared,
+        Err(fault) => panic!(rt; "error: {fault:?}"),
     }
 }
 

@@ -1,16 +1,26 @@
-use Rattle.std.proofs.Common.{◌≡◌, Result, Ok, ap, ◌∙◌}
-use Rattle.std.specs.FinMap.{insert}
-use Rattle.sb_types.specs.declared.fault.Fault.{Fault}
-use Rattle.sb_types.specs.Value.{Value}
-use Rattle.sb_views.specs.NodeViews.{rows_of}
-use Rattle.sb_views.proofs.ByText.{with_inserted}
+use Rattle.std.proofs.Common.{ap, ◌∙◌}
+use Rattle.sb_types.specs.Records.{Entry}
+use Rattle.sb_views.proofs.LiveEntries.{lent_replaced, lent_added, with_memory, live_after}
 use Rattle.sb_views.proofs.owner_view.set_row.Goals as goal
 
-copied : (value copy : Value) → ◌≡◌ {A = Result Value Fault} (Ok value) (Ok copy) → copy ≡ value
-copied value copy e = cc
+pub returns-in-Ok-clause-ok : goal.returns-in-Ok-clause-ok
+returns-in-Ok-clause-ok c =
+    (lent_replaced c.args.rows.now.items c.deref.result.now c.key.result.now c.in-Ok.place c.deref.ensures.value c.args.entry (c.key.ensures.key ∙ ap (λ (e : Entry). e.key) c.entry.ensures.entry)
+    c.requires.live c.requires.set c.in-Ok.ensures.bound c.in-Ok.ensures.place).0
 
-pub returns-in-Ok-insert-clause-ok : goal.returns-in-Ok-insert-clause-ok
-returns-in-Ok-insert-clause-ok c =
-    with_inserted c.args.rows.now.entries c.insert.new.self.entries c.args.key c.new.result c.requires.ordered c.insert.ensures.ordered c.in-Ok-insert.ensures.updates.0
-    ∙ ap (insert (rows_of c.args.rows.now.entries) c.args.key)
-    (c.new.ensures ∙ ap (λ (v : Value). (v, c.args.version)) (copied c.args.value.now c.in-Ok.copy c.in-Ok.ensures.copied))
+pub returns-in-Ok-clause-live : goal.returns-in-Ok-clause-live
+returns-in-Ok-clause-live c =
+    (lent_replaced c.args.rows.now.items c.deref.result.now c.key.result.now c.in-Ok.place c.deref.ensures.value c.args.entry (c.key.ensures.key ∙ ap (λ (e : Entry). e.key) c.entry.ensures.entry)
+    c.requires.live c.requires.set c.in-Ok.ensures.bound c.in-Ok.ensures.place).1
+
+pub returns-in-Err-clause-ok : goal.returns-in-Err-clause-ok
+returns-in-Err-clause-ok c =
+    let after = lent_added c.args.rows.now.items c.deref.result.now c.key.result.now c.in-Err.place c.deref.ensures.value c.args.entry (c.key.ensures.key ∙ ap (λ (e : Entry). e.key) c.entry.ensures.entry)
+    c.requires.live c.requires.set c.in-Err.ensures.bound c.in-Err.ensures.place in
+    with_memory c.insert_row.result c.insert_row.new.rows.items _ _ c.insert_row.ensures.ok after.0
+
+pub returns-in-Err-clause-live : goal.returns-in-Err-clause-live
+returns-in-Err-clause-live c =
+    let after = lent_added c.args.rows.now.items c.deref.result.now c.key.result.now c.in-Err.place c.deref.ensures.value c.args.entry (c.key.ensures.key ∙ ap (λ (e : Entry). e.key) c.entry.ensures.entry)
+    c.requires.live c.requires.set c.in-Err.ensures.bound c.in-Err.ensures.place in
+    live_after c.insert_row.result c.args.rows.now.items c.insert_row.new.rows.items _ c.insert_row.ensures.ok c.insert_row.ensures.err c.requires.live after.1

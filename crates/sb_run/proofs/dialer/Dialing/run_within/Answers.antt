@@ -9,6 +9,7 @@ returns g c =
     record {
       thread_seats = search rules;
       news = search rules;
+      http = search rules;
       fault = end_fault _ at_control.result.has_left c.receive-rounds.result c.threads_end.result at_control.ensures.exits c.receive-rounds.ensures c.threads_end.ensures.left c.threads_end.ensures.fault;
       failed = λ failed exit. subst (λ result. IsErr result) (sym (c.threads_end.ensures.left (at_control.ensures.failed failed exit))) refl;
     }

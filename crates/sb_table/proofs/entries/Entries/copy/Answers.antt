@@ -4,17 +4,17 @@ use Rattle.sb_table.proofs.entries.Entries.copy.Goals as goal
 
 pub loop-entry-init : goal.loop-entry-init
 loop-entry-init c =
-    copying-begins c.args.self.now c.new-copy.result c.into_iter-entry-iterator.result c.after-entry-items.ensures.table c.new-copy.ensures.nothing
-    (c.into_iter-entry-iterator.ensures.into_iter_gives ∙ c.after-entry-items.ensures.entries)
+    copying-begins c.args.self.now c.new-copy.result c.into_iter-entry-iterator.result c.shared_after-entry-items.ensures.table c.new-copy.ensures.nothing
+    (c.into_iter-entry-iterator.ensures.into_iter_gives ∙ c.shared_after-entry-items.ensures.entries)
 
-pub push-requires : goal.push-requires
-push-requires c = search (rules, later c.args.self.now c.loop-entry.copy)
+pub push_shared-requires : goal.push_shared-requires
+push_shared-requires c = search (rules, later c.args.self.now c.loop-entry.copy)
 
 pub loop-entry-preserved : goal.loop-entry-preserved
 loop-entry-preserved c = search (rules, copying-goes_on c.args.self.now c.loop-entry.copy)
 
-pub returns-in_err-push-clause-copy : goal.returns-in_err-push-clause-copy
-returns-in_err-push-clause-copy c = search (rules, has_room c.args.self.now c.loop-entry.copy)
+pub returns-in_err-push_shared-clause-copy : goal.returns-in_err-push_shared-clause-copy
+returns-in_err-push_shared-clause-copy c = search (rules, has_room c.args.self.now c.loop-entry.copy)
 
 pub returns-clause-copy : goal.returns-clause-copy
 returns-clause-copy c = search (rules, copying-ends c.args.self.now c.loop-entry.copy)

@@ -1,26 +1,18 @@
-use Rattle.std.proofs.Common.{◌<◌, length, sym, subst}
-use Rattle.sb_types.specs.Records.{Table}
-use Rattle.sb_table.specs.Plain.{IsPlainTable}
-use Rattle.sb_table.proofs.Dropping.{IsDropping, marker, no_marker, marker-version, marker-length, marker-goes_on, dropping-begins, dropping-ends}
+use Rattle.std.proofs.Common.{List, nat_lt, ◌||◌, sym, ap, subst, ◌∙◌}
+use Rattle.sb_types.specs.Records.{Entry}
+use Rattle.sb_types.specs.Runs.{live_entries, is_set}
+use Rattle.sb_table.specs.Order.{by_key}
+use Rattle.sb_table.specs.Plain.{IsPlainTable, plain_table}
+use Rattle.sb_table.proofs.Keys.{plain-kept, filter-sorted}
 use Rattle.sb_table.proofs.entries.Entries.drop_markers.Goals as goal
 
-pub loop-key-init : goal.loop-key-init
-loop-key-init c = dropping-begins c.args.floor c.args.self.now (subst IsPlainTable c.self.view_is c.self.invariant.0)
+pub invariant_of-self : goal.invariant_of-self
+invariant_of-self c =
+    let es = c.self.inside.entries.items in
+    let stays = λ (entry : Entry). is_set entry.slot || nat_lt c.args.floor entry.version in (
+      subst (λ (l : List Entry). IsPlainTable (plain_table l)) (sym c.keep_live.ensures) (plain-kept stays es c.self.invariant.0),
+      c.keep_live-2.ensures ∙ ap (live_entries c.args.floor) c.self.invariant.1 ∙ filter-sorted stays es c.self.invariant.0.run.distinct ∙ ap by_key (sym c.keep_live.ensures),
+    )
 
-pub remove-requires : goal.remove-requires
-remove-requires c =
-    marker-version c.loop-key.invariant _ _ (marker c.args.floor c.loop-key.from c.loop-key.self.entries _ _ c.in-Some.ensures.first)
-
-pub loop-key-smaller : goal.loop-key-smaller
-loop-key-smaller c =
-    let m = marker-length c.loop-key.invariant _ _ (marker c.args.floor c.loop-key.from c.loop-key.self.entries _ _ c.in-Some.ensures.first) in
-    subst (λ (t : Table). length t.entries < length c.loop-key.self.entries) (sym c.remove.ensures.gone) m
-
-pub loop-key-preserved : goal.loop-key-preserved
-loop-key-preserved c =
-    let m = marker-goes_on c.loop-key.invariant _ _ (marker c.args.floor c.loop-key.from c.loop-key.self.entries _ _ c.in-Some.ensures.first) in
-    subst (IsDropping c.args.floor _ c.args.self.now) (sym c.remove.ensures.gone) m
-
-pub returns-clause-dropped : goal.returns-clause-dropped
-returns-clause-dropped c =
-    dropping-ends c.loop-key.invariant (no_marker c.args.floor c.loop-key.from c.loop-key.self.entries c.in_default.ensures.first)
+pub returns-clause-table : goal.returns-clause-table
+returns-clause-table c = (invariant_of-self c).0

@@ -1,0 +1,4 @@
+mod Parting
+mod Reading
+mod Lines
+mod Ends

@@ -1,0 +1,9 @@
+pub mod Parts
+pub mod Hosts
+pub mod Asking
+pub mod RowsQueries
+pub mod Requests
+pub mod Acts
+pub mod Texts
+pub mod Answers
+pub mod Serving

@@ -1,0 +1,44 @@
+//! A node over HTTP: what a request asks for, what the node is asked for it, and the response. It moves no byte and takes
+//! no lock. A `Backend` says what the node answers, and `serve_connection` answers over any reader and writer.
+//!
+//! What a request asks for is a function of it and of the door where it came in (`asked_by`). What the response contains
+//! is a function of that and of what the backend answered. A backend is asked only what reads.
+//!
+//! ```rust
+//! /// The status of the response to a request.
+//! fn status_of<B: Backend>(service: &mut HttpService<B>, request: &Request<Bytes>) -> Result<u16, AllocError> {
+//!     let mut response = Response::new(service.alloc);
+//!     service.call(request, &mut response)?;
+//!     Ok(response.status.as_u16())
+//! }
+//! ```
+//!
+//! # What no contract refuses
+//!
+//! These wrong bodies would still be proved. `docs/GAPS.md` also has those of every crate.
+//!
+//! - A response names a fault by its number, with another text. Tests refuse it.
+//! - `asked_by` returns `NoMemory` for each request, or `HttpService::call` an error. Tests with ample memory refuse it.
+//! - `HttpService::call` answers 503 without a body, as if there were no memory, after the backend was asked. Tests with
+//!   ample memory refuse it.
+//! - `serve_connection` ends with an error before it has read anything. Tests refuse it.
+//! - `serve_connection` never flushes its writer. Nothing refuses it: a socket needs no flush.
+//! - `serve_connection` reads on before it has written `100 Continue`. `tools/check-node` refuses it.
+#![tactic(auto)]
+
+mod asked;
+mod backend;
+mod bodies;
+mod contents;
+mod host;
+mod laws;
+mod parts;
+mod rows_query;
+mod service;
+mod serving;
+
+pub use asked::{Asked, Door, Unasked, asked_by};
+pub use backend::{Backend, HeldOwner};
+pub use laws::{ports_take_local_hosts, requests_only_read};
+pub use service::HttpService;
+pub use serving::serve_connection;

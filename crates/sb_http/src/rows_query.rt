@@ -1,0 +1,261 @@
+//! The parameters of a query for rows.
+ghost use Rattle.std.specs.Prelude.{◌≡◌, []};
+ghost use Rattle.sb_http.specs.RowsQueries as spec;
+ghost use Rattle.sb_http.specs.Asking.{GivesUnless};
+
+use crate::asked::{Asked, Unasked};
+use crate::parts::{parted, plain};
+use sb_codec::Ask;
+use sb_types::{Fault, Key, Name, Prefix};
+use std::alloc::Global;
+
+/// The parameters that were read so far.
+#[derive(Clone, Copy)]
+pub struct RowsQuery {
+    pub owner: Option<Name>,
+    pub prefix: Option<Prefix>,
+    pub key: Option<Key>,
+    pub after: Option<(Name, Key)>,
+}
+
+/// Reads an owner.
+fn owner_in(text: &[u8]) -> Result<Name, Unasked>
+    ensures { result ≡ spec.owner_in text.now }
+{
+    match Name::read(text) {
+        Ok(name) => Ok(name),
+        Err(_) => Err(Unasked::Bad(Fault::BadName)),
+    }
+}
+
+/// Reads a key.
+fn key_in(text: &[u8]) -> Result<Key, Unasked>
+    ensures { result ≡ spec.key_in text.now }
+{
+    match Key::read(text) {
+        Ok(key) => Ok(key),
+        Err(_) => Err(Unasked::Bad(Fault::BadKey)),
+    }
+}
+
+/// Reads a prefix of keys.
+fn prefix_in(text: &[u8]) -> Result<Prefix, Unasked>
+    ensures { result ≡ spec.prefix_in text.now }
+{
+    match Prefix::read(text) {
+        Ok(prefix) => Ok(prefix),
+        Err(_) => Err(Unasked::Bad(Fault::BadKey)),
+    }
+}
+
+/// Reads `OWNER/KEY`. A name has no slash, so the first one parts them.
+pub(crate) fn place_in(text: &[u8]) -> Result<(Name, Key), Unasked>
+    ensures { result ≡ spec.place_in text.now }
+{
+    let Some((owner, key)) = parted(text, b'/') else {
+        return Err(Unasked::Bad(Fault::BadKey));
+    };
+    match owner_in(owner) {
+        Err(why) => Err(why),
+        Ok(owner) => match key_in(key) {
+            Err(why) => Err(why),
+            Ok(key) => Ok((owner, key)),
+        },
+    }
+}
+
+impl RowsQuery {
+    /// No parameter was read.
+    fn new() -> RowsQuery
+        ensures { result ≡ spec.no_parameters }
+    {
+        RowsQuery {
+            owner: None,
+            prefix: None,
+            key: None,
+            after: None,
+        }
+    }
+
+    /// Takes an owner.
+    fn with_owner(self, text: &[u8]) -> Result<RowsQuery, Unasked>
+        ensures { result ≡ spec.with_owner self text.now }
+    {
+        if self.owner.is_some() {
+            return Err(Unasked::BadParameters);
+        }
+        match owner_in(text) {
+            Ok(owner) => Ok(RowsQuery {
+                owner: Some(owner),
+                ..self
+            }),
+            Err(why) => Err(why),
+        }
+    }
+
+    /// Takes a prefix.
+    fn with_prefix(self, text: &[u8]) -> Result<RowsQuery, Unasked>
+        ensures { result ≡ spec.with_prefix self text.now }
+    {
+        if self.prefix.is_some() {
+            return Err(Unasked::BadParameters);
+        }
+        match prefix_in(text) {
+            Ok(prefix) => Ok(RowsQuery {
+                prefix: Some(prefix),
+                ..self
+            }),
+            Err(why) => Err(why),
+        }
+    }
+
+    /// Takes a key.
+    fn with_key(self, text: &[u8]) -> Result<RowsQuery, Unasked>
+        ensures { result ≡ spec.with_key self text.now }
+    {
+        if self.key.is_some() {
+            return Err(Unasked::BadParameters);
+        }
+        match key_in(text) {
+            Ok(key) => Ok(RowsQuery {
+                key: Some(key),
+                ..self
+            }),
+            Err(why) => Err(why),
+        }
+    }
+
+    /// Takes the place after which rows are asked for.
+    fn with_after(self, text: &[u8]) -> Result<RowsQuery, Unasked>
+        ensures { result ≡ spec.with_after self text.now }
+    {
+        if self.after.is_some() {
+            return Err(Unasked::BadParameters);
+        }
+        match place_in(text) {
+            Ok(place) => Ok(RowsQuery {
+                after: Some(place),
+                ..self
+            }),
+            Err(why) => Err(why),
+        }
+    }
+
+    /// Takes the parameter of this name.
+    fn with_parameter(self, name: &[u8], value: &[u8]) -> Result<RowsQuery, Unasked>
+        ensures { result ≡ spec.with_parameter self name.now value.now }
+    {
+        if name == b"owner".as_slice() {
+            self.with_owner(value)
+        } else if name == b"prefix".as_slice() {
+            self.with_prefix(value)
+        } else if name == b"key".as_slice() {
+            self.with_key(value)
+        } else if name == b"after".as_slice() {
+            self.with_after(value)
+        } else {
+            Err(Unasked::BadParameters)
+        }
+    }
+
+    /// Takes a part of the query, `NAME=VALUE` or nothing. `NoMemory`.
+    fn with_part(self, alloc: Global, part: &[u8]) -> Result<RowsQuery, Unasked>
+        ensures { GivesUnless result (spec.with_part self part.now) }
+    {
+        if part.is_empty() {
+            return Ok(self);
+        }
+        let Some((name, value)) = parted(part, b'=') else {
+            return Err(Unasked::BadParameters);
+        };
+        match plain(alloc, value) {
+            Ok(value) => self.with_parameter(name, &value),
+            Err(_) => Err(Unasked::NoMemory),
+        }
+    }
+
+    /// Takes all parts of a query, from the first on. `NoMemory`.
+    #[tactic(auto, using(crate::proofs::Parting::goes_on, crate::proofs::Parting::stops, crate::proofs::Parting::ends))]
+    fn with_query(self, alloc: Global, query: &[u8]) -> Result<RowsQuery, Unasked>
+        ensures { GivesUnless result (spec.with_query self query.now) }
+    {
+        let mut taken = self;
+        let mut rest = query;
+        while let Some((part, others)) = parted(rest, b'&') {
+            match taken.with_part(alloc, part) {
+                Ok(next) => taken = next,
+                Err(why) => return Err(why),
+            }
+            rest = others;
+        }
+        taken.with_part(alloc, rest)
+    }
+
+    /// What these parameters ask for: a row if they have a key, and rows if not.
+    fn asked(self) -> Result<Asked, Unasked>
+        ensures { result ≡ spec.asked_with self }
+    {
+        let Some(key) = self.key else {
+            return rows_asked(self.owner, self.prefix, self.after);
+        };
+        match self.owner {
+            Some(owner) if self.prefix.is_none() && self.after.is_none() => {
+                Ok(Asked::Row(owner, key))
+            }
+            _ => Err(Unasked::BadParameters),
+        }
+    }
+}
+
+/// Rows are asked for. Without a prefix, those of all keys.
+fn rows_asked(
+    owner: Option<Name>,
+    prefix: Option<Prefix>,
+    after: Option<(Name, Key)>,
+) -> Result<Asked, Unasked>
+    ensures { result ≡ spec.rows_asked owner prefix after }
+{
+    let prefix = match prefix {
+        Some(prefix) => prefix,
+        None => every_key(),
+    };
+    Ok(Asked::Rows(Ask {
+        owner,
+        prefix,
+        after,
+    }))
+}
+
+/// The prefix of all keys.
+fn every_key() -> Prefix
+    ensures { result ≡ [] }
+{
+    match Prefix::read(b"") {
+        Ok(prefix) => prefix,
+        Err(_) => unreachable!(),
+    }
+}
+
+/// What a query for rows asks for. `NoMemory`.
+pub(crate) fn query_asked(alloc: Global, query: &[u8]) -> Result<Asked, Unasked>
+    ensures { GivesUnless result (spec.query_asked query.now) }
+{
+    match RowsQuery::new().with_query(alloc, query) {
+        Ok(taken) => taken.asked(),
+        Err(why) => Err(why),
+    }
+}
+
+/// What the path of a row asks for, by the part `OWNER/KEY` of it. `NoMemory`.
+pub(crate) fn row_asked(alloc: Global, place: &[u8]) -> Result<Asked, Unasked>
+    ensures { GivesUnless result (spec.row_asked place.now) }
+{
+    let place = match plain(alloc, place) {
+        Ok(place) => place,
+        Err(_) => return Err(Unasked::NoMemory),
+    };
+    match place_in(&place) {
+        Ok((owner, key)) => Ok(Asked::Row(owner, key)),
+        Err(why) => Err(why),
+    }
+}

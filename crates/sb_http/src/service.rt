@@ -1,0 +1,175 @@
+//! The service of a node.
+ghost use Rattle.std.specs.Prelude.{◌≡◌, ◌++◌, ◌∷◌, [], OnOk};
+ghost use Rattle.http_server.specs.Response.{IsBlank, IsResponse, fields_of};
+ghost use Rattle.sb_http.specs.Answers.{AnswersAsked, AnswersRequest, Refuses, Has, FillsOrShortens, is_error, fields_for, json_kind, kind_of};
+
+use crate::asked::{Asked, Door, Unasked, asked_by};
+use crate::backend::Backend;
+use crate::bodies::{error_line, fault_line};
+use crate::contents::{Content, answer};
+use bytes::Bytes;
+use http::{HeaderValue, Request, StatusCode, header};
+use http_server::{Response, Service};
+use sb_types::Fault;
+use std::alloc::{AllocError, Global};
+
+/// Answers the requests that came in at a door, each by one call of the backend.
+#[derive(Drop)]
+pub struct HttpService<B: Backend> {
+    pub alloc: Global,
+    pub door: Door,
+    pub backend: B,
+}
+
+/// The type of JSON.
+fn json_type() -> HeaderValue
+    ensures { result.bytes ≡ json_kind }
+{
+    HeaderValue::from_static("application/json")
+}
+
+/// The type of what is answered.
+fn type_of(asked: &Asked) -> HeaderValue
+    ensures { result.bytes ≡ kind_of asked.now }
+{
+    match asked {
+        Asked::Metrics => HeaderValue::from_static("text/plain; version=0.0.4"),
+        _ => json_type(),
+    }
+}
+
+/// Adds the fields that each response has. One request a connection: nobody holds a worker between two requests.
+fn add_fields(response: &mut Response, kind: HeaderValue) -> Result<(), AllocError>
+    requires { IsBlank response.old }
+    ensures { OnOk result (IsResponse 200 (fields_for kind.bytes) [] response.new) }
+{
+    response.add_header(header::CONNECTION, HeaderValue::from_static("close"))?;
+    response.add_header(header::CACHE_CONTROL, HeaderValue::from_static("no-store"))?;
+    let no_guess = HeaderValue::from_static("nosniff");
+    response.add_header(header::X_CONTENT_TYPE_OPTIONS, no_guess)?;
+    response.add_header(header::CONTENT_TYPE, kind)
+}
+
+/// Fills a response that has its fields.
+fn fill(response: &mut Response, status: StatusCode, body: Vec<u8>) -> Result<(), AllocError>
+    requires { response.old.body.items ≡ [] }
+    ensures filled { OnOk result (IsResponse status (fields_of response.old) body.items response.new) }
+    ensures fields { fields_of response.new ≡ fields_of response.old }
+{
+    response.status = status;
+    response.body.push(Bytes::from_vec(body)?)
+}
+
+/// Refuses a request with a text.
+fn refuse_with(
+    alloc: Global,
+    response: &mut Response,
+    status: StatusCode,
+    text: &str,
+) -> Result<(), AllocError>
+    requires { IsBlank response.old }
+    ensures { OnOk result (Has (fields_for json_kind) (is_error status text.now) response.new) }
+{
+    add_fields(response, json_type())?;
+    fill(response, status, error_line(alloc, text)?)
+}
+
+/// Refuses a request with a fault.
+fn refuse_by(alloc: Global, response: &mut Response, fault: Fault) -> Result<(), AllocError>
+    requires { IsBlank response.old }
+    ensures { OnOk result (Refuses (Unasked.Bad fault) response.new) }
+{
+    add_fields(response, json_type())?;
+    fill(response, StatusCode::BAD_REQUEST, fault_line(alloc, fault)?)
+}
+
+/// Refuses a method, and names those that the path has.
+fn refuse_method(alloc: Global, response: &mut Response) -> Result<(), AllocError>
+    requires { IsBlank response.old }
+    ensures { OnOk result (Refuses Unasked.NotAllowed response.new) }
+{
+    add_fields(response, json_type())?;
+    response.add_header(header::ALLOW, HeaderValue::from_static("GET, HEAD"))?;
+    let body = error_line(alloc, "this path is only read")?;
+    fill(response, StatusCode::METHOD_NOT_ALLOWED, body)
+}
+
+/// Says why nothing is asked for.
+fn refuse(alloc: Global, response: &mut Response, why: &Unasked) -> Result<(), AllocError>
+    requires { IsBlank response.old }
+    ensures { OnOk result (Refuses why.now response.new) }
+{
+    match why {
+        Unasked::OtherHost => {
+            let text = "the host is not this machine";
+            refuse_with(alloc, response, StatusCode::MISDIRECTED_REQUEST, text)
+        }
+        Unasked::NotFound => {
+            let text = "there is no such path";
+            refuse_with(alloc, response, StatusCode::NOT_FOUND, text)
+        }
+        Unasked::NotAllowed => refuse_method(alloc, response),
+        Unasked::Bad(fault) => refuse_by(alloc, response, *fault),
+        Unasked::BadParameters => {
+            let text = "the parameters are owner, prefix and after, or owner and key, each once";
+            refuse_with(alloc, response, StatusCode::BAD_REQUEST, text)
+        }
+        Unasked::NoMemory => Err(AllocError),
+    }
+}
+
+/// Leaves a response without a body: there was no memory for it.
+fn shorten(response: &mut Response)
+    ensures { IsResponse 503 (fields_of response.old) [] response.new }
+{
+    response.body.clear();
+    response.status = StatusCode::SERVICE_UNAVAILABLE;
+}
+
+/// Fills a response that has its fields with this content. If there is no memory for that, it has no body.
+fn fill_or_shorten(response: &mut Response, content: Result<Content, Fault>)
+    requires { response.old.body.items ≡ [] }
+    ensures { FillsOrShortens response.old content response.new }
+{
+    let Ok(Content { status, body }) = content else {
+        shorten(response);
+        return;
+    };
+    if fill(response, status, body).is_err() {
+        shorten(response);
+    }
+}
+
+impl<B: Backend> HttpService<B> {
+    /// Asks the backend once, and fills a response that has its fields.
+    fn answer_asked(&mut self, asked: &Asked, response: &mut Response)
+        requires { IsResponse 200 (fields_for (kind_of asked.now)) [] response.old }
+        ensures answers { AnswersAsked B.step asked.now self.old.backend response.new self.new.backend }
+        ensures door { self.new.door ≡ self.old.door }
+    {
+        let content = answer(self.alloc, &mut self.backend, asked);
+        fill_or_shorten(response, content);
+    }
+}
+
+impl<B: Backend> Service for HttpService<B> {
+    ghost use Rattle.std.specs.Prelude.{◌≡◌};
+    ghost use Rattle.sb_http.specs.Answers.{AnswersRequest};
+
+    ghost answers = { λ old request response new. AnswersRequest B.step old.door old.backend request response new.backend × (new.door ≡ old.door) };
+
+    fn call(
+        &mut self,
+        request: &Request<Bytes>,
+        response: &mut Response,
+    ) -> Result<(), AllocError> {
+        match asked_by(self.alloc, self.door, request) {
+            Ok(asked) => {
+                add_fields(response, type_of(&asked))?;
+                self.answer_asked(&asked, response);
+                Ok(())
+            }
+            Err(why) => refuse(self.alloc, response, &why),
+        }
+    }
+}

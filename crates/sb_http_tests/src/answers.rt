@@ -1,0 +1,123 @@
+//! The answers to requests, byte by byte.
+
+use crate::fixed::{answer, answer_at};
+use crate::same;
+use sb_http::Door;
+use std::alloc::Global;
+use std::process::Abort;
+use std::random::RandomSource;
+
+/// The three digits of the status of an answer.
+fn status(text: &[u8]) -> &str {
+    match text.get(9..12) {
+        Some(digits) => str::from_utf8(digits).unwrap_or(""),
+        None => "",
+    }
+}
+
+/// The body of an answer.
+fn body(text: &[u8]) -> &str {
+    let all = str::from_utf8(text).unwrap_or("");
+    match all.split_once("\r\n\r\n") {
+        Some((_, body)) => body,
+        None => "",
+    }
+}
+
+/// Compares the status and the body of the answer to a target.
+fn case<R: Abort + RandomSource>(rt: &R, alloc: Global, target: &str, wanted: &str, content: &str) {
+    let found = answer(rt, alloc, target);
+    same(rt, &status(&found), &wanted);
+    same(rt, &body(&found), &content);
+}
+
+#[test]
+fn an_answer_has_its_fields_in_order(rt: HostRuntime) {
+    let found = answer(&rt, rt.alloc(), "/v1/owners");
+    let wanted =
+        "HTTP/1.1 200 OK\r\nconnection: close\r\ncache-control: no-store\r\nx-content-type-options: nosniff\r\ncontent-type: application/json\r\ncontent-length: 48\r\n\r\n{\"owners\":[{\"owner\":\"a\",\"rows\":2,\"version\":6}]}\n";
+    same(&rt, &str::from_utf8(&found).unwrap_or(""), &wanted);
+}
+
+#[test]
+fn rows_are_answered(rt: HostRuntime) {
+    let page =
+        "{\"more\":true,\"rows\":[{\"key\":\"k\",\"kind\":\"weight\",\"owner\":\"a\",\"value\":5,\"version\":5},{\"key\":\"kl\",\"kind\":\"weight\",\"owner\":\"a\",\"value\":6,\"version\":6}]}\n";
+    case(&rt, rt.alloc(), "/v1/rows", "200", page);
+    case(
+        &rt,
+        rt.alloc(),
+        "/v1/rows?prefix=k&owner=a&after=a%2Fa",
+        "200",
+        page,
+    );
+    let row = "{\"key\":\"k\",\"kind\":\"weight\",\"owner\":\"a\",\"value\":5,\"version\":5}\n";
+    case(&rt, rt.alloc(), "/v1/rows/a/k", "200", row);
+    case(&rt, rt.alloc(), "/v1/rows?key=k&owner=a", "200", row);
+    case(
+        &rt,
+        rt.alloc(),
+        "/v1/rows/b/k",
+        "404",
+        "{\"error\":\"there is no such row\"}\n",
+    );
+}
+
+#[test]
+fn faults_of_a_node_are_named(rt: HostRuntime) {
+    let closed = "{\"error\":\"this is closed; open it again\",\"fault\":15}\n";
+    case(&rt, rt.alloc(), "/v1/rows?owner=shut", "503", closed);
+    let unknown =
+        "{\"error\":\"a message of kind 0 is not known, or has no place here\",\"fault\":13}\n";
+    case(&rt, rt.alloc(), "/healthz", "503", unknown);
+    case(&rt, rt.alloc(), "/metrics", "200", "x 1\n");
+}
+
+#[test]
+fn what_asks_for_nothing_is_refused(rt: HostRuntime) {
+    case(
+        &rt,
+        rt.alloc(),
+        "/",
+        "404",
+        "{\"error\":\"there is no such path\"}\n",
+    );
+    let parameters =
+        "{\"error\":\"the parameters are owner, prefix and after, or owner and key, each once\"}\n";
+    case(&rt, rt.alloc(), "/v1/rows?x=1", "400", parameters);
+    case(&rt, rt.alloc(), "/v1/rows?key=k", "400", parameters);
+    case(
+        &rt,
+        rt.alloc(),
+        "/v1/rows?owner=a&owner=a",
+        "400",
+        parameters,
+    );
+    let name = "{\"error\":\"a name is 1 to 32 of the bytes a-z, 0-9 and -\",\"fault\":2}\n";
+    case(&rt, rt.alloc(), "/v1/rows/A/k", "400", name);
+}
+
+#[test]
+fn a_port_takes_local_hosts(rt: HostRuntime) {
+    let ours = answer_at(
+        &rt,
+        rt.alloc(),
+        Door::Port,
+        b"GET /metrics HTTP/1.1\r\nHost: localhost:80\r\n\r\n",
+    );
+    same(&rt, &status(&ours), &"200");
+    let other = answer_at(
+        &rt,
+        rt.alloc(),
+        Door::Port,
+        b"GET /metrics HTTP/1.1\r\nHost: localhost.b\r\n\r\n",
+    );
+    same(&rt, &status(&other), &"421");
+    let method = answer_at(
+        &rt,
+        rt.alloc(),
+        Door::Port,
+        b"PUT /metrics HTTP/1.1\r\nHost: [::1]\r\n\r\n",
+    );
+    same(&rt, &status(&method), &"405");
+}

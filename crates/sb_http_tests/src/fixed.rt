@@ -1,0 +1,119 @@
+//! A backend with two rows, and what comes out of a connection for the bytes that come in.
+
+use sb_codec::{Ask, Message, Refused, Row, Rows};
+use sb_http::{Backend, Door, HeldOwner, HttpService, serve_connection};
+use sb_types::{Fault, Key, Name, Value};
+use std::alloc::Global;
+use std::hash::RandomState;
+use std::io;
+use std::process::Abort;
+use std::random::RandomSource;
+
+/// A backend that answers any question for rows with the same page.
+#[derive(Drop)]
+pub(crate) struct FixedBackend {
+    pub(crate) alloc: Global,
+}
+
+/// The row of a weight of the owner a.
+fn row_of(key: &[u8], weight: u64) -> Result<Row, Fault> {
+    let value = Value::weight(weight)?;
+    Row::new(Name::read(b"a")?, Key::read(key)?, weight, value)
+}
+
+/// A page of two rows, after which more follow.
+fn page(alloc: Global) -> Result<Rows, Fault> {
+    let mut rows = Vec::new(alloc);
+    rows.push(row_of(b"k", 5)?)?;
+    rows.push(row_of(b"kl", 6)?)?;
+    Rows::new(true, rows)
+}
+
+/// The message that refuses a request by this fault.
+fn refused(fault: &Fault) -> Message {
+    match Refused::new(fault.number()) {
+        Ok(refused) => Message::Refused(refused),
+        Err(_) => unreachable!(),
+    }
+}
+
+/// The answer to a question for rows: the page, or `Closed` to one for the owner shut.
+fn answer_to(alloc: Global, ask: &Ask) -> Message {
+    if let Some(owner) = ask.owner {
+        if owner.bytes() == b"shut".as_slice() {
+            return refused(&Fault::Closed);
+        }
+    }
+    match page(alloc) {
+        Ok(page) => Message::Rows(page),
+        Err(fault) => refused(&fault),
+    }
+}
+
+impl Backend for FixedBackend {
+    ghost step = { λ _ _ _. Unit {0} };
+
+    fn ask(&mut self, request: &Message) -> Message {
+        match request {
+            Message::Ask(ask) => answer_to(self.alloc, ask),
+            _ => refused(&Fault::UnknownKind(0)),
+        }
+    }
+
+    fn owners(&mut self) -> Result<Vec<HeldOwner>, Fault> {
+        let owner = Name::read(b"a")?;
+        let version = 6;
+        let mut owners = Vec::new(self.alloc);
+        owners.push(HeldOwner {
+            owner,
+            version,
+            rows: 2,
+        })?;
+        Ok(owners)
+    }
+
+    fn metrics(&mut self) -> Result<Vec<u8>, Fault> {
+        Ok(Vec::from_slice(self.alloc, b"x 1\n")?)
+    }
+}
+
+/// What is written to these bytes.
+fn served(alloc: Global, keys: RandomState, door: Door, bytes: &[u8]) -> io::Result<Vec<u8>> {
+    let backend = FixedBackend { alloc };
+    let mut service = HttpService {
+        alloc,
+        door,
+        backend,
+    };
+    let mut input = bytes;
+    let mut output = Vec::new(alloc);
+    serve_connection(
+        alloc,
+        keys,
+        Default::default(),
+        &mut service,
+        &mut input,
+        &mut output,
+    )?;
+    Ok(output)
+}
+
+/// What is written to these bytes, as text.
+pub(crate) fn answer_at<R: Abort + RandomSource>(
+    rt: &R,
+    alloc: Global,
+    door: Door,
+    bytes: &[u8],
+) -> Vec<u8> {
+    let keys = crate::got(rt, RandomState::new(rt));
+    crate::got(rt, served(alloc, keys, door, bytes))
+}
+
+/// The answer to a request for this target at a socket.
+pub(crate) fn answer<R: Abort + RandomSource>(rt: &R, alloc: Global, target: &str) -> Vec<u8> {
+    let request = crate::got(
+        rt,
+        format!(in alloc; "GET {target} HTTP/1.1\r\nHost: x\r\n\r\n"),
+    );
+    answer_at(rt, alloc, Door::Socket, request.as_bytes())
+}

@@ -1,0 +1,7 @@
+use Rattle.std.proofs.Common.{◌≡◌, ◌++◌, map}
+use Rattle.std.specs.FinMap.{entries}
+use Rattle.sb_run.specs.HttpReads.{held_owner}
+use Rattle.sb_run.proofs.http_threads.owners_in.Given as goal
+
+abbrev pub invariant-loop-owner : goal.invariant-loop-owner
+invariant-loop-owner l = l.owners.items ++ map held_owner l.owner-iterator ≡ map held_owner (entries l.snapshot)

@@ -1,0 +1,49 @@
+-- What a seat answers over HTTP.
+use Rattle.std.specs.Prelude.{◌≡◌, ℕ, List, length, map}
+use Rattle.std.specs.FinMap.{entries}
+use Rattle.sb_types.specs.Records.{Settings}
+use Rattle.sb_holdings.specs.Nodes.{Node}
+use Rattle.sb_codec.specs.declared.message.Message.{Message}
+use Rattle.sb_codec.specs.declared.message.Message.TheVariants as kinds
+use Rattle.sb_views.specs.declared.event.Event.{Event}
+use Rattle.sb_views.specs.NodeViews.{NodeView, OwnerView}
+use Rattle.sb_views.specs.Histories.{node_after}
+use Rattle.sb_views.specs.Publishing.{IsView}
+use Rattle.sb_directory.specs.Seats.{Seat}
+use Rattle.sb_directory.specs.Serving.{IsLater}
+use Rattle.sb_http.specs.declared.backend.HeldOwner.{HeldOwner}
+use Rattle.sb_http.specs.Acts.{Act, asks, lists, measures, fails}
+use Rattle.sb_run.specs.Control.{IsPageReply, IsUnknown}
+use Rattle.sb_run.specs.StatusReplies.{IsStatusReply}
+
+-- an owner of a view: its name, the version up to which it is shown, and the number of its rows
+abbrev pub held_owner : List ℕ × OwnerView → HeldOwner
+held_owner p = record { owner = p.0; version = p.1.upto; rows = length (entries p.1.rows) }
+
+abbrev pub IsListed : NodeView → List HeldOwner → Type 0
+IsListed view owners = owners ≡ map held_owner (entries view)
+
+-- a question for rows is answered by a page, and one how the node is by its status; any other message is none
+abbrev pub AnswersQuestion : Node → Settings → Seat → Message → Seat → Message → Type 0
+AnswersQuestion opening settings before (kinds.Ask ask) after reply = IsPageReply opening settings.budget before ask after reply
+AnswersQuestion opening settings before (kinds.AskStatus asked) after reply = IsStatusReply opening settings before asked after reply
+AnswersQuestion opening settings before (kinds.Hello x) after reply = (after ≡ before) × IsUnknown reply
+AnswersQuestion opening settings before (kinds.Digest x) after reply = (after ≡ before) × IsUnknown reply
+AnswersQuestion opening settings before (kinds.Delta x) after reply = (after ≡ before) × IsUnknown reply
+AnswersQuestion opening settings before (kinds.Bye x) after reply = (after ≡ before) × IsUnknown reply
+AnswersQuestion opening settings before (kinds.Put x) after reply = (after ≡ before) × IsUnknown reply
+AnswersQuestion opening settings before (kinds.Rows x) after reply = (after ≡ before) × IsUnknown reply
+AnswersQuestion opening settings before (kinds.Done x) after reply = (after ≡ before) × IsUnknown reply
+AnswersQuestion opening settings before (kinds.Refused x) after reply = (after ≡ before) × IsUnknown reply
+AnswersQuestion opening settings before (kinds.NodeStatus x) after reply = (after ≡ before) × IsUnknown reply
+
+-- the owners of the view after these events
+abbrev pub AreOwnersAfter : Node → List Event → List HeldOwner → Type 0
+AreOwnersAfter opening seen owners = (view : NodeView) × IsView (node_after opening seen) view × IsListed view owners
+
+-- what a call over HTTP reads, and what the seat has seen then
+abbrev pub Reads : Node → Settings → Seat → Act → Seat → Type 0
+Reads opening settings before (asks request reply) after = AnswersQuestion opening settings before request after reply
+Reads opening settings before (lists owners) after = IsLater before after × AreOwnersAfter opening after.seen owners
+Reads opening settings before (measures text) after = after ≡ before
+Reads opening settings before (fails fault) after = IsLater before after

@@ -1,0 +1,54 @@
+//! Entries that several owners share.
+
+ghost use Rattle.std.specs.Prelude.{◌≡◌, true, Ok};
+ghost use Rattle.sb_types.specs.Faults.{Gives};
+ghost use Rattle.sb_types.specs.Limits.{is_entry};
+
+use sb_types::{Entry, Fault};
+use std::alloc::Global;
+use std::marker::Model;
+use std::sync::Arc;
+
+/// An entry that lies on the heap once, however many tables and views have it. It takes eight bytes in each of them.
+#[derive(Debug, Drop)]
+pub struct SharedEntry {
+    entry: Arc<Entry>,
+}
+
+impl Model for SharedEntry {
+    ghost use Rattle.std.specs.Arc.{arc_value};
+    ghost use Rattle.sb_types.specs.Records as records;
+
+    ghost Value = { records.Entry };
+
+    ghost view = { λ shared. arc_value shared.entry };
+}
+
+impl SharedEntry {
+    /// Puts an entry on the heap. The only fault is `NoMemory`, which drops the entry.
+    pub fn new(alloc: Global, entry: Entry) -> Result<SharedEntry, Fault>
+        ensures entry { Gives result (Ok entry) }
+    {
+        match Arc::new(alloc, entry) {
+            Ok(entry) => Ok(SharedEntry { entry }),
+            Err(_) => Err(Fault::NoMemory),
+        }
+    }
+
+    /// Returns the same entry once more, without a copy. The only fault is `NoMemory`, if it is shared 2^63 times.
+    pub fn share(&self) -> Result<SharedEntry, Fault>
+        ensures same { Gives result (Ok self.now) }
+    {
+        match Arc::try_clone(&self.entry) {
+            Ok(entry) => Ok(SharedEntry { entry }),
+            Err(_) => Err(Fault::NoMemory),
+        }
+    }
+
+    /// Returns the entry.
+    pub fn entry(&self) -> &Entry
+        ensures entry { result.now ≡ self.now }
+    {
+        &self.entry
+    }
+}

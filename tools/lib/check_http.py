@@ -1,0 +1,374 @@
+"""The parts of tools/check-node that ask nodes over HTTP: by curl at a Unix socket and at a port, and by bytes that are made by hand."""
+import json
+import os
+import re
+import shutil
+import socket
+import subprocess
+import threading
+import time
+
+import check_metrics
+from nodes import ROOT, SECONDS, Difference, connect, run, want
+
+# the fields that each answer has, in their order, before the length of its body
+FIELDS = [("connection", "close"), ("cache-control", "no-store"), ("x-content-type-options", "nosniff"), ("content-type", "application/json")]
+
+
+def free_port():
+    with socket.socket() as it:
+        it.bind(("127.0.0.1", 0))
+        return it.getsockname()[1]
+
+
+class Asked:
+    """A place at which a node answers over HTTP: the path of a socket, or a port."""
+
+    def __init__(self, place):
+        self.place = place
+
+    def curl(self, path, *words):
+        """The status, the fields and the body of an answer."""
+        if isinstance(self.place, int):
+            address = [f"http://127.0.0.1:{self.place}{path}"]
+        else:
+            address = ["--unix-socket", str(self.place), f"http://localhost{path}"]
+        ran = subprocess.run(["curl", "-s", "-S", "-i", "--path-as-is", "--max-time", str(SECONDS), *words, *address], capture_output=True, timeout=2 * SECONDS)
+        if ran.returncode != 0:
+            raise Difference(f"curl {path}: {ran.stderr.decode()}")
+        return parsed(ran.stdout)
+
+    def connect(self):
+        if isinstance(self.place, int):
+            return socket.create_connection(("127.0.0.1", self.place), timeout=SECONDS)
+        return connect(self.place)
+
+    def bytes(self, content):
+        """What comes to these bytes, up to the end of the connection."""
+        with self.connect() as stream:
+            stream.sendall(content)
+            got = b""
+            while piece := stream.recv(65536):
+                got += piece
+        return parsed(got)
+
+    def json(self, path, *words):
+        """The status and the object of an answer."""
+        status, fields, body = self.curl(path, *words)
+        want(f"the fields of {path}", fields[:4], FIELDS)
+        want(f"the end of {path}", body[-1:], b"\n")
+        return status, json.loads(body)
+
+    def rows(self, query=""):
+        """All rows, page after page."""
+        rows, after = [], ""
+        while True:
+            status, found = self.json(f"/v1/rows?{query}{after}")
+            want(f"the status of {query}{after}", (status, list(found)), (200, ["more", "rows"]))
+            rows += found["rows"]
+            if not found["more"]:
+                return rows
+            after = f"&after={found['rows'][-1]['owner']}/{found['rows'][-1]['key']}"
+
+
+def parsed(answer):
+    head, _, body = answer.partition(b"\r\n\r\n")
+    first, *fields = head.decode().split("\r\n")
+    return int(first.split()[1]), [tuple(it.lower().split(": ", 1)) for it in fields], body
+
+
+def lacks_curl(check):
+    if shutil.which("curl") is None:
+        check.lacking.add("curl is here, so no node was asked over HTTP")
+        return True
+    return False
+
+
+def node_at(check, name, place, *options, folder=None, peers=()):
+    address = f"127.0.0.1:{place}" if isinstance(place, int) else str(place)
+    node = check.node(name, "--http", address, *options, folder=folder, peers=peers).start()
+    return node, Asked(place)
+
+
+def refused(place, path, status, error, fault=None, *words):
+    """An answer that says what is wrong."""
+    wanted = {"error": error} | ({} if fault is None else {"fault": fault})
+    want(f"the answer to {path} {words}", place.json(path, *words), (status, wanted))
+
+
+# ---- the parts
+
+
+def http_rows(check):
+    """At a socket and at a port a node answers with the rows that `get --format json` prints, page by page, and one row alone."""
+    if lacks_curl(check):
+        return
+    folder = check.folder()
+    node, place = node_at(check, "a", folder / "a.http", folder=folder)
+    port = free_port()
+    other, at_port = node_at(check, "b", port, "--pause", "100", folder=folder, peers=[node.sock])
+    for words in (("web/motto", "text", 'Grüße <b>"x"</b>\\0a'), ("web/at", "addr", "10.0.0.1:80"), ("web/up", "flag", "true"), ("n", "weight", "9223372036854775807")):
+        want(f"set {words}", node.command("set", *words)[0], 0)
+    for count in range(200):
+        node.put(f"many/{count:03}", count)
+    other.awaits("all rows", lambda rows: len(rows) == 204)
+    for where, asked in ((node, place), (other, at_port)):
+        want(f"all rows at {where.name}", asked.rows(), [json.loads(it) for it in where.get("--format", "json")])
+    want("rows of nobody", at_port.json("/v1/rows?owner=zz"), (200, {"more": False, "rows": []}))
+    web = at_port.rows("owner=a&prefix=web/")
+    want("rows under a prefix", [it["key"] for it in web], ["web/at", "web/motto", "web/up"])
+    want("the same prefix with an escape", at_port.rows("prefix=web%2f&owner=a"), web)
+    want("rows after a place", [it["key"] for it in at_port.rows("owner=a&prefix=web/&after=a/web/at")], ["web/motto", "web/up"])
+    want("one row", at_port.json("/v1/rows/a/web/motto"), (200, web[1]))
+    want("one row with escapes", at_port.json("/v1/rows/a%2Fweb%2fmotto"), (200, web[1]))
+    want("one row by its parameters", at_port.json("/v1/rows?key=web/motto&owner=a"), (200, web[1]))
+    refused(at_port, "/v1/rows/a/web", 404, "there is no such row")
+    refused(at_port, "/v1/rows/c/web/motto", 404, "there is no such row")
+    status, fields, body = at_port.curl("/v1/rows", "-I")
+    want("a HEAD", (status, body), (200, b""))
+
+
+def http_owners(check):
+    """The owners that a node shows, with the version and the number of rows of each, in the order of their names."""
+    if lacks_curl(check):
+        return
+    folder = check.folder()
+    node, place = node_at(check, "a", folder / "a.http", folder=folder)
+    want("no owner yet", place.curl("/v1/owners")[2], b'{"owners":[]}\n')
+    other = check.node("b", "--pause", "100", folder=folder, peers=[node.sock]).start()
+    node.put("k", 5), node.put("l", 6), other.put("k", 7)
+    want("a removal", node.command("del", "l")[0], 0)
+    node.awaits("the row of b", lambda rows: len(rows) == 2)
+    want("the owners", place.curl("/v1/owners")[2], b'{"owners":[{"owner":"a","rows":1,"version":3},{"owner":"b","rows":1,"version":1}]}\n')
+
+
+def http_health(check):
+    """A node answers 200 once it is ready, and 503 before, and says why."""
+    if lacks_curl(check):
+        return
+    folder = check.folder()
+    with socket.socket(socket.AF_UNIX) as listener:
+        listener.bind(str(folder / "b.sock"))
+        listener.listen()
+        node, place = node_at(check, "a", free_port(), "--pause", "200", "--dial-idle", "60000", folder=folder, peers=[folder / "b.sock", folder / "nobody"])
+        want("beside a silent peer", place.json("/healthz"), (503, {"caught_up": False, "conflict": 0, "log_fault": 0, "ready": False}))
+    want("its exit status", node.command("status", "--wait", "10000")[0], 0)
+    want("once it is ready", place.json("/healthz"), (200, {"caught_up": True, "conflict": 0, "log_fault": 0, "ready": True}))
+    node.log.unlink()
+    node.command("set", "k", "weight", "5")
+    status, found = place.json("/healthz")
+    want("once its log is lost", (status, found["ready"], found["log_fault"] != 0), (503, False, True))
+
+
+def http_metrics(check):
+    """The metrics are those of --metrics, of the same time; without that option too."""
+    if lacks_curl(check):
+        return
+    folder = check.folder()
+    path = folder / "a.prom"
+    node, place = node_at(check, "a", free_port(), "--pause", "100", "--rounds", "0", "--metrics", str(path), folder=folder)
+    node.put("k", 5)
+    check_metrics.awaits(path, "a", {("attrdir_keys",): 1})
+    end = time.monotonic() + SECONDS
+    while (told := place.curl("/metrics"))[2] != path.read_bytes() and time.monotonic() < end:
+        time.sleep(0.05)
+    want("the metrics", told[2].decode(), path.read_text())
+    want("their type", dict(told[1])["content-type"], "text/plain; version=0.0.4")
+    statuses = []
+
+    def ask_often():
+        statuses.extend(place.bytes(b"GET /metrics HTTP/1.1\r\nHost: localhost\r\n\r\n")[0] for _ in range(100))
+
+    callers = [threading.Thread(target=ask_often) for _ in range(4)]
+    for caller in callers:
+        caller.start()
+    for caller in callers:
+        caller.join()
+    want("the statuses of four callers at once", (len(statuses), set(statuses)), (400, {200}))
+    alone, at_alone = node_at(check, "c", free_port(), "--pause", "100", folder=folder)
+    while b"attrdir_rounds_total" not in at_alone.curl("/metrics")[2] and time.monotonic() < end:
+        time.sleep(0.05)
+    want("metrics without a file", b'attrdir_rounds_total{node="c"}' in at_alone.curl("/metrics")[2], True)
+
+
+def http_refusals(check):
+    """What asks for nothing that is there is refused, each by the first reason; a node goes on after it."""
+    if lacks_curl(check):
+        return
+    folder = check.folder()
+    node, place = node_at(check, "a", folder / "a.http", folder=folder)
+    at_port = node_at(check, "b", free_port(), folder=folder)[1]
+    name, key = run(check.program, "get", "--control", str(node.control), "--owner", "A")[2], run(check.program, "get", "--control", str(node.control), "--prefix", "A")[2]
+    name, key = name.splitlines()[1], key.splitlines()[1]
+    parameters = "the parameters are owner, prefix and after, or owner and key, each once"
+    for path in ("/", "/v1", "/v1/row", "/v1/rows.json", "/healthz/", "/v1/keys/k"):
+        refused(place, path, 404, "there is no such path")
+        refused(place, path, 404, "there is no such path", None, "-X", "PUT")
+    for path in ("/v1/rows", "/v1/rows/a/k", "/v1/owners", "/healthz", "/metrics"):
+        for method in ("PUT", "POST", "DELETE", "PATCH", "OPTIONS"):
+            status, fields, body = place.curl(path, "-X", method)
+            want(f"{method} {path}", (status, dict(fields)["allow"], json.loads(body)), (405, "get, head", {"error": "this path is only read"}))
+    for query in ("owner=A", "owner=", "owner=%61%20", "after=A/k", f"owner={33 * 'a'}"):
+        refused(place, f"/v1/rows?{query}", 400, name, 2)
+    for query in ("prefix=A", "prefix=a+b", "after=a", "after=a/", "owner=a&key=", f"owner=a&key={65 * 'k'}"):
+        refused(place, f"/v1/rows?{query}", 400, key, 3)
+    for path, text, fault in (("/v1/rows/A/k", name, 2), ("/v1/rows/a", key, 3), ("/v1/rows/a/", key, 3), ("/v1/rows/a/K", key, 3)):
+        refused(place, path, 400, text, fault)
+    for query in ("x=1", "owner", "wait=1s", "owner=a&owner=a", "prefix=&prefix=", "key=k", "owner=a&key=k&prefix=k", "owner=a&key=k&after=a/k", "Owner=a"):
+        refused(place, f"/v1/rows?{query}", 400, parameters)
+    for query in ("", "&", "owner=a&", "&&prefix="):
+        want(f"rows by {query!r}", place.json(f"/v1/rows?{query}")[0], 200)
+    for host in ("evil.example", "localhost.evil.example", "127.0.0.1.evil.example", "127.0.0.1:x", "[::2]"):
+        refused(at_port, "/healthz", 421, "the host is not this machine", None, "-H", f"Host: {host}") if ":x" not in host else None
+        want(f"{host} at a socket", place.curl("/v1/owners", "-H", f"Host: {host}")[0], 400 if ":x" in host else 200)
+    for host in ("localhost", "localhost:1", "127.0.0.1", "[::1]:80"):
+        want(f"{host} at a port", at_port.curl("/v1/owners", "-H", f"Host: {host}")[0], 200)
+    want("the host of the target counts", at_port.bytes(b"GET http://evil.example/healthz HTTP/1.1\r\nHost: localhost\r\n\r\n")[0], 421)
+
+
+def http_bounds(check):
+    """Heads and bodies have limits; one connection is one request; what is no HTTP is refused and costs its connection alone."""
+    if lacks_curl(check):
+        return
+    folder = check.folder()
+    node, place = node_at(check, "a", folder / "a.http", folder=folder)
+    head = b"GET /v1/owners HTTP/1.1\r\nHost: x\r\n"
+    want("a body of 8 KiB", place.bytes(head + b"Content-Length: 8192\r\n\r\n" + 8192 * b"x")[0], 200)
+    want("a longer body", place.bytes(head + b"Content-Length: 8193\r\n\r\n" + 8193 * b"x")[0], 413)
+    (folder / "large").write_bytes(bytes(2_000_000))
+    want("a large body by curl", place.curl("/v1/owners", "-X", "PUT", "-H", "Expect:", "--data-binary", f"@{folder / 'large'}")[0], 413)
+    want("64 fields", place.bytes(head + 63 * b"x: y\r\n" + b"\r\n")[0], 200)
+    want("65 fields", place.bytes(head + 64 * b"x: y\r\n" + b"\r\n")[0], 431)
+    want("a long field", place.bytes(head + b"x: " + 17_000 * b"y" + b"\r\n\r\n")[0], 431)
+    want("a long target", place.bytes(b"GET /" + 17_000 * b"y" + b" HTTP/1.1\r\n\r\n")[0], 414)
+    status, fields, body = place.bytes(2 * (head + b"\r\n"))
+    want("two requests at once", (status, body), (200, b'{"owners":[]}\n'))
+    for content in (b"\x00\x01\x02\r\n\r\n", b"GET\r\n\r\n", b"GET / HTTP/9.9\r\n\r\n", b"GET / HTTP/1.1\r\nHost: a b\r\n\r\n"):
+        want(f"what comes to {content}", place.bytes(content)[0], 400)
+    with place.connect() as stream:
+        stream.sendall(head + b"Expect: 100-continue\r\nContent-Length: 1\r\n\r\n")
+        want("what comes before a body that waits", stream.recv(65536), b"HTTP/1.1 100 Continue\r\n\r\n")
+        stream.sendall(b"x")
+        want("what comes after it", stream.recv(65536).split(b"\r\n")[0], b"HTTP/1.1 200 OK")
+    want("an answer after all that", place.curl("/v1/owners")[0], 200)
+    at_port = node_at(check, "b", free_port(), folder=folder)[1]
+    for _ in range(20):
+        want("a long body at a port", at_port.bytes(b"PUT /v1/owners HTTP/1.1\r\nHost: localhost\r\nContent-Length: 20000\r\n\r\n" + bytes(20_000))[0], 413)
+
+
+def http_silence(check):
+    """Eight connections are answered at once, and one that says nothing is closed after --idle."""
+    if lacks_curl(check):
+        return
+    folder = check.folder()
+    node, place = node_at(check, "a", free_port(), "--request", "600000", "--idle", "600000", folder=folder)
+    streams = [place.connect() for _ in range(7)]
+    want("an answer beside seven others", place.curl("/v1/owners")[0], 200)
+    streams.append(place.connect())
+    with place.connect() as ninth:
+        ninth.sendall(b"GET /v1/owners HTTP/1.1\r\nHost: localhost\r\n\r\n")
+        ninth.settimeout(1)
+        try:
+            raise Difference(f"beside eight others came {ninth.recv(65536)}")
+        except TimeoutError:
+            pass
+        streams[0].close()
+        ninth.settimeout(SECONDS)
+        want("an answer once one of them is gone", ninth.recv(65536).split(b"\r\n")[0], b"HTTP/1.1 200 OK")
+    for stream in streams:
+        stream.close()
+    other, at_other = node_at(check, "b", folder / "b.http", "--request", "600000", "--idle", "500", folder=folder)
+    with at_other.connect() as stream:
+        want("what comes to a connection that says nothing", stream.recv(65536), b"")
+
+
+def http_crowd(check):
+    """Connections that say nothing or a byte a second hold the answers over HTTP, each for at most --request; they delay no `set` and no session."""
+    if lacks_curl(check):
+        return
+    folder = check.folder()
+    port = free_port()
+    node, place = node_at(check, "a", port, "--request", "2000", "--idle", "2000", "--pause", "100", folder=folder)
+    other = check.node("b", "--pause", "100", folder=folder, peers=[node.sock]).start()
+
+    def seconds_of_twenty_writes():
+        began = time.monotonic()
+        for count in range(20):
+            node.put("k", count)
+        return time.monotonic() - began
+
+    alone = seconds_of_twenty_writes()
+    streams = [place.connect() for _ in range(40)]
+    for stream in streams[::2]:
+        stream.sendall(b"GET /v1/owners HTTP/1.1\r\nHost: localhost\r\nx: ")
+    took = seconds_of_twenty_writes()
+    if took > 4 * alone + 1:
+        raise Difference(f"twenty writes took {alone:.3} s alone, and {took:.3} s beside silent connections")
+    other.awaits("the last write", lambda rows: rows == ["a k 40 weight 19"])
+    slow, end = streams[0], time.monotonic() + SECONDS
+    try:
+        while time.monotonic() < end:
+            slow.sendall(b"y")
+            time.sleep(0.2)
+        raise Difference("a byte after a byte was never cut off")
+    except OSError:
+        pass
+    for stream in streams:
+        stream.close()
+    want("an answer after them", place.curl("/v1/owners")[0], 200)
+
+
+def http_places(check):
+    """Only an address of this machine is taken, or the path of a socket, which is removed at the end; a node that waits for callers ends at once."""
+    folder = check.folder()
+    others = ("0.0.0.0:0", "10.0.0.1:80", "127.0.0.2:8080", "[::]:80", "localhost:80", "host.example:80", "127.0.0.1:", ":80", "8080")
+    for address in (*others, "127.0.0.1:0", "[::1]:0", "127.0.0.1:65536", "[::1%1]:8080"):
+        node = check.node("a", "--http", address, folder=folder)
+        status, printed, said = run(check.program, *[str(it) for it in node.words()[1:]])
+        want(f"--http {address}", (status, printed, said.splitlines()[0], said.splitlines()[2].split(": ")[0]), (3, "", "fault 5", f"http {address}"))
+    with socket.socket() as taken:
+        taken.bind(("127.0.0.1", 0))
+        taken.listen()
+        address = f"127.0.0.1:{taken.getsockname()[1]}"
+        status, _, said = run(check.program, *[str(it) for it in check.node("a", "--http", address, folder=folder).words()[1:]])
+        want("a port that is taken", (status, said.splitlines()[:2], said.splitlines()[2].split(": ")[0]), (3, ["fault 16", "the node cannot listen at this port"], f"http {address}"))
+    for place, wanted in ((free_port(), "sockets"), (folder / "a.sock", "socket")):
+        node = check.node("a", "--http", f"127.0.0.1:{place}" if isinstance(place, int) else str(place), folder=folder)
+        words = [str(it) for it in node.words()[1:]]
+        if isinstance(place, int):
+            words[words.index("--control") + 1] = str(node.sock)
+        said = run(check.program, *words)[2].splitlines()
+        want(f"two sockets in one place, and --http {place}", (said[0], said[2].split(" ")[0]), ("fault 16", wanted))
+    want("what is left", sorted(it.name for it in folder.iterdir() if it.name.endswith((".sock", ".ctl"))), [])
+    node = check.node("a", "--http", "x", "--seats", "3", "--workers", "1", folder=folder)
+    want("too few seats", run(check.program, *[str(it) for it in node.words()[1:]])[2].splitlines()[0], "fault 5")
+    path = folder / "a.http"
+    node, place = node_at(check, "a", path, "--rounds", "3", "--pause", "100", folder=folder)
+    if not lacks_curl(check):
+        want("an answer at the socket", place.curl("/v1/owners")[0], 200)
+    want("the end of a node", (node.ended()[0], path.exists()), (0, False))
+    want("a node at [::1]", node_at(check, "a", f"[::1]:{free_port()}", "--rounds", "1", folder=folder)[0].ended()[0], 0)
+    node = check.node("a", "--http", str(path), folder=folder).start()
+    node.kill()
+    again = check.node("a", "--http", str(path), folder=folder).start()
+    want("the socket that was left", f"attrdir: info socket {path}: left by a node that no longer runs, and removed" in again.lines(), True)
+
+
+def http_examples(check):
+    """Each example of docs/FORMATS.md, `curl` and the answer below it, is what a node answers that has these rows."""
+    if lacks_curl(check):
+        return
+    section = (ROOT / "docs/FORMATS.md").read_text().split("\n## HTTP\n")[1].split("\n## ")[0]
+    examples = re.findall(r"^    \$ curl -s (\S+)\n    (.*)$", section, re.MULTILINE)
+    want("whether there are examples", len(examples) >= 6, True)
+    port = free_port()
+    node, place = node_at(check, "a", port, "--pause", "100")
+    for words in (("web/motto", "text", "well met"), ("web/port", "weight", "8080")):
+        want(f"set {words}", node.command("set", *words)[0], 0)
+    want("its exit status", node.command("status", "--wait", "10000")[0], 0)
+    for address, wanted in examples:
+        path = address.strip("'").split("127.0.0.1:8080")[1]
+        want(f"the example {path}", place.curl(path)[2].decode(), wanted + "\n")
+
+
+PARTS = (http_rows, http_owners, http_health, http_metrics, http_refusals, http_bounds, http_silence, http_crowd, http_places, http_examples)
