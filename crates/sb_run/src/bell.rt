@@ -1,8 +1,8 @@
 //! The bell that wakes the threads that dial.
 ghost use Rattle.std.specs.Prelude.{◌≡◌, IfErr};
 
-use crate::gate::{Gate, GatePoint};
 use crossbeam_utils::sync::{Parker, Unparker};
+use sb_handlers::{Gate, GatePoint};
 use sb_types::{Delta, Fault};
 use std::alloc::Global;
 use std::sync::atomic::{AtomicBool, Ordering};
