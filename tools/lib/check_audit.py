@@ -1,6 +1,7 @@
 """The parts of tools/check-node that look at audits: a node that compares what its peers hold of its own name with its log. It finds an older copy of its
 log and a twin, and never its own writes, whatever was purged, begun anew or restored since."""
 import shutil
+import signal
 import socket
 import time
 
@@ -31,6 +32,18 @@ def moved_back(kept, log):
 def found_by(node):
     """The lines of audits that found a difference."""
     return [it for it in node.lines() if "writes under this name: peer" in it]
+
+
+def awaits_version(node, owner, version):
+    """Waits until a node holds an owner up to a version."""
+    end = time.monotonic() + SECONDS
+    while True:
+        found = run(node.program, "owners", "--sock", str(node.sock), "--cluster", "c")[1].splitlines()
+        if [owner, str(version)] in [it.split()[:2] for it in found]:
+            return
+        if time.monotonic() > end:
+            raise Difference(f"{node.name} does not hold {owner} up to {version}: {found}")
+        time.sleep(0.02)
 
 
 def awaits_difference(node, peer, words):
@@ -108,8 +121,11 @@ def twin_while_running(check):
     time.sleep(0.5)
     want("what is found apart", [found_by(first), found_by(twin)], [[], []])
     cut.kill()
+    # (the twin waits until d has heard of the first: otherwise d could take the rows of the twin again, and nobody would see two logs)
+    twin.ran.send_signal(signal.SIGSTOP)
     again = check.node("d", "--pause", "50", folder=other, peers=[peer.sock]).start()
-    again.awaits("the rows of the first", lambda found: any(it.startswith("a ") for it in found) or found == [])
+    awaits_version(again, "a", 3)
+    twin.ran.send_signal(signal.SIGCONT)
     awaits_difference(twin, again, "has `x 3 removed`, and the log has `z 3 weight 5`")
 
 

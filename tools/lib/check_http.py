@@ -245,7 +245,41 @@ def http_bounds(check):
     want("two requests at once", (status, body), (200, b'{"owners":[]}\n'))
     for content in (b"\x00\x01\x02\r\n\r\n", b"GET\r\n\r\n", b"GET / HTTP/9.9\r\n\r\n", b"GET / HTTP/1.1\r\nHost: a b\r\n\r\n"):
         want(f"what comes to {content}", place.bytes(content)[0], 400)
+    with place.connect() as stream:
+        stream.sendall(head + b"Expect: 100-continue\r\nContent-Length: 1\r\n\r\n")
+        want("what comes before a body that waits", stream.recv(65536), b"HTTP/1.1 100 Continue\r\n\r\n")
+        stream.sendall(b"x")
+        want("what comes after it", stream.recv(65536).split(b"\r\n")[0], b"HTTP/1.1 200 OK")
     want("an answer after all that", place.curl("/v1/owners")[0], 200)
+    at_port = node_at(check, "b", free_port(), folder=folder)[1]
+    for _ in range(20):
+        want("a long body at a port", at_port.bytes(b"PUT /v1/owners HTTP/1.1\r\nHost: localhost\r\nContent-Length: 20000\r\n\r\n" + bytes(20_000))[0], 413)
+
+
+def http_silence(check):
+    """Eight connections are answered at once, and one that says nothing is closed after --idle."""
+    if lacks_curl(check):
+        return
+    folder = check.folder()
+    node, place = node_at(check, "a", free_port(), "--request", "600000", "--idle", "600000", folder=folder)
+    streams = [place.connect() for _ in range(7)]
+    want("an answer beside seven others", place.curl("/v1/owners")[0], 200)
+    streams.append(place.connect())
+    with place.connect() as ninth:
+        ninth.sendall(b"GET /v1/owners HTTP/1.1\r\nHost: localhost\r\n\r\n")
+        ninth.settimeout(1)
+        try:
+            raise Difference(f"beside eight others came {ninth.recv(65536)}")
+        except TimeoutError:
+            pass
+        streams[0].close()
+        ninth.settimeout(SECONDS)
+        want("an answer once one of them is gone", ninth.recv(65536).split(b"\r\n")[0], b"HTTP/1.1 200 OK")
+    for stream in streams:
+        stream.close()
+    other, at_other = node_at(check, "b", folder / "b.http", "--request", "600000", "--idle", "500", folder=folder)
+    with at_other.connect() as stream:
+        want("what comes to a connection that says nothing", stream.recv(65536), b"")
 
 
 def http_crowd(check):
@@ -287,7 +321,7 @@ def http_crowd(check):
 def http_places(check):
     """Only an address of this machine is taken, or the path of a socket, which is removed at the end; a node that waits for callers ends at once."""
     folder = check.folder()
-    others = ("0.0.0.0:0", "10.0.0.1:80", "127.0.0.2:8080", "[::]:80", "localhost:80", "host.example:80", "127.0.0.1:", ":80")
+    others = ("0.0.0.0:0", "10.0.0.1:80", "127.0.0.2:8080", "[::]:80", "localhost:80", "host.example:80", "127.0.0.1:", ":80", "8080")
     for address in (*others, "127.0.0.1:0", "[::1]:0", "127.0.0.1:65536", "[::1%1]:8080"):
         node = check.node("a", "--http", address, folder=folder)
         status, printed, said = run(check.program, *[str(it) for it in node.words()[1:]])
@@ -337,4 +371,4 @@ def http_examples(check):
         want(f"the example {path}", place.curl(path)[2].decode(), wanted + "\n")
 
 
-PARTS = (http_rows, http_owners, http_health, http_metrics, http_refusals, http_bounds, http_crowd, http_places, http_examples)
+PARTS = (http_rows, http_owners, http_health, http_metrics, http_refusals, http_bounds, http_silence, http_crowd, http_places, http_examples)

@@ -101,7 +101,8 @@ const WORKERS: Part = Part {
     help: "How many connections of peers the node serves at once",
 };
 
-/// The seats beyond workers and 2 are for news: so many peers get it at a time. See [News](#news).
+/// Of the seats beyond workers and 2, the first 8 are for HTTP if there is `--http`, and it needs one. The others are for news: so
+/// many peers get it at a time. See [News](#news).
 /// Greater: More slow peers delay nobody else, in more threads.
 /// Smaller: With workers and 2, peers get news one after another. Less: Fault 5.
 pub(crate) const SEATS: Part = Part {

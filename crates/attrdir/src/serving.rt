@@ -152,11 +152,13 @@ fn socket_of_http<'a>(
 }
 
 /// Whether a node may answer over HTTP at an address: a port of this machine, or the path of a socket. What has a colon and no
-/// slash is meant as an address.
+/// slash is meant as an address, and what is a number as a port.
 fn is_own_address(address: &str) -> bool {
     match address.parse::<SocketAddr>() {
         Ok(port) => is_own_port(port),
-        Err(_) => address.contains('/') || !address.contains(':'),
+        Err(_) => {
+            address.contains('/') || !address.contains(':') && address.parse::<u64>().is_err()
+        }
     }
 }
 

@@ -18,10 +18,12 @@
 //! These wrong bodies would still be proved. `docs/GAPS.md` also has those of every crate.
 //!
 //! - A response names a fault by its number, with another text. Tests refuse it.
+//! - `asked_by` returns `NoMemory` for each request, or `HttpService::call` an error. Tests with ample memory refuse it.
 //! - `HttpService::call` answers 503 without a body, as if there were no memory, after the backend was asked. Tests with
 //!   ample memory refuse it.
 //! - `serve_connection` ends with an error before it has read anything. Tests refuse it.
-//! - The order of fields of a response is promised, but not that a browser heeds them.
+//! - `serve_connection` never flushes its writer. Nothing refuses it: a socket needs no flush.
+//! - `serve_connection` reads on before it has written `100 Continue`. `tools/check-node` refuses it.
 #![tactic(auto)]
 
 mod asked;

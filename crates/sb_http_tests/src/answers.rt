@@ -7,9 +7,12 @@ use std::alloc::Global;
 use std::process::Abort;
 use std::random::RandomSource;
 
-/// The first line of an answer, without the version.
+/// The three digits of the status of an answer.
 fn status(text: &[u8]) -> &str {
-    str::from_utf8(&text[9..12]).unwrap_or("")
+    match text.get(9..12) {
+        Some(digits) => str::from_utf8(digits).unwrap_or(""),
+        None => "",
+    }
 }
 
 /// The body of an answer.

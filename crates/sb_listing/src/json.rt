@@ -1,5 +1,5 @@
 //! Rows as JSON.
-ghost use Rattle.std.specs.Prelude.{◌≡◌, ◌∷◌, ◌++◌, [], false, map, IsUtf8, OnOk, IfOk, IfErr};
+ghost use Rattle.std.specs.Prelude.{◌≡◌, ◌∷◌, ◌++◌, [], false, map, IsUtf8, OnOk, OnErr, IfOk, IfErr};
 ghost use Rattle.sb_types.specs.Kinds.{word_of, kind_of, content_of};
 ghost use Rattle.sb_frames.specs.Sending.{Sends, OnlyWhereFailed};
 ghost use Rattle.serde_json.specs.View.{view};
@@ -70,6 +70,7 @@ fn object_of(alloc: Global, row: &Row) -> Result<Value, AllocError>
 /// Adds the object of a row, without spaces and without the end of a line. `NoMemory`, with nothing added.
 pub fn add_json_object(alloc: Global, out: &mut Vec<u8>, row: &Row) -> Result<(), Fault>
     ensures added { OnOk result (out.new.items ≡ out.old.items ++ compact_text (row_data row.now)) }
+    ensures left { OnErr result (out.new.items ≡ out.old.items) }
     ensures memory { IfErr result (λ fault. fault ≡ Fault.NoMemory) }
 {
     let object = object_of(alloc, row)?;
@@ -95,7 +96,8 @@ fn add_items(alloc: Global, out: &mut Vec<u8>, rows: &[Row]) -> Result<(), Fault
     Ok(())
 }
 
-/// Adds the array of the objects of these rows, without spaces and without the end of a line. `NoMemory`.
+/// Adds the array of the objects of these rows, without spaces and without the end of a line. `NoMemory`, with a part of the
+/// array added, or nothing.
 pub fn add_json_array(alloc: Global, out: &mut Vec<u8>, rows: &[Row]) -> Result<(), Fault>
     ensures added { OnOk result (out.new.items ≡ out.old.items ++ compact_text (rows_data rows.now)) }
     ensures memory { IfErr result (λ fault. fault ≡ Fault.NoMemory) }

@@ -4,7 +4,7 @@ use Rattle.std.proofs.lemmas.Bool.{not-true}
 use Rattle.sb_types.specs.Records.{Block}
 use Rattle.sb_types.specs.Runs.{Stands}
 use Rattle.sb_types.proofs.Standing.{kept, of_kept}
-use Rattle.sb_run.specs.Forgetting.{is_forgotten, is_left_out, kept_blocks}
+use Rattle.sb_handlers.specs.Forgetting.{is_forgotten, is_left_out, kept_blocks}
 
 pub blocks_out : (names : List (List ℕ)) (blocks : List Block) (b : Block) → Stands (kept_blocks names blocks) b → Stands blocks b × (is_forgotten names b.owner ≡ false)
 blocks_out names blocks b s =

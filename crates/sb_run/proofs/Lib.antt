@@ -12,7 +12,5 @@ pub mod StatusPages
 pub mod StatusTexts
 pub mod StatusAnswers
 pub mod LeavingOut
-pub mod Deferring
 pub mod AskedDigests
 pub mod AuditedSeats
-pub mod KeptOffers

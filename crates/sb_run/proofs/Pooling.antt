@@ -4,8 +4,8 @@ use Rattle.std.proofs.Math.Seq.{take-append_seam}
 use Rattle.sb_directory.specs.Seats.{Seat}
 use Rattle.sb_directory.specs.Serving.{IsStill, IsLater}
 use Rattle.sb_directory.specs.Handling.{still-same, still-on, later-same, later-on}
-use Rattle.sb_run.specs.declared.gate.GatePoint.{GatePoint}
-use Rattle.sb_run.specs.Gates.{IsShut}
+use Rattle.sb_handlers.specs.declared.gate.GatePoint.{GatePoint}
+use Rattle.sb_handlers.specs.Gates.{IsShut}
 use Rattle.sb_run.specs.Pools.{IsKept, AreKept}
 
 pub kept_same : (shut : Type 0) (seat : Seat) → IsKept shut seat seat

@@ -1,10 +1,6 @@
 pub mod OwnWriting
 pub mod OwnPurging
 pub mod Control
-pub mod Forgetting
-pub mod Deferring
-pub mod KeptOffers
-pub mod Gates
 pub mod Hellos
 pub mod Pools
 pub mod Sources

@@ -19,6 +19,7 @@ use crossbeam_channel::{Pass, RuledReceiver, RuledSender, bounded_with};
 use crossbeam_utils::sync::Parker;
 use sb_budget::Backlog;
 use sb_directory::{DirectoryTag, ReaderSeat};
+use sb_handlers::ForgottenOwners;
 use sb_types::Fault;
 use std::alloc::Global;
 use std::marker::{Brand, PhantomData};
@@ -508,7 +509,7 @@ impl<'a> Turns<'a> {
         seat: &mut ReaderSeat<S>,
     ) {
         let _ = node.directory.refresh(node.rt, seat);
-        node.forgotten.report(observer);
+        report_forgotten(node.forgotten, observer);
         if self.is_conflict_reported || node.counts.has_difference() {
             return;
         }
@@ -650,6 +651,15 @@ impl<'a> Turns<'a> {
             }
         }
         unreachable!()
+    }
+}
+
+/// Reports to the observer, once of each owner, that a peer still had rows of it.
+fn report_forgotten<O: Observer>(forgotten: &ForgottenOwners, observer: &O) {
+    for owner in forgotten.names() {
+        if forgotten.take_sighting(owner) {
+            observer.forgotten_met(owner);
+        }
     }
 }
 

@@ -4,15 +4,13 @@ ghost use Rattle.sb_directory.specs.Serving.{IsStill, IsLater};
 ghost use Rattle.sb_run.specs.Hellos.{Greets};
 
 use crate::dialer::RoundsTag;
-use crate::forgetting::ForgettingHandler;
-use crate::gate::{Gate, GatePoint, GatedHandler};
 use crate::peers::{DownReason, PeerState};
 use crate::pool::session_of;
 use crate::sockets::{connect, limit};
 use crate::threads::NodeContext;
-use crate::vain_offers::{Asker, DeferringHandler};
 use sb_directory::{ReaderSeat, SeatHandler};
 use sb_frames::{Connection, Steps};
+use sb_handlers::{Asker, DeferringHandler, ForgettingHandler, GatedHandler};
 use sb_session::{Ended, dial};
 use sb_types::{Delta, Fault, Name, OWNERS_MOST};
 use std::io;

@@ -57,14 +57,20 @@ fn listen_at_port<R: Net<Listener = TcpListener, Stream = TcpStream> + RandomSou
     })
 }
 
-/// Listens at a path.
+/// Listens at a path. After an error there is no file that was not there.
 fn listen_at_path<'a, R: Files + Net + RandomSource>(
     rt: &R,
     path: &'a str,
 ) -> io::Result<HttpSocket<'a>> {
     let keys = RandomState::new(rt)?;
     let listener = UnixListener::bind(rt, path)?;
-    let again = OwnedFd::from(listener.try_clone()?);
+    let again = match listener.try_clone() {
+        Ok(again) => OwnedFd::from(again),
+        Err(error) => {
+            let _ = remove_file(rt, path);
+            return Err(error);
+        }
+    };
     Ok(HttpSocket {
         listener: HttpListener::Socket(path, listener),
         latch: UnixStream::from(again),

@@ -17,7 +17,7 @@ ghost use Rattle.sb_views.specs.NodeViews.{NodeView, upto_of, row_of};
 ghost use Rattle.sb_views.specs.Histories.{node_events_of, node_after};
 ghost use Rattle.sb_views.specs.Publishing.{IsView};
 ghost use Rattle.sb_directory.specs.Serving.{AnswersAfter};
-ghost use Rattle.sb_run.specs.Forgetting.{is_forgotten, kept_blocks};
+ghost use Rattle.sb_handlers.specs.Forgetting.{is_forgotten, kept_blocks};
 ghost use Rattle.sb_run.specs.Together.{RunEvent, history_of, AreOpened, CanGive, HappenInTurn};
 
 use sb_digest::digests_are_true;

@@ -104,15 +104,20 @@
 //!   much, stops too soon, or goes on too long. The tests of `sb_run` and `tools/check-node` refuse it.
 //! - The first write never waits for the peers, or waits for longer than it may. Or other requests wait with it. Or the
 //!   first rounds are not made at once. The tests of `sb_run` and `tools/check-node` refuse it.
-//! - A session begins without what its peer was offered in vain in the one before, or with what another peer was. The
-//!   tests of `sb_run` and `tools/check-node` refuse it.
-//! - A node forgets what it offered, or defers nothing, as if memory were missing. The tests of `sb_run` and
-//!   `tools/check-node` refuse it.
-//! - A caller that waits for a change never hears of one, hears of one that did not come, or hears too late. Or a watch for it stays after
-//!   it left. The tests of `sb_run` and `tools/check-node` refuse it.
+//! - A caller that waits for a change never hears of one, hears of one that did not come, or hears too late. Or a watch for
+//!   it stays after it left. The tests of `sb_run` and `tools/check-node` refuse it.
 //! - An owner has a wrong age, or a beat is missing or comes too often. No proof is about ages. The tests of `sb_run` and
 //!   `tools/check-node` refuse it.
 //! - A peer that dials counts as one that is not known, although its Hello has its name. `tools/check-node` refuses it.
+//! - A node answers nobody over HTTP, or each question by the number of `Closed`. `tools/check-node` refuses it.
+//! - Over HTTP the owners or the metrics are a fault each time, or the metrics are others. `tools/check-node` refuses it.
+//! - `HttpSocket::bind` takes an address that `is_own_port` refuses. Nothing refuses it: `attrdir` asks that before.
+//! - A port counts as a socket, so a request may name any host there. `tools/check-node` refuses it.
+//! - A connection over HTTP has other limits, of bytes or of time. `tools/check-node` refuses it.
+//! - What a caller sends after its answer is not read, so a port may lose the answer. `tools/check-node` refuses it.
+//! - Fewer or more threads answer over HTTP than there are seats for it. `tools/check-node` refuses it.
+//! - A thread that answers over HTTP ends if one accept fails. Nothing refuses it.
+//! - At its end a node does not wake those threads, or leaves the socket for HTTP. `tools/check-node` refuses it.
 //! - `OwnWrites::put`, `serve_control`, `serve_pool` or `run_node` never returns. Tests end.
 #![tactic(auto)]
 
@@ -131,8 +136,6 @@ mod dialing;
 mod facts;
 mod first_hearing;
 mod first_message;
-mod forgetting;
-mod gate;
 mod heard;
 mod http_socket;
 mod http_threads;
@@ -150,11 +153,8 @@ mod sockets;
 mod status_reply;
 mod status_texts;
 mod threads;
-mod vain_offers;
 mod watchers;
 
-pub use forgetting::ForgottenOwners;
-pub use gate::{Gate, GatePoint, Open};
 pub use http_socket::is_own_port;
 pub use http_threads::HTTP_WORKERS;
 pub use laws::{forgotten_owners_stay_out, running_nodes_keep_truth, running_nodes_tell_truth};
@@ -165,4 +165,4 @@ pub use observer::{Nobody, Observer, PushCounts, Status, Troubles};
 pub use own_writes::{OwnWrites, Stored};
 pub use peers::{DownReason, Peer, PeerState};
 pub use pool::{Pooled, Serving, Source, Taken};
-pub use vain_offers::VainOffers;
+pub use sb_handlers::{ForgottenOwners, Gate, GatePoint, Open, VainOffers};

@@ -10,7 +10,6 @@ use crate::bell::Bell;
 use crate::counts::Counts;
 use crate::dialer::{Dialing, RoundsTag, rounds_channel};
 use crate::first_hearing::FirstHearing;
-use crate::forgetting::ForgottenOwners;
 use crate::heard::HeardTimes;
 use crate::http_threads::HTTP_WORKERS;
 use crate::observer::Observer;
@@ -19,9 +18,9 @@ use crate::sockets::BoundSockets;
 use crate::threads::{
     EndFlag, Links, NodeContext, ThreadSeats, ThreadsEnd, gather_seats, part_seats,
 };
-use crate::vain_offers::VainOffers;
 use crate::watchers::WatcherCount;
 use sb_directory::Directory;
+use sb_handlers::{ForgottenOwners, VainOffers};
 use sb_log::WriteLog;
 use sb_node::NodeCore;
 use sb_table::Table;
@@ -143,7 +142,7 @@ fn start_refusal<L: WriteLog>(settings: &Settings, http: Option<&str>, log: &L) 
 /// A round has as many exchanges of digests and deltas as it takes to name all owners that the node holds: one, if the budget
 /// has room for a digest of all. A peer that let a round wait for `dial_idle` milliseconds is passed over in its next seven
 /// turns, unless nobody else is left. The observer gets each change of a peer's state. After the last round the node waits for
-/// the connections that are open, and ends. It removes what is at the paths of both sockets, even if another put it there since.
+/// the connections that are open, and ends. It removes what is at the paths of its sockets, even if another put it there since.
 ///
 /// After a write of a client, or something new from a peer, the node dials the next `fanout` peers. A peer whose last two
 /// sessions were not made to their end is left out. The node pushes to each what this peer may lack: its Hello, one delta
@@ -154,10 +153,11 @@ fn start_refusal<L: WriteLog>(settings: &Settings, http: Option<&str>, log: &L) 
 /// - The delta is longer than 1,024 bytes, and than the node's own digests.
 /// - Its frame has no room for one more entry within the budget.
 ///
-/// The seats beyond two and one for each worker are for this: so many peers are dialed side by side. Without such seats they
-/// are dialed one after another, between the rounds in turn. A peer has at most one session for news at a time; news during
-/// one makes another after it. Peers whose last session took half a second or more leave one of these seats to others. News
-/// that comes within twenty milliseconds goes together, in a stream within forty. With no pause there is no need of it.
+/// The seats beyond two, one for each worker and those for HTTP are for this: so many peers are dialed side by side. Without
+/// such seats they are dialed one after another, between the rounds in turn. A peer has at most one session for news at a time;
+/// news during one makes another after it. Peers whose last session took half a second or more leave one of these seats to
+/// others. News that comes within twenty milliseconds goes together, in a stream within forty. With no pause there is no need
+/// of it.
 ///
 /// A push is not a round. It counts as taken only if the peer greeted and ended the connection itself. If not, the next push to
 /// this peer has the same again. A peer's delta can have writes after ones that the node lacks. Then the next round in turn is
@@ -191,6 +191,11 @@ fn start_refusal<L: WriteLog>(settings: &Settings, http: Option<&str>, log: &L) 
 /// - No byte moved for `idle` milliseconds, or for `dial_idle` if the node has dialed.
 /// - A session that a peer dialed took longer than `session`, or a request or its answer longer than `request`.
 ///
+/// With an address for HTTP the node answers there too, by `HttpService`. Each thread for that answers one connection after
+/// another, from a seat of its own. There are `HTTP_WORKERS` of them, or as many as there are seats beyond two and one for each
+/// worker. A request, and then its answer, may take `request` milliseconds each. The connection ends if no byte moves for
+/// `idle` milliseconds.
+///
 /// If a fault of its store closes the log, the node reports that to the observer, and goes on or ends, as `on_log_fault` says.
 /// It does the same if the observer finds that the file of the log is lost: it closes the log, and refuses writes by `Closed`.
 ///
@@ -199,12 +204,12 @@ fn start_refusal<L: WriteLog>(settings: &Settings, http: Option<&str>, log: &L) 
 ///
 /// After each of these faults no file is left that was not there before:
 ///
-/// - `BadSetting` if there are fewer seats than two beside one for each worker.
+/// - `BadSetting` if there are fewer seats than two beside one for each worker, and one more with an address for HTTP.
 /// - `WrongCluster` if the log is of another cluster than the settings'.
 /// - The faults of the log's `load`.
-/// - `ReadFailed` if a socket cannot be bound.
-/// - `NoMemory`, also if the thread that accepts, that of the pool, the first for news, or the one that dials in turn cannot be
-///   made.
+/// - `ReadFailed` if a socket cannot be bound, also if `is_own_port` is false for the address for HTTP.
+/// - `NoMemory`, also if the thread that accepts, that of the pool, the first for HTTP, the first for news, or the one that dials
+///   in turn cannot be made.
 /// - `StoreFailed` if the log failed or its file was lost, and the node is to exit then.
 ///
 /// If the thread of a worker cannot be made, the node serves fewer peers at once.

@@ -1,20 +1,20 @@
 //! Workers that serve the sessions of a source and answer its questions, each from a seat of its own.
 ghost use Rattle.std.specs.Prelude.{◌≡◌, ◌+◌, ◌<◌, ◌≤◌, length, IfSome, IfNone, IfOk, IsOk};
 ghost use Rattle.std.specs.Thread.{IsSend};
-ghost use Rattle.sb_run.specs.Gates.{IsShut, AreShut};
+ghost use Rattle.sb_handlers.specs.Gates.{IsShut, AreShut};
 ghost use Rattle.sb_run.specs.Hellos.{Greets};
 ghost use Rattle.sb_directory.specs.Serving.{IsLater};
 ghost use Rattle.sb_run.specs.Pools.{IsKept, AreKept};
 ghost use Rattle.sb_run.specs.Sources.{IsNumbered, IsQuestion};
 ghost use Rattle.sb_session.specs.Sessions.{new_session};
 
-use crate::forgetting::{ForgettingHandler, ForgottenOwners};
-use crate::gate::{Gate, GatedHandler};
-use crate::vain_offers::{Asker, DeferringHandler, VainOffers};
 use core::mem::replace_with;
 use sb_codec::Ask;
 use sb_directory::{Directory, DirectoryTag, ReaderSeat, SeatHandler};
 use sb_frames::{Connection, Steps};
+use sb_handlers::{
+    Asker, DeferringHandler, ForgettingHandler, ForgottenOwners, Gate, GatedHandler, VainOffers,
+};
 use sb_session::{Session, serve};
 use sb_types::{Fault, Name};
 use std::alloc::Global;

@@ -11,8 +11,6 @@ use crate::control_socket::ControlEnd;
 use crate::counts::Counts;
 use crate::dialer::{Dialing, Rounds, RoundsReceiver, RoundsSender, RoundsTag, Turns};
 use crate::first_hearing::FirstHearing;
-use crate::forgetting::ForgottenOwners;
-use crate::gate::{Gate, GatePoint};
 use crate::heard::HeardTimes;
 use crate::log_watch::LogWatch;
 use crate::node::{OnLogFault, Pace, Runtime};
@@ -20,10 +18,10 @@ use crate::observer::Observer;
 use crate::own_writes::{ClosableLog, OwnWrites};
 use crate::pool::{Pooled, Serving};
 use crate::sockets::BoundSockets;
-use crate::vain_offers::VainOffers;
 use crate::watchers::WatcherCount;
 use sb_control::LogCause;
 use sb_directory::{Directory, DirectoryTag, ReaderSeat};
+use sb_handlers::{ForgottenOwners, Gate, GatePoint, VainOffers};
 use sb_log::{StoreCause, WriteLog};
 use sb_session::Ended;
 use sb_types::{Delta, Fault, Name};
@@ -295,8 +293,8 @@ impl<'a, O: Observer + Sync> Dialing<'a, O> {
     }
 
     /// Runs the threads of a node to their end, in a scope of their own. One accepts, some are workers, some dial, and the calling
-    /// one makes the own writes. `NoMemory` if the thread that accepts, that of the pool, the first for news, or the one that dials
-    /// in turn can't be made. `StoreFailed` if the log failed and the node is to exit then.
+    /// one makes the own writes. `NoMemory` if the thread that accepts, that of the pool, the first for HTTP, the first for news,
+    /// or the one that dials in turn can't be made. `StoreFailed` if the log failed and the node is to exit then.
     fn run_within<
         's,
         E,

@@ -52,7 +52,7 @@ append-requires-clause-leads g c =
     none-held (shown_of held held.me).entries
     (subst (λ (n : ℕ). IsRun 0 n (shown_of held held.me).entries) c.requires.nothing (IsHolder-held held c.me.ensures.holdings held.me).shown.run) in
     let leads : Leads held (held_after_write held e) (anew held.me e) = anew-leads held e none (omega (arith, c.requires.nothing, c.requires.first)) in
-    let batch : c.push_anew.new.batch ≡ anew held.me e = c.in-Ok.ensures ∙ ap (λ (o : List ℕ). anew o e) c.me.ensures.name in
+    let batch : c.push_anew.new.batch ≡ anew held.me e = c.in-Ok.ensures ∙ ap (λ (x : Entry). anew c.me.result.now x) c.shared.ensures ∙ ap (λ (o : List ℕ). anew o e) c.me.ensures.name in
     let upto : c.prefix.result.now ≡ TookOwn e ∷ [] = c.prefix.ensures ∙ c.add.ensures ∙ ap (λ (l : List Event). l ++ TookOwn e ∷ []) c.requires.start in
     subst (λ (b : List (List ℕ × Change)). Leads (node_after opening c.args.writer.now.queued).held (node_after opening c.prefix.result.now).held b) (sym batch)
     (subst (λ (l : List Event). Leads (node_after opening l).held (node_after opening c.prefix.result.now).held (anew held.me e)) (sym c.requires.queued)

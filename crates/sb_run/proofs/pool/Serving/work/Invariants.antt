@@ -1,4 +1,4 @@
-use Rattle.sb_run.specs.Gates.{AreShut}
+use Rattle.sb_handlers.specs.Gates.{AreShut}
 use Rattle.sb_run.specs.Pools.{IsKept}
 use Rattle.sb_run.proofs.pool.Serving.work.Given as goal
 

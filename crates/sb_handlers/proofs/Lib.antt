@@ -1,0 +1,2 @@
+pub mod Deferring
+pub mod KeptOffers

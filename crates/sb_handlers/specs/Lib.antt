@@ -1,0 +1,4 @@
+pub mod Forgetting
+pub mod Deferring
+pub mod KeptOffers
+pub mod Gates

@@ -1,6 +1,0 @@
-use Rattle.std.proofs.Common.{◌≡◌, take}
-use Rattle.sb_run.specs.Forgetting.{kept_blocks}
-use Rattle.sb_run.proofs.forgetting.copy_kept.Given as goal
-
-abbrev pub invariant-loop-block : goal.invariant-loop-block
-invariant-loop-block l = l.kept.items ≡ kept_blocks l.names (take l.block-index l.blocks)

@@ -1,7 +1,0 @@
-use Rattle.std.proofs.Common.{rules, sym, subst}
-use Rattle.sb_run.specs.KeptOffers.{AreFew}
-use Rattle.sb_run.proofs.KeptOffers.{youngest_are_few}
-use Rattle.sb_run.proofs.vain_offers.KeptOffers.keep.Goals as goal
-
-pub invariant_of-self : goal.invariant_of-self
-invariant_of-self c = record { bounded = subst AreFew (sym c.forget_oldest.ensures) (youngest_are_few c.insert.new.self.items) }

@@ -1,5 +1,0 @@
-use Rattle.std.proofs.Common.{rules, refl}
-use Rattle.sb_run.proofs.vain_offers.KeptOffers.take.Goals as goal
-
-pub returns-clause-taken : goal.returns-clause-taken
-returns-clause-taken c = (c.in_ok-place.place, c.remove-offers.result, search rules, search rules, refl)
