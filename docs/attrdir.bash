@@ -7,8 +7,8 @@ _attrdir() {
 
   # what is completed, by tools/options
   local commands='serve set del get watch status owners log purge begin restore sim'
-  local flags='--no-wait --log-time --raw --value --mark --retry --listings --all --explain --help --version -h -V --'
-  local paths='--log --sock --control --metrics --render --to --from --from-control'
+  local flags='--no-wait --log-time --raw --value --ages --mark --retry --listings --all --explain --help --version -h -V --'
+  local paths='--log --sock --control --metrics --render --to --ages-from --from --from-control'
   local -A values_of=(
     [--order]='breadth depth'
     [--on-log-fault]='serve exit'
@@ -17,13 +17,13 @@ _attrdir() {
     [--format]='text json'
   )
   local -A options_of=(
-    [serve]='--name --cluster --log --sock --control --budget --order --max-version --workers --seats --rounds --pause --fanout --idle --session --dial-idle --request --max-reads --on-log-fault --purge-removals --audit --no-wait --forget --log-time --metrics --metrics-owners --metrics-peers --http --help'
+    [serve]='--name --cluster --log --sock --control --budget --order --max-version --workers --seats --rounds --pause --fanout --idle --session --dial-idle --request --max-reads --on-log-fault --purge-removals --audit --no-wait --beat --beat-key --forget --log-time --metrics --metrics-owners --metrics-peers --http --help'
     [set]='--control --raw --help'
     [del]='--control --help'
-    [get]='--control --owner --prefix --key --value --raw --format --help'
+    [get]='--control --owner --prefix --key --value --raw --max-age --ages --format --help'
     [watch]='--control --owner --prefix --every --count --mark --retry --hold --floor --settle --listings --render --to --help'
     [status]='--control --wait --format --help'
-    [owners]='--sock --cluster --name --help'
+    [owners]='--sock --cluster --name --ages-from --help'
     [log]='--log --name --cluster --help'
     [purge]='--log --name --cluster --all --help'
     [begin]='--log --name --cluster --after --from --help'

@@ -43,7 +43,8 @@ def texts():
 
 
 class MadeUp:
-    """A control socket that keeps each request, and sends the next of these answers, in pieces of so many bytes. It ends behind the last."""
+    """A control socket that keeps each request, and sends the next of these answers, in pieces of so many bytes. It ends behind the last. It
+    tells nobody of changes, as a node of release 0.2.0, and keeps no request for that."""
 
     def __init__(self, path, answers, piece=1 << 20):
         self.path, self.answers, self.piece, self.requests = path, answers, piece, []
@@ -54,15 +55,24 @@ class MadeUp:
 
     def serve(self):
         for at, answer in enumerate(self.answers, 1):
-            stream, _ = self.door.accept()
+            stream, request = self.take()
             if at == len(self.answers):
                 self.door.close()
             try:
                 with stream:
-                    self.requests.append(read_frame(stream))
+                    self.requests.append(request)
                     send_in_pieces(stream, answer, self.piece)
             except OSError:
                 pass
+
+    def take(self):
+        """The next connection, and its request, which is no question to tell of changes."""
+        while True:
+            stream, _ = self.door.accept()
+            request = read_frame(stream)
+            if request is None or request[0] != 0x17:
+                return stream, request
+            stream.close()
 
 
 def asked(check, answers, command, *words, **how):

@@ -40,11 +40,12 @@ METRICS = {
     "attrdir_owners_limit": ("gauge", ()),
     "attrdir_held_version": ("gauge", ("owner",)),
     "attrdir_rows": ("gauge", ("owner",)),
+    "attrdir_owner_age_seconds": ("gauge", ("owner",)),
     "attrdir_peer_up": ("gauge", ("peer",)),
     "attrdir_peer_fault": ("gauge", ("peer",)),
     "attrdir_peer_rounds_since": ("gauge", ("peer",)),
 }
-SAMPLE = re.compile(r"(\w+)\{(.*)\} (\d+)")
+SAMPLE = re.compile(r"(\w+)\{(.*)\} (\d+(?:\.\d{3})?)")
 LABEL = re.compile(r'(\w+)="((?:[^"\\]|\\.)*)"(?:,|$)')
 
 
@@ -54,7 +55,8 @@ def sample_of(line):
     labels = LABEL.findall(found[2]) if found else []
     if not found or "".join(f'{name}="{value}",' for name, value in labels) != found[2] + ",":
         raise Difference(f"{line!r} is no value of a metric")
-    return found[1], labels, int(found[3])
+    want(f"whether {line} has a point", "." in found[3], found[1] == "attrdir_owner_age_seconds")
+    return found[1], labels, float(found[3])
 
 
 def metrics_in(path, node, without=()):
@@ -149,7 +151,8 @@ def metrics(check):
     up, fault = ({(f"attrdir_peer_{it}", str(other.sock)): value for it, value in pair} for pair in ((("up", 1), ("fault", 0)), (("up", 0), ("fault", 16))))
     nobody = {("attrdir_peer_up", named): 0, ("attrdir_peer_fault", named): 16}
     found = awaits(path, "a", {**wanted, **up, **nobody})
-    want("the owners", sorted(it[1] for it in found if it[0] == "attrdir_held_version"), ["a", "b"])
+    for name in "attrdir_held_version", "attrdir_owner_age_seconds":
+        want(f"the owners of {name}", sorted(it[1] for it in found if it[0] == name), ["a", "b"])
     want("the peers", sorted(it[1] for it in found if it[0] == "attrdir_peer_up"), sorted([str(other.sock), named]))
     rounds, faults = (found[it,] for it in ("attrdir_rounds_total", "attrdir_round_faults_total"))
     later = awaits(path, "a", {}, lambda it: it["attrdir_rounds_total",] >= rounds + 6)
@@ -178,7 +181,8 @@ def metrics_of_state(check):
     release = ("attrdir_build_info", "0.2.0", "3", "2")
     # (a node holds itself at 0 before its first write)
     own = [("attrdir_held_version", "a"), ("attrdir_rows", "a")]
-    want("the release, and no other owner, and no peer", [it for it in found if len(it) > 1], [release, *own])
+    told = [release, *own, ("attrdir_owner_age_seconds", "a")]
+    want("the release, and no other owner, and no peer", [it for it in found if len(it) > 1], told)
     want("what it holds of itself", [found[it] for it in own], [0, 0])
     if not began - 1 <= found["attrdir_start_time_seconds",] <= time.time():
         raise Difference(f"it was started at {found['attrdir_start_time_seconds',]}, by its file")
@@ -242,7 +246,7 @@ def metrics_of_few(check):
     """With none the file leaves out the owners, or the peers."""
     folder = check.folder()
     path = folder / "a.prom"
-    owners = ("attrdir_held_version", "attrdir_rows")
+    owners = ("attrdir_held_version", "attrdir_rows", "attrdir_owner_age_seconds")
     peers = ("attrdir_peer_up", "attrdir_peer_fault", "attrdir_peer_rounds_since")
     other = check.node("b", folder=folder).start()
     want("a write", other.put("k", 5), 1)

@@ -15,7 +15,7 @@ NAME = re.compile(rb"[a-z0-9-]{1,32}\Z")
 KEY = re.compile(rb"[a-z0-9._/-]{1,64}\Z")
 PREFIX = re.compile(rb"[a-z0-9._/-]{0,64}\Z")
 ADDR = re.compile(rb"[\x21-\x7e]{1,128}\Z")
-KINDS = {1, 2, 3, 4, 0x10, 0x11, 0x12, 0x13, 0x14, 0x15, 0x16}
+KINDS = {1, 2, 3, 4, 0x10, 0x11, 0x12, 0x13, 0x14, 0x15, 0x16, 0x17, 0x18, 0x19, 0x1A}
 PAYLOAD_MOST = 65_530
 VERSION = 3
 
@@ -141,6 +141,21 @@ def read_status(body):
         body.number(8)
 
 
+def read_ask_change(body):
+    body.text(NAME, True)
+    body.text(PREFIX)
+    body.number(8)
+
+
+def read_ages(body):
+    last = b""
+    for _ in range(body.number(2)):
+        owner = body.text(NAME)
+        need(last < owner)
+        last = owner
+        body.number(8)
+
+
 def read_body(kind, body):
     if kind == 1:
         body.text(NAME)
@@ -164,8 +179,14 @@ def read_body(kind, body):
         body.number(1, 1, 31)
     elif kind == 0x15:
         body.number(8)
-    else:
+    elif kind == 0x16:
         read_status(body)
+    elif kind == 0x17:
+        read_ask_change(body)
+    elif kind == 0x18:
+        body.number(1, 1, 3)
+    elif kind == 0x1A:
+        read_ages(body)
     need(body.rest == b"")
 
 
@@ -251,6 +272,10 @@ FRAMES = [
             + u16(2) + text(b"b.sock") + b"\x01" + u64(4) + text("h\u00e9".encode()) + b"\x37" + u64(0),
         ),
     ),
+    ("ask change", frame(0x17, text(b"a") + text(b"w/") + u64(30000))),
+    ("notice", frame(0x18, b"\x02")),
+    ("ask ages", frame(0x19, b"")),
+    ("ages", frame(0x1A, u16(2) + text(b"a") + u64(0) + text(b"b") + u64(1500))),
 ]
 
 

@@ -1,11 +1,11 @@
 //! What the program does for each command line.
 use crate::arguments::command;
 use crate::commands::{
-    AFTER, ALL, ASKED_CONTROL, ASKED_SOCK, ASKING_NAME, CONTROL, COUNT, EVERY, EXPLAIN, FLOOR,
-    FORMAT, FROM, HOLD, KEY, KIND, LISTINGS, LOG, LOG_CLUSTER, LOG_NAME, MARK, ONE_KEY, OWNER,
-    PEER_SOCK, PREFIX, RAW, RAW_VALUE, REMOVED_KEY, RENDER, RETRY, ROWS_FLOOR, SETTLE,
-    STATUS_FORMAT, TO, VALUE, VALUE_ALONE, WAIT, first_outside, lacks_control, repeated_option,
-    wrong_number,
+    AFTER, AGES, AGES_FROM, ALL, ASKED_CONTROL, ASKED_SOCK, ASKING_NAME, CONTROL, COUNT, EVERY,
+    EXPLAIN, FLOOR, FORMAT, FROM, HOLD, KEY, KIND, LISTINGS, LOG, LOG_CLUSTER, LOG_NAME, MARK,
+    MAX_AGE, ONE_KEY, OWNER, PEER_SOCK, PREFIX, RAW, RAW_VALUE, REMOVED_KEY, RENDER, RETRY,
+    ROWS_FLOOR, SETTLE, STATUS_FORMAT, TO, VALUE, VALUE_ALONE, WAIT, first_outside, lacks_control,
+    repeated_option, wrong_number,
 };
 use crate::serve_command::serve_arguments;
 use crate::serving::ServeArguments;
@@ -13,10 +13,10 @@ use clap::ArgMatches;
 use clap::error::ErrorKind;
 use sb_codec::Ask;
 use sb_commands::{
-    AskedNode, CarefulWatch, Caution, Failure, Floor, Portion, RenderedFile, RowFormat, RowQuery,
-    Start, View, WatchQuery, begin_log, key_of, name_of, prefix_of, print_all, print_log,
-    print_one, print_owners, print_status, purge_log, put, read_template, restore_log, text_of,
-    value_of, watch, watch_on, write_lines,
+    AgeQuery, AskedNode, CarefulWatch, Caution, Failure, Floor, Portion, RenderedFile, RowFormat,
+    RowQuery, Start, View, WatchPace, WatchQuery, ages_of, begin_log, key_of, name_of, prefix_of,
+    print_all, print_log, print_one, print_owners, print_status, purge_log, put, read_template,
+    restore_log, text_of, value_of, watch, watch_on, write_lines,
 };
 use sb_script::{Detail, Output, sim_run_uncounted};
 use sb_types::{Fault, Key, Name, Slot, Value};
@@ -214,14 +214,46 @@ fn format_of(word: &str) -> RowFormat {
     }
 }
 
+/// What is asked of the ages of owners.
+fn age_query_of(given: &ArgMatches<'_>) -> AgeQuery {
+    let most = match MAX_AGE.number_if_any(given) {
+        Some(seconds) => Some(seconds.saturating_mul(1_000)),
+        None => None,
+    };
+    AgeQuery {
+        are_shown: AGES.is_given(given),
+        most,
+    }
+}
+
+/// Prints what `--ages` needs. Returns the exit status.
+fn print_ages_format(rt: &HostRuntime) -> u8 {
+    let _ = eprintln!(rt; "error: give --ages only with --format json");
+    USAGE_STATUS
+}
+
 fn run_get<'a>(rt: &HostRuntime, given: &ArgMatches<'a>) -> Result<u8, Failure<'a>> {
     let format = format_of(FORMAT.value(given));
+    if AGES.is_given(given) && !matches!(format, RowFormat::Json) {
+        return Ok(print_ages_format(rt));
+    }
     match ONE_KEY.value_if_any(given) {
         Some(key) => run_get_one(rt, given, key, format),
         None => {
-            print_all(rt, CONTROL.value(given), asked_of(given)?, format)?;
+            let asked = asked_of(given)?;
+            print_all(rt, CONTROL.value(given), asked, format, age_query_of(given))?;
             Ok(0)
         }
+    }
+}
+
+/// How a watch waits: without a count of askings it waits for changes, 20 milliseconds at least.
+fn watch_pace_of(given: &ArgMatches<'_>) -> WatchPace {
+    let every = EVERY.number_if_any(given);
+    WatchPace {
+        every: every.unwrap_or(20),
+        untold: every.unwrap_or(200),
+        is_told: COUNT.number(given) == 0,
     }
 }
 
@@ -264,7 +296,7 @@ fn careful_of<'a>(
 fn run_watch<'a>(rt: &HostRuntime, given: &ArgMatches<'a>) -> Result<u8, Failure<'a>> {
     let query = WatchQuery {
         asked: asked_of(given)?,
-        every: EVERY.number(given),
+        pace: watch_pace_of(given),
         count: COUNT.number(given),
         prints_asked: MARK.is_given(given),
     };
@@ -290,7 +322,11 @@ fn run_status<'a>(rt: &HostRuntime, given: &ArgMatches<'a>) -> Result<u8, Failur
 fn run_owners<'a>(rt: &HostRuntime, given: &ArgMatches<'a>) -> Result<u8, Failure<'a>> {
     let cluster = name_of("--cluster", LOG_CLUSTER.value(given))?;
     let name = name_of("--name", ASKING_NAME.value(given))?;
-    print_owners(rt, PEER_SOCK.value(given), cluster, name)?;
+    let ages = match AGES_FROM.value_if_any(given) {
+        Some(control) => Some(ages_of(rt, control)?),
+        None => None,
+    };
+    print_owners(rt, PEER_SOCK.value(given), cluster, name, ages.as_ref())?;
     Ok(0)
 }
 

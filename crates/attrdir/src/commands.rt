@@ -1,4 +1,4 @@
-//! The commands, and their options and words: what the command line can contain, and where the values go.
+//! The commands, with their options and words: what the command line can contain.
 //!
 //! An option is described once: here, or in `serve_command.rt` if it is one of `serve`. From its `Part` come its parsing, its
 //! default, its limits and its help. `tools/options` writes the same into `docs/attrdir.1`, `docs/attrdir.bash` and
@@ -112,6 +112,26 @@ pub(crate) const FORMAT: Part = Part {
     help: "Prints the words of each row, or a JSON object for each row",
 };
 
+/// It is the member `age`, in milliseconds. See [Ages](#ages).
+/// Left out: no ages
+pub(crate) const AGES: Part = Part {
+    name: "ages",
+    kind: Kind::FlagBeside("format", "key"),
+    value: "",
+    help: "Shows in each JSON object how long ago the node heard the owner; needs --format json",
+};
+
+/// An owner is heard if a new write of it comes. See [Ages](#ages).
+/// Greater: Rows of owners that have ended stay longer.
+/// Smaller: An owner that writes little is left out although it lives, unless it has a beat.
+/// Left out: rows of any age
+pub(crate) const MAX_AGE: Part = Part {
+    name: "max-age",
+    kind: Kind::Number(Range::Any),
+    value: "SECONDS",
+    help: "Leaves out the rows of owners that the node did not hear for longer",
+};
+
 pub(crate) const STATUS_FORMAT: Part = Part {
     name: "format",
     kind: Kind::OneOf(&["text", "json"], "text"),
@@ -129,11 +149,15 @@ pub(crate) const WAIT: Part = Part {
     help: "For how many milliseconds it asks again until the node is ready",
 };
 
+/// It waits for a change after that. With `--count` it does not, and asks each so many milliseconds. It also does that if
+/// the node reports no changes: if 64 others wait there, or if the node is of an older release.
+/// Greater: Changes are printed later, and more of them at once.
+/// Smaller: If much changes, it asks more often.
 pub(crate) const EVERY: Part = Part {
     name: "every",
-    kind: Kind::NumberOr(Range::Any, "200"),
+    kind: Kind::NumberElse(Range::Any, "20 (200 with --count)"),
     value: "MS",
-    help: "How many milliseconds it waits before it asks again",
+    help: "How many milliseconds it waits at least before it asks again",
 };
 
 pub(crate) const COUNT: Part = Part {
@@ -227,6 +251,14 @@ pub(crate) const ASKING_NAME: Part = Part {
     kind: Kind::ValueOr("attrdir-owners"),
     value: "N",
     help: "The name under which it asks; it must differ from the node's name",
+};
+
+/// Left out: no ages
+pub(crate) const AGES_FROM: Part = Part {
+    name: "ages-from",
+    kind: Kind::Value,
+    value: "PATH",
+    help: "The --control of the same node: prints after each version how many milliseconds ago the owner was heard",
 };
 
 pub(crate) const LOG: Part = Part {
@@ -345,6 +377,8 @@ const GET_TASK: Task = Task {
         ONE_KEY,
         VALUE_ALONE,
         RAW_VALUE,
+        MAX_AGE,
+        AGES,
         FORMAT,
     ],
 };
@@ -363,7 +397,7 @@ const OWNERS_TASK: Task = Task {
     name: "owners",
     about: "Prints up to which version a node holds each owner",
     more: help::OWNERS,
-    parts: &[PEER_SOCK, LOG_CLUSTER, ASKING_NAME],
+    parts: &[PEER_SOCK, LOG_CLUSTER, ASKING_NAME, AGES_FROM],
 };
 
 const STATUS_TASK: Task = Task {

@@ -306,9 +306,9 @@ Example:
 
 pub(crate) const GET: &str =
     "Each row is a line: owner, key, version, kind and value, in ascending owner and then key. A removed key has no row. With --format json it is a
-JSON object of key, kind, owner, value and version. There the value of an addr or a text is a string, of a weight a number, and of a flag true
-or false. Rows of other owners are as far as the node has heard of them. Rows come page by page: each page is one state of the node, and no
-page is older than the page before.
+JSON object of key, kind, owner, value and version. There the value of an addr or a text is a string, of a weight a number, and of a flag true or
+false. With --ages the object has an age too: how many milliseconds ago the node heard the owner. Rows of other owners are as far as the node has
+heard of them. Rows come page by page: each page is one state of the node, and no page is older than the page before.
 
 With --owner and --key it prints only the row of that key. With --value too it prints only its value, a text as it is spelled in the row. With
 --raw too it prints a text as it is. If there is no such row it prints nothing, and the exit status is 1.
@@ -380,7 +380,8 @@ Example:
 
 pub(crate) const OWNERS: &str =
     "It asks the node as another node would, under a name of its own, and writes nothing there. Each line has an owner and the version up to
-which the node holds its writes, in ascending owner. So a script can see whether a node has heard of a write: `set` prints its version.
+which the node holds its writes, in ascending owner. So a script can see whether a node has heard of a write: `set` prints its version. With
+--ages-from it asks at the control socket too, and each line ends with the age of the owner: how many milliseconds ago the node heard it.
 
 A fault ends the command. Standard error has `fault N`, its text, and what to do:
   1       no memory
@@ -401,13 +402,16 @@ Example:
   b 1";
 
 pub(crate) const WATCH: &str =
-    "It asks for all rows as `attrdir get` does, waits, and asks again. Each time it prints what changed since the asking before. The first time it
-prints each row. Lines are in ascending owner and then key:
+    "It asks for all rows as `attrdir get` does, waits until the node reports a change, and asks again. Each time it prints what changed since the
+asking before. The first time it prints each row. Lines are in ascending owner and then key:
   set OWNER KEY VERSION KIND VALUE   the row is new, or has another version or value
   gone OWNER KEY                     the row is gone
 A script that enters each `set` line and takes out each `gone` line has the rows of the last asking. If a row changed twice between two askings, only
 its last state is printed. All lines of one asking are written at once; if nothing changed there are none. With --mark a line `asked` follows each
 asking, also if nothing changed.
+
+It has the node note the next change before it asks, so it misses none. With --count it does not wait for changes, and asks each --every. It also
+does that if the node reports none: if 64 others wait for changes there, or if the node is of an older release.
 
 A fault ends the command, at the first asking or later: those of `attrdir get`. It prints nothing of the asking that had the fault. If standard
 output is closed, the command ends before it asks again.
@@ -435,7 +439,7 @@ An owner has no such line if the value has another byte than letters, digits and
 The exit status is 0 after the last of --count, 2 after a wrong command line, and 3 after a fault.
 
 Example, in which a second terminal writes and then removes a weight:
-  $ attrdir watch --control a.ctl --prefix web/ --every 500
+  $ attrdir watch --control a.ctl --prefix web/
   set a web/addr 1 addr 10.0.0.1:80
   set a web/weight 2 weight 5
   gone a web/weight

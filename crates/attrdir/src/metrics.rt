@@ -206,6 +206,12 @@ const HELD_VERSION: Metric = Metric {
     help: "The version up to which it holds an owner.",
 };
 
+const OWNER_AGE: Metric = Metric {
+    name: "attrdir_owner_age_seconds",
+    kind: "gauge",
+    help: "How long ago the version rose up to which it holds an owner.",
+};
+
 const ROWS: Metric = Metric {
     name: "attrdir_rows",
     kind: "gauge",
@@ -453,6 +459,21 @@ impl Metrics<'_, '_> {
         Ok(())
     }
 
+    /// How long ago each owner was heard.
+    fn write_ages<W: fmt::Write>(&self, f: &mut fmt::Formatter<W>) -> fmt::Result {
+        write_head(f, &OWNER_AGE)?;
+        let (name, node) = (OWNER_AGE.name, self.name);
+        for heard in self.status.ages {
+            let (owner, age) = (text_of(&heard.owner), heard.age);
+            let (seconds, rest) = (age / 1_000, age % 1_000);
+            writeln!(
+                f,
+                "{name}{{node=\"{node}\",owner=\"{owner}\"}} {seconds}.{rest:03}"
+            )?;
+        }
+        Ok(())
+    }
+
     /// A metric of each peer. One that is dialed twice has the values of its first place: no two lines may have the same labels.
     fn write_peers<W: fmt::Write>(&self, f: &mut fmt::Formatter<W>, what: OfPeer) -> fmt::Result {
         let (metric, node, peers) = (what.metric(), self.name, self.status.peers);
@@ -476,6 +497,7 @@ impl fmt::Display for Metrics<'_, '_> {
         if self.series.has_owners {
             self.write_owners(f, OfOwner::HeldVersion)?;
             self.write_owners(f, OfOwner::Rows)?;
+            self.write_ages(f)?;
         }
         if self.series.has_peers {
             self.write_peers(f, OfPeer::Up)?;

@@ -231,6 +231,25 @@ const NO_WAIT: Part = Part {
     help: "Takes writes at once, before the node has heard its peers",
 };
 
+/// Each beat is an own write: the flag true. With it the version of a node that lives rises, so that [ages](#ages) show who
+/// lives. The first is made at once. With a closed log, or while another node writes under its name, there is none.
+/// Greater: A node that has ended shows later.
+/// Smaller: It shows sooner. Each beat goes to all nodes.
+const BEAT: Part = Part {
+    name: "beat",
+    kind: Kind::NumberOr(Range::Any, "0"),
+    value: "SECONDS",
+    help: "After how many seconds the node writes its beat again, by which others hear that it lives, 0 for never",
+};
+
+/// The key counts as one of the node.
+const BEAT_KEY: Part = Part {
+    name: "beat-key",
+    kind: Kind::ValueOr("beat"),
+    value: "K",
+    help: "The key of the beat",
+};
+
 /// It can be given 64 times, once for each name. The node shows no row of it, and nobody hears of one from this node. See [Owners
 /// used up](RUNBOOK.md#owners-used-up).
 const FORGET: Part = Part {
@@ -301,6 +320,8 @@ pub(crate) fn serve_arguments<'a>(
         peers: PEERS.values(alloc, given)?,
         forgotten: FORGET.values(alloc, given)?,
         pace: pace_of(given),
+        beat: BEAT.number(given),
+        beat_key: BEAT_KEY.value(given),
         purge_removals: PURGE_REMOVALS.number(given),
         has_time: LOG_TIME.is_given(given),
         metrics: METRICS.value_if_any(given),
@@ -397,6 +418,8 @@ pub(crate) const SERVE_TASK: Task = Task {
         PURGE_REMOVALS,
         AUDIT,
         NO_WAIT,
+        BEAT,
+        BEAT_KEY,
         FORGET,
         LOG_TIME,
         METRICS,

@@ -10,9 +10,9 @@ use sb_commands::{
     Failure, FaultPlace, StartPurge, error_of, has_folder, name_of, open_log, purge_removals,
 };
 use sb_log::{LogError, WriteLog};
-use sb_run::{NodeConfig, Pace, Paths, Ran, Runtime, is_own_port, run_closed_node, run_node};
+use sb_run::{Beat, NodeConfig, Pace, Paths, Ran, Runtime, is_own_port, run_closed_node, run_node};
 use sb_table::Table;
-use sb_types::{Fault, Name, RawSettings, Settings};
+use sb_types::{Fault, Key, Name, RawSettings, Settings};
 use std::alloc::Global;
 use std::fs::{remove_file, symlink_metadata};
 use std::io::ErrorKind;
@@ -38,6 +38,9 @@ pub(crate) struct ServeArguments<'a> {
     /// The names of the owners that the node forgets.
     pub(crate) forgotten: Vec<&'a str>,
     pub(crate) pace: Pace,
+    /// After how many seconds the node beats again; 0 for never.
+    pub(crate) beat: u64,
+    pub(crate) beat_key: &'a str,
     /// From how many tombstones in its log on the node drops them before it starts. 0 is for never.
     pub(crate) purge_removals: u64,
     /// Whether each line on standard error begins with the time.
@@ -48,6 +51,14 @@ pub(crate) struct ServeArguments<'a> {
     pub(crate) series: Series,
     /// The address at which the node answers over HTTP.
     pub(crate) http: Option<&'a str>,
+}
+
+/// What was checked of the command line of a node.
+#[derive(Drop)]
+struct Checked {
+    settings: Settings,
+    forgotten: Vec<Name>,
+    beat: Option<Beat>,
 }
 
 /// Prints what the node did. `WriteFailed` if standard output does not take it.
@@ -246,6 +257,21 @@ fn forgotten_of<'a>(
     Ok(names)
 }
 
+/// The beat of a node, if it has one. `BadKey` if its word is not a key.
+fn beat_of<'a>(given: &ServeArguments<'a>) -> Result<Option<Beat>, Failure<'a>> {
+    let word = given.beat_key;
+    let Ok(key) = Key::read(word.as_bytes()) else {
+        return Err(Failure::at(FaultPlace::Word("--beat-key", word), Fault::BadKey));
+    };
+    match given.beat {
+        0 => Ok(None),
+        seconds => Ok(Some(Beat {
+            pause: seconds.saturating_mul(1_000),
+            key,
+        })),
+    }
+}
+
 /// What prints the lines of a node, which has printed none yet.
 fn console_of<'r, 'a>(rt: &'r HostRuntime, given: &ServeArguments<'a>) -> Console<'r, 'a> {
     let metrics = match given.metrics {
@@ -282,8 +308,7 @@ fn run<'a, L: WriteLog + Drop, R: Runtime + Net<Listener = TcpListener, Stream =
     rt: &HostRuntime,
     runtime: &R,
     given: &ServeArguments<'a>,
-    settings: Settings,
-    forgotten: &[Name],
+    checked: Checked,
     log: L,
 ) -> Result<(), Failure<'a>> {
     let mut log = log;
@@ -296,10 +321,11 @@ fn run<'a, L: WriteLog + Drop, R: Runtime + Net<Listener = TcpListener, Stream =
     let console = console_of(rt, given);
     let left = purge_first(rt, &console, given, &mut log)?;
     let config = NodeConfig {
-        settings,
+        settings: checked.settings,
         paths,
         pace: given.pace,
-        forgotten,
+        beat: checked.beat,
+        forgotten: checked.forgotten.as_slice(),
     };
     let ran = match left {
         None => run_node(runtime, rt.alloc(), config, log, &console),
@@ -319,6 +345,7 @@ fn run<'a, L: WriteLog + Drop, R: Runtime + Net<Listener = TcpListener, Stream =
 ///
 /// - `BadName` of its name.
 /// - `BadSetting`, also for too few seats, for an address that is not one for HTTP, and for a name that it cannot forget.
+/// - `BadKey` of the key of its beat.
 /// - `ReadFailed` if the path of a peer cannot be that of a socket.
 /// - `WriteFailed` if metrics would replace something else.
 ///
@@ -341,6 +368,7 @@ pub(crate) fn serve<'a, R: Runtime + Net<Listener = TcpListener, Stream = TcpStr
         return Err(Failure::at(FaultPlace::OtherAddress(address), Fault::BadSetting));
     }
     let forgotten = forgotten_of(rt.alloc(), given, &name)?;
+    let beat = beat_of(given)?;
     if let Some(path) = unreachable_peer(given) {
         return Err(Failure::at(FaultPlace::Peer(path), Fault::ReadFailed));
     }
@@ -349,5 +377,10 @@ pub(crate) fn serve<'a, R: Runtime + Net<Listener = TcpListener, Stream = TcpStr
     }
     let (cluster, max_version) = (settings.cluster(), settings.max_version());
     let log = open_log(rt, given.log, name, cluster, max_version)?;
-    run(rt, runtime, given, settings, &forgotten, log)
+    let checked = Checked {
+        settings,
+        forgotten,
+        beat,
+    };
+    run(rt, runtime, given, checked, log)
 }

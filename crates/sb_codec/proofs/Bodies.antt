@@ -13,16 +13,20 @@ use Rattle.sb_digest.specs.Digests.{Pair, Digest, covers}
 use Rattle.sb_digest.specs.Lengths.{pair_length, digest_length}
 use Rattle.sb_digest.specs.Limits.{is_bound, is_pair, is_range, are_pairs_above, are_digest_parts, is_digest}
 use Rattle.sb_codec.specs.declared.message.ask.Ask.{Ask}
+use Rattle.sb_codec.specs.declared.message.ask_change.AskChange.{AskChange}
+use Rattle.sb_codec.specs.declared.message.notice.Notice.{Notice}
+use Rattle.sb_codec.specs.declared.message.notice.Notice.TheVariants.{Watching, Changed, Same}
+use Rattle.sb_codec.specs.declared.message.ages.OwnerAge.{OwnerAge}
 use Rattle.sb_codec.specs.Records.{Row, Rows, Figure, Peer, NodeStatus}
-use Rattle.sb_codec.specs.Lengths.{row_length, rows_length, figure_length, peer_length, status_length}
+use Rattle.sb_codec.specs.Lengths.{row_length, rows_length, figure_length, peer_length, status_length, age_length, ages_length}
 use Rattle.sb_codec.specs.declared.message.node_identity.NodeIdentity.{NodeIdentity}
 use Rattle.sb_codec.specs.declared.message.hello.Hello.{Hello}
-use Rattle.sb_codec.specs.Limits.{is_hello, is_reason, is_optional, is_place, is_ask, is_row, are_rows_above, are_page_rows, is_page, is_write, is_version, is_fault_number, is_count, is_identity, is_figure, is_peer, are_figures_above, are_status_parts, is_status}
+use Rattle.sb_codec.specs.Limits.{is_hello, is_reason, is_optional, is_place, is_ask, is_row, are_rows_above, are_page_rows, is_page, is_write, is_version, is_fault_number, is_count, is_identity, is_figure, is_peer, are_figures_above, are_status_parts, is_status, is_ask_change, is_age, are_ages_above, are_owner_ages, are_ages}
 use Rattle.sb_codec.specs.Fields.{number_field}
-use Rattle.sb_codec.specs.Spelling.{number, text, optional_text, hello, pair, digest, place, ask, row, page, write, identity, figure, peer, status}
-use Rattle.sb_codec.specs.Reading.{hello_of_parts, hello_field, bye_field, write_of_parts, write_field, done_field, refused_field, unless_empty, is_empty_or, optional_field, pair_of_parts, pair_field, digest_of_parts, digest_field, prefix_field, are_alike, place_of, place_field, ask_of, ask_field, is_written, row_of_parts, row_field, are_page_parts, page_of, page_field, ask_status_field, short_text_field, identity_of_parts, identity_field, figure_of_parts, figure_field, peer_of_parts, peer_field, status_of_parts, status_field}
-use Rattle.sb_codec.proofs.Taken.{Takes, wide64, fits_takes, made_takes, then_takes, where_takes, byte_takes, number_takes, text_takes, list_takes}
-use Rattle.sb_codec.proofs.Again.{Again, made_again, then_again, where_again, byte_again, number_again, text_again, list_again}
+use Rattle.sb_codec.specs.Spelling.{number, text, list, optional_text, hello, pair, digest, place, ask, row, page, write, identity, figure, peer, status, ask_change, number_of_notice, owner_age}
+use Rattle.sb_codec.specs.Reading.{hello_of_parts, hello_field, bye_field, write_of_parts, write_field, done_field, refused_field, unless_empty, is_empty_or, optional_field, pair_of_parts, pair_field, digest_of_parts, digest_field, prefix_field, are_alike, place_of, place_field, ask_of, ask_field, is_written, row_of_parts, row_field, are_page_parts, page_of, page_field, ask_status_field, short_text_field, identity_of_parts, identity_field, figure_of_parts, figure_field, peer_of_parts, peer_field, status_of_parts, status_field, ask_change_of, ask_change_field, notice_cases, notice_field, age_of_parts, age_field, ages_field}
+use Rattle.sb_codec.proofs.Taken.{Takes, wide64, fits_takes, made_takes, then_takes, where_takes, byte_takes, number_takes, text_takes, list_takes, tagged_takes, given_case}
+use Rattle.sb_codec.proofs.Again.{Again, given_again, made_again, then_again, where_again, byte_again, number_again, text_again, list_again, tagged_again}
 use Rattle.sb_codec.proofs.Parts.{name_takes, name_again, key_takes, key_again, flag_takes, flag_again, value_takes, value_reads, slot_takes, slot_again, between_parts, all_from, all_parts, count_below}
 
 pub hello_takes : Takes (λ h. is_hello h ≡ true) hello hello_field
@@ -305,3 +309,58 @@ status_again s fits =
     let figures = list_again figure_again s.figures (few_figures s fits) (all_parts is_figure s.figures parts.1) in
     let peers = list_again peer_again s.peers (few_peers s fits) (all_parts is_peer s.peers all.1) in
     where_again are_status_parts made.1 (made_again status_of_parts (then_again (flag_again s.more) (then_again (identity_again s.identity parts.0) (then_again figures peers))))
+
+-- ---- the question to tell of the next change, and its answers
+
+pub ask_change_takes : Takes (λ a. is_ask_change a ≡ true) ask_change ask_change_field
+unfolding ask_change_field ask_change
+ask_change_takes =
+    made_takes ask_change_of (then_takes (optional_takes is_name) (then_takes prefix_takes (number_takes wide64)))
+    (λ a fits. (and_from _ _ (and_from _ _ fits.0 fits.1.0) (lt-ltb a.1.1 (2 ^ 64) fits.1.1), refl))
+
+pub ask_change_again : (a : AskChange) → is_ask_change a ≡ true → Again ask_change_field (ask_change a) a
+unfolding ask_change_field ask_change
+ask_change_again a fits =
+    let wait = and_parts (is_optional is_name a.owner && is_prefix a.prefix) (is_count a.wait) fits in
+    let parts = and_parts (is_optional is_name a.owner) (is_prefix a.prefix) wait.0 in
+    made_again ask_change_of (then_again (optional_again is_name refl a.owner parts.0) (then_again (prefix_again a.prefix parts.1) (count_again a.wait wait.1)))
+
+pub notice_takes : Takes (λ notice. Unit {0}) (λ notice. number_of_notice notice ∷ []) notice_field
+unfolding notice_field
+notice_takes = tagged_takes notice_cases (given_case 1 Watching tt refl, (given_case 2 Changed tt refl, (given_case 3 Same tt refl, tt)))
+
+pub notice_again : (notice : Notice) → Again notice_field (number_of_notice notice ∷ []) notice
+unfolding notice_field
+notice_again Watching = tagged_again notice_cases 1 (given_again Watching)
+notice_again Changed = tagged_again notice_cases 2 (given_again Changed)
+notice_again Same = tagged_again notice_cases 3 (given_again Same)
+
+-- ---- ages of owners
+
+age_takes : Takes (λ a. is_age a ≡ true) owner_age age_field
+unfolding age_field owner_age
+age_takes = made_takes age_of_parts (then_takes name_takes (number_takes wide64)) (λ a fits. (and_from _ _ fits.0 (lt-ltb a.1 (2 ^ 64) fits.1), refl))
+
+age_again : (a : OwnerAge) → is_age a ≡ true → Again age_field (owner_age a) a
+unfolding age_field owner_age
+age_again a fits =
+    let parts = and_parts (is_name a.owner) (is_count a.age) fits in
+    made_again age_of_parts (then_again (name_again a.owner parts.0) (count_again a.age parts.1))
+
+pub ages_takes : Takes (λ ages. are_ages ages ≡ true) (list owner_age) ages_field
+unfolding ages_field
+ages_takes = fits_takes (where_takes (list_takes age_takes)) (λ ages fits. and_from _ _ (all_from is_age ages fits.0.1) fits.1)
+
+pub ages_within : (ages : List OwnerAge) → are_ages ages ≡ true → ages_length ages ≤ PAYLOAD_MOST
+ages_within ages fits =
+    let made = and_parts (list_all is_age ages) (are_owner_ages ages) fits in
+    leb-true (ages_length ages) PAYLOAD_MOST (and_parts (are_ages_above [] ages) (nat_le (ages_length ages) PAYLOAD_MOST) made.1).1
+
+pub few_ages : (ages : List OwnerAge) → are_ages ages ≡ true → length ages < 2 ^ 16
+few_ages ages fits = let within = ages_within ages fits in omega (arith, count_below age_length (λ a. omega arith) ages)
+
+pub ages_again : (ages : List OwnerAge) → are_ages ages ≡ true → Again ages_field (list owner_age ages) ages
+unfolding ages_field
+ages_again ages fits =
+    let made = and_parts (list_all is_age ages) (are_owner_ages ages) fits in
+    where_again are_owner_ages made.1 (list_again age_again ages (few_ages ages fits) (all_parts is_age ages made.0))

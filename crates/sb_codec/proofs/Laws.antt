@@ -9,14 +9,14 @@ use Rattle.sb_types.specs.declared.fault.Fault.{Fault}
 use Rattle.sb_types.specs.declared.fault.Fault.TheVariants.{UnknownKind, Malformed}
 use Rattle.sb_types.specs.Faults.{Gives}
 use Rattle.sb_codec.specs.declared.message.Message.{Message}
-use Rattle.sb_codec.specs.declared.message.Message.TheVariants.{Hello, Digest, Delta, Bye, Ask, Rows, Put, Done, Refused, AskStatus, NodeStatus}
-use Rattle.sb_types.specs.declared.format.TheConstants.{KIND_HELLO, KIND_DIGEST, KIND_DELTA, KIND_BYE, KIND_ASK, KIND_ROWS, KIND_PUT, KIND_DONE, KIND_REFUSED, KIND_ASK_STATUS, KIND_NODE_STATUS}
+use Rattle.sb_codec.specs.declared.message.Message.TheVariants.{Hello, Digest, Delta, Bye, Ask, Rows, Put, Done, Refused, AskStatus, NodeStatus, AskChange, Notice, AskAges, Ages}
+use Rattle.sb_types.specs.declared.format.TheConstants.{KIND_HELLO, KIND_DIGEST, KIND_DELTA, KIND_BYE, KIND_ASK, KIND_ROWS, KIND_PUT, KIND_DONE, KIND_REFUSED, KIND_ASK_STATUS, KIND_NODE_STATUS, KIND_ASK_CHANGE, KIND_NOTICE, KIND_ASK_AGES, KIND_AGES}
 use Rattle.sb_codec.specs.Fields.{AreBytes, byte_field, case_field, whole_value}
 use Rattle.sb_codec.specs.Messages.{spelling, is_message, Spells, IsSole, is_kind, fault_of, message_cases, message_field, reading}
-use Rattle.sb_codec.proofs.Taken.{Takes, tagged_takes, made_case}
-use Rattle.sb_codec.proofs.Again.{Again, made_again, tagged_again}
+use Rattle.sb_codec.proofs.Taken.{Takes, tagged_takes, made_case, given_case}
+use Rattle.sb_codec.proofs.Again.{Again, given_again, made_again, tagged_again}
 use Rattle.sb_codec.proofs.Parts.{delta_takes, delta_again}
-use Rattle.sb_codec.proofs.Bodies.{hello_takes, hello_again, digest_takes, digest_again, bye_takes, bye_again, ask_takes, ask_again, page_takes, page_again, write_takes, write_again, done_takes, done_again, refused_takes, refused_again, ask_status_takes, ask_status_again, status_takes, status_again}
+use Rattle.sb_codec.proofs.Bodies.{hello_takes, hello_again, digest_takes, digest_again, bye_takes, bye_again, ask_takes, ask_again, page_takes, page_again, write_takes, write_again, done_takes, done_again, refused_takes, refused_again, ask_status_takes, ask_status_again, status_takes, status_again, ask_change_takes, ask_change_again, notice_takes, notice_again, ages_takes, ages_again}
 use Rattle.sb_codec.proofs.Sizes.{spelling-most}
 
 pub message_takes : Takes (λ m. is_message m ≡ true) spelling message_field
@@ -42,7 +42,19 @@ message_takes =
                       made_case KIND_REFUSED Refused refused_takes (λ fault fits. (fits, refl)),
                       (
                         made_case KIND_ASK_STATUS AskStatus ask_status_takes (λ after fits. (fits, refl)),
-                        (made_case KIND_NODE_STATUS NodeStatus status_takes (λ told fits. (fits, refl)), tt),
+                        (
+                          made_case KIND_NODE_STATUS NodeStatus status_takes (λ told fits. (fits, refl)),
+                          (
+                            made_case KIND_ASK_CHANGE AskChange ask_change_takes (λ asked fits. (fits, refl)),
+                            (
+                              made_case KIND_NOTICE Notice notice_takes (λ notice fits. (refl, refl)),
+                              (
+                                given_case KIND_ASK_AGES AskAges refl refl,
+                                (made_case KIND_AGES Ages ages_takes (λ ages fits. (fits, refl)), tt),
+                              ),
+                            ),
+                          ),
+                        ),
                       ),
                     ),
                   ),
@@ -67,6 +79,10 @@ message_again (Done version) fits = tagged_again message_cases KIND_DONE (made_a
 message_again (Refused fault) fits = tagged_again message_cases KIND_REFUSED (made_again Refused (refused_again fault fits))
 message_again (AskStatus after) fits = tagged_again message_cases KIND_ASK_STATUS (made_again AskStatus (ask_status_again after fits))
 message_again (NodeStatus told) fits = tagged_again message_cases KIND_NODE_STATUS (made_again NodeStatus (status_again told fits))
+message_again (AskChange asked) fits = tagged_again message_cases KIND_ASK_CHANGE (made_again AskChange (ask_change_again asked fits))
+message_again (Notice notice) fits = tagged_again message_cases KIND_NOTICE (made_again Notice (notice_again notice))
+message_again AskAges fits = tagged_again message_cases KIND_ASK_AGES (given_again AskAges)
+message_again (Ages ages) fits = tagged_again message_cases KIND_AGES (made_again Ages (ages_again ages fits))
 
 nothing_behind : {A : Type 0} (read : Option (A × List ℕ)) (x : A) → option_and_then (λ y. if length y.1 == 0 then Some y.0 else None) read ≡ Some x → read ≡ Some (x, [])
 nothing_behind None x e = absurd cc
@@ -122,6 +138,10 @@ some_bytes payload (Done version) spells = rw spells.bytes (omega arith)
 some_bytes payload (Refused fault) spells = rw spells.bytes (omega arith)
 some_bytes payload (AskStatus after) spells = rw spells.bytes (omega arith)
 some_bytes payload (NodeStatus told) spells = rw spells.bytes (omega arith)
+some_bytes payload (AskChange asked) spells = rw spells.bytes (omega arith)
+some_bytes payload (Notice notice) spells = rw spells.bytes (omega arith)
+some_bytes payload AskAges spells = rw spells.bytes (omega arith)
+some_bytes payload (Ages ages) spells = rw spells.bytes (omega arith)
 
 -- ---- a kind that is not known
 
@@ -139,7 +159,7 @@ differs known first is other = is_never (first == known) (λ same. sym is ∙ ap
 no_case : (first : ℕ) (body : List ℕ) → is_kind first ≡ false → case_field message_cases first body ≡ None
 no_case first body other =
     rw
-    (differs KIND_HELLO first refl other, differs KIND_DIGEST first refl other, differs KIND_DELTA first refl other, differs KIND_BYE first refl other, differs KIND_ASK first refl other, differs KIND_ROWS first refl other, differs KIND_PUT first refl other, differs KIND_DONE first refl other, differs KIND_REFUSED first refl other, differs KIND_ASK_STATUS first refl other, differs KIND_NODE_STATUS first refl other)
+    (differs KIND_HELLO first refl other, differs KIND_DIGEST first refl other, differs KIND_DELTA first refl other, differs KIND_BYE first refl other, differs KIND_ASK first refl other, differs KIND_ROWS first refl other, differs KIND_PUT first refl other, differs KIND_DONE first refl other, differs KIND_REFUSED first refl other, differs KIND_ASK_STATUS first refl other, differs KIND_NODE_STATUS first refl other, differs KIND_ASK_CHANGE first refl other, differs KIND_NOTICE first refl other, differs KIND_ASK_AGES first refl other, differs KIND_AGES first refl other)
     refl
 
 pub is_unknown : (payload : List ℕ) (kind : ℕ) → fault_of payload ≡ UnknownKind kind → reading payload ≡ Err (UnknownKind kind)

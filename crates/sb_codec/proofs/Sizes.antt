@@ -19,17 +19,19 @@ use Rattle.sb_digest.specs.Digests as digests
 use Rattle.sb_digest.specs.Lengths.{bound_length, pair_length, digest_length}
 use Rattle.sb_codec.specs.declared.message.hello.Hello as messages
 use Rattle.sb_codec.specs.declared.message.ask.Ask as asks
+use Rattle.sb_codec.specs.declared.message.ask_change.AskChange as changes
+use Rattle.sb_codec.specs.declared.message.ages.OwnerAge.{OwnerAge}
 use Rattle.sb_codec.specs.declared.message.node_identity.NodeIdentity.{NodeIdentity}
 use Rattle.sb_codec.specs.Records as records
-use Rattle.sb_codec.specs.Lengths.{row_length, rows_length, identity_length, figure_length, peer_length, status_length}
-use Rattle.sb_codec.specs.Limits.{is_optional, is_place}
+use Rattle.sb_codec.specs.Lengths.{row_length, rows_length, identity_length, figure_length, peer_length, status_length, age_length, ages_length}
+use Rattle.sb_codec.specs.Limits.{is_optional, is_place, is_count}
 use Rattle.sb_types.specs.Limits.{is_slot}
 use Rattle.sb_codec.specs.declared.message.Message.{Message}
-use Rattle.sb_codec.specs.declared.message.Message.TheVariants.{Hello, Digest, Delta, Bye, Ask, Rows, Put, Done, Refused, AskStatus, NodeStatus}
-use Rattle.sb_codec.specs.Spelling.{number, text, list, content, value, slot, entry, block, optional_text, hello, pair, digest, place, ask, row, page, write, identity, figure, peer, status}
+use Rattle.sb_codec.specs.declared.message.Message.TheVariants.{Hello, Digest, Delta, Bye, Ask, Rows, Put, Done, Refused, AskStatus, NodeStatus, AskChange, Notice, AskAges, Ages}
+use Rattle.sb_codec.specs.Spelling.{number, text, list, content, value, slot, entry, block, optional_text, hello, pair, digest, place, ask, row, page, write, identity, figure, peer, status, ask_change, owner_age}
 use Rattle.sb_codec.specs.Messages.{spelling, is_message}
 use Rattle.sb_codec.proofs.Parts.{between_parts, delta_parts}
-use Rattle.sb_codec.proofs.Bodies.{digest_within, page_within, status_within}
+use Rattle.sb_codec.proofs.Bodies.{digest_within, page_within, status_within, ages_within}
 
 length-number16 : (n : ℕ) → length (number w16 n) ≡ 2
 unfolding number
@@ -167,6 +169,18 @@ pub status-spelled : (s : records.NodeStatus) → length (spelling (NodeStatus s
 unfolding spelling
 status-spelled s = omega (arith, status-length s)
 
+age-length : (a : OwnerAge) → length (owner_age a) ≡ age_length a
+unfolding owner_age
+age-length a = omega (arith, length-append (text a.owner) (number w64 a.age), length-number64 a.age)
+
+pub ask_change-spelled : (a : changes.AskChange) → length (spelling (AskChange a)) ≡ 10 + length (optional_text a.owner) + length a.prefix
+unfolding spelling ask_change
+ask_change-spelled a = omega (arith, length-append (optional_text a.owner) (text a.prefix ++ number w64 a.wait), length-append (text a.prefix) (number w64 a.wait), length-number64 a.wait)
+
+pub ages-spelled : (ages : List OwnerAge) → length (spelling (Ages ages)) ≡ ages_length ages
+unfolding spelling
+ages-spelled ages = omega (arith, length-list owner_age age_length age-length ages)
+
 -- ---- the longest of each
 
 pub name-most : (t : List ℕ) → is_name t ≡ true → length t ≤ 32
@@ -214,3 +228,10 @@ spelling-most (Done version) fits = omega (arith, length-number64 version)
 spelling-most (Refused fault) fits = omega arith
 spelling-most (AskStatus after) fits = omega (arith, length-number64 after)
 spelling-most (NodeStatus s) fits = omega (arith, status-length s, status_within s fits)
+spelling-most (AskChange a) fits =
+    let wait = and_parts (is_optional is_name a.owner && is_prefix a.prefix) (is_count a.wait) fits in
+    let parts = and_parts (is_optional is_name a.owner) (is_prefix a.prefix) wait.0 in
+    omega (arith, ask_change-spelled a, optional-most a.owner parts.0, prefix-most a.prefix parts.1)
+spelling-most (Notice notice) fits = omega arith
+spelling-most AskAges fits = omega arith
+spelling-most (Ages ages) fits = omega (arith, ages-spelled ages, ages_within ages fits)

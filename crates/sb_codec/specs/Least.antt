@@ -6,10 +6,11 @@ use Rattle.sb_types.specs.declared.entry.Slot.TheVariants.{Removed}
 use Rattle.sb_types.specs.Value.{Flag}
 use Rattle.sb_types.specs.Records.{Entry, Block}
 use Rattle.sb_digest.specs.Digests.{Pair, plain_pair}
+use Rattle.sb_codec.specs.declared.message.ages.OwnerAge.{OwnerAge}
 use Rattle.sb_codec.specs.Records.{Row, row_of, Figure, figure_of, Peer}
 use Rattle.sb_codec.specs.Fields.{byte_field, bytes_field, number_field, text_field, list_field, times_field}
-use Rattle.sb_codec.specs.Spelling.{number, slot, content, entry, block, pair, row, figure, peer}
-use Rattle.sb_codec.specs.Reading.{name_field, key_field, flag_field, slot_field, value_field, tag_field, content_field, entry_field, block_field, pair_field, row_field, short_text_field, figure_field, peer_field}
+use Rattle.sb_codec.specs.Spelling.{number, slot, content, entry, block, pair, row, figure, peer, owner_age}
+use Rattle.sb_codec.specs.Reading.{name_field, key_field, flag_field, slot_field, value_field, tag_field, content_field, entry_field, block_field, pair_field, row_field, short_text_field, figure_field, peer_field, age_field}
 
 abbrev pub first_removal : Entry
 first_removal = record { key = 97 ∷ []; version = 1; slot = Removed }
@@ -40,3 +41,10 @@ first_peer = record { path = 97 ∷ []; state = 0; round = 0 }
 pub peer_reached : (item : Peer) × (peer_field (peer item) ≡ Some (item, [])) × (length (peer item) ≡ 11)
 unfolding peer number peer_field short_text_field number_field text_field byte_field bytes_field is_utf8 chars encode_utf8
 peer_reached = (first_peer, refl, refl)
+
+abbrev pub first_age : OwnerAge
+first_age = record { owner = 97 ∷ []; age = 0 }
+
+pub age_reached : (item : OwnerAge) × (age_field (owner_age item) ≡ Some (item, [])) × (length (owner_age item) ≡ 10)
+unfolding owner_age number age_field name_field number_field text_field byte_field bytes_field
+age_reached = (first_age, refl, refl)

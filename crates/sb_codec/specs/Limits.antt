@@ -7,14 +7,16 @@ use Rattle.sb_types.specs.declared.entry.Write.{Write}
 use Rattle.sb_types.specs.declared.limits.TheConstants.{PAYLOAD_MOST}
 use Rattle.sb_types.specs.Text.{is_between, is_name, is_key, is_prefix, is_short_text}
 use Rattle.sb_types.specs.Value.{is_value}
-use Rattle.sb_types.specs.Limits.{is_slot}
+use Rattle.sb_types.specs.Limits.{is_slot, text_lt}
 use Rattle.sb_types.specs.declared.limits.TheConstants.{FAULT_NUMBER_MOST}
 use Rattle.sb_types.specs.declared.format.TheConstants.{REASON_MOST}
 use Rattle.sb_codec.specs.declared.message.hello.Hello.{Hello}
 use Rattle.sb_codec.specs.declared.message.ask.Ask.{Ask}
+use Rattle.sb_codec.specs.declared.message.ask_change.AskChange.{AskChange}
+use Rattle.sb_codec.specs.declared.message.ages.OwnerAge.{OwnerAge}
 use Rattle.sb_codec.specs.declared.message.node_identity.NodeIdentity.{NodeIdentity}
 use Rattle.sb_codec.specs.Records.{Row, Rows, Figure, Peer, NodeStatus}
-use Rattle.sb_codec.specs.Lengths.{rows_length, status_length}
+use Rattle.sb_codec.specs.Lengths.{rows_length, status_length, ages_length}
 
 abbrev pub is_hello : Hello → Bool
 is_hello hello = is_name hello.cluster && is_name hello.node
@@ -82,3 +84,21 @@ are_status_parts s = are_figures_above 0 s.figures && nat_le (status_length s) P
 
 abbrev pub is_status : NodeStatus → Bool
 is_status s = is_identity s.identity && list_all is_figure s.figures && list_all is_peer s.peers && are_status_parts s
+
+abbrev pub is_ask_change : AskChange → Bool
+is_ask_change a = is_optional is_name a.owner && is_prefix a.prefix && is_count a.wait
+
+abbrev pub is_age : OwnerAge → Bool
+is_age a = is_name a.owner && is_count a.age
+
+-- each owner is after the one before it, and the first is after this text
+abbrev pub are_ages_above : List ℕ → List OwnerAge → Bool
+are_ages_above last [] = true
+are_ages_above last (a ∷ rest) = text_lt last a.owner && are_ages_above a.owner rest
+
+-- owners ascend, and the payload is within its limit (no name is empty, so each is after the empty text)
+abbrev pub are_owner_ages : List OwnerAge → Bool
+are_owner_ages ages = are_ages_above [] ages && nat_le (ages_length ages) PAYLOAD_MOST
+
+abbrev pub are_ages : List OwnerAge → Bool
+are_ages ages = list_all is_age ages && are_owner_ages ages

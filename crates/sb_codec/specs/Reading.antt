@@ -20,9 +20,13 @@ use Rattle.sb_digest.specs.Digests.{Pair, Digest, digest_of}
 use Rattle.sb_digest.specs.Limits.{are_digest_parts}
 use Rattle.sb_codec.specs.declared.message.hello.Hello.{Hello}
 use Rattle.sb_codec.specs.declared.message.ask.Ask.{Ask}
+use Rattle.sb_codec.specs.declared.message.ask_change.AskChange.{AskChange}
+use Rattle.sb_codec.specs.declared.message.notice.Notice.{Notice}
+use Rattle.sb_codec.specs.declared.message.notice.Notice.TheVariants.{Watching, Changed, Same}
+use Rattle.sb_codec.specs.declared.message.ages.OwnerAge.{OwnerAge}
 use Rattle.sb_codec.specs.declared.message.node_identity.NodeIdentity.{NodeIdentity}
 use Rattle.sb_codec.specs.Records.{Row, Rows, row_of, rows_of, Figure, figure_of, Peer, NodeStatus, status_of}
-use Rattle.sb_codec.specs.Limits.{is_reason, is_version, is_fault_number, are_page_rows, are_status_parts}
+use Rattle.sb_codec.specs.Limits.{is_reason, is_version, is_fault_number, are_page_rows, are_status_parts, are_owner_ages}
 use Rattle.sb_codec.specs.Fields.{Field, none_field, given_field, lead_field, made_field, then_field, where_field, byte_field, number_field, text_field, long_text_field, list_field, tagged_field}
 
 unfoldable pub name_field : Field (List ℕ)
@@ -205,3 +209,24 @@ status_of_parts s = status_of s.0 s.1.0 s.1.1.0 s.1.1.1
 
 unfoldable pub status_field : Field NodeStatus
 status_field = where_field are_status_parts (made_field status_of_parts (then_field flag_field (then_field identity_field (then_field (list_field figure_field) (list_field peer_field)))))
+
+abbrev pub ask_change_of : Option (List ℕ) × (List ℕ × ℕ) → AskChange
+ask_change_of a = record { owner = a.0; prefix = a.1.0; wait = a.1.1 }
+
+unfoldable pub ask_change_field : Field AskChange
+ask_change_field = made_field ask_change_of (then_field (optional_field is_name) (then_field prefix_field (number_field w64)))
+
+abbrev pub notice_cases : List (ℕ × Field Notice)
+notice_cases = (1, given_field Watching) ∷ (2, given_field Changed) ∷ (3, given_field Same) ∷ []
+
+unfoldable pub notice_field : Field Notice
+notice_field = tagged_field notice_cases
+
+abbrev pub age_of_parts : List ℕ × ℕ → OwnerAge
+age_of_parts a = record { owner = a.0; age = a.1 }
+
+unfoldable pub age_field : Field OwnerAge
+age_field = made_field age_of_parts (then_field name_field (number_field w64))
+
+unfoldable pub ages_field : Field (List OwnerAge)
+ages_field = where_field are_owner_ages (list_field age_field)

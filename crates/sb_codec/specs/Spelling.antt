@@ -12,6 +12,10 @@ use Rattle.sb_types.specs.declared.format.TheConstants.{TAG_REMOVED}
 use Rattle.sb_digest.specs.Digests.{Pair, Digest}
 use Rattle.sb_codec.specs.declared.message.hello.Hello.{Hello}
 use Rattle.sb_codec.specs.declared.message.ask.Ask.{Ask}
+use Rattle.sb_codec.specs.declared.message.ask_change.AskChange.{AskChange}
+use Rattle.sb_codec.specs.declared.message.notice.Notice.{Notice}
+use Rattle.sb_codec.specs.declared.message.notice.Notice.TheVariants.{Watching, Changed, Same}
+use Rattle.sb_codec.specs.declared.message.ages.OwnerAge.{OwnerAge}
 use Rattle.sb_codec.specs.declared.message.node_identity.NodeIdentity.{NodeIdentity}
 use Rattle.sb_codec.specs.Records.{Row, Rows, Figure, Peer, NodeStatus}
 
@@ -98,3 +102,14 @@ peer p = text p.path ++ (p.state ∷ number w64 p.round)
 
 unfoldable pub status : NodeStatus → List ℕ
 status s = flag s.more ++ (identity s.identity ++ (list figure s.figures ++ list peer s.peers))
+
+unfoldable pub ask_change : AskChange → List ℕ
+ask_change a = optional_text a.owner ++ (text a.prefix ++ number w64 a.wait)
+
+abbrev pub number_of_notice : Notice → ℕ
+number_of_notice Watching = 1
+number_of_notice Changed = 2
+number_of_notice Same = 3
+
+unfoldable pub owner_age : OwnerAge → List ℕ
+owner_age a = text a.owner ++ number w64 a.age

@@ -12,8 +12,9 @@ use crate::message::Message;
 use crate::refusal::Refusal;
 use bytes::Bytes;
 use sb_types::{
-    Fault, KIND_ASK, KIND_ASK_STATUS, KIND_BYE, KIND_DELTA, KIND_DIGEST, KIND_DONE, KIND_HELLO,
-    KIND_NODE_STATUS, KIND_PUT, KIND_REFUSED, KIND_ROWS,
+    Fault, KIND_AGES, KIND_ASK, KIND_ASK_AGES, KIND_ASK_CHANGE, KIND_ASK_STATUS, KIND_BYE,
+    KIND_DELTA, KIND_DIGEST, KIND_DONE, KIND_HELLO, KIND_NODE_STATUS, KIND_NOTICE, KIND_PUT,
+    KIND_REFUSED, KIND_ROWS,
 };
 use std::alloc::Global;
 
@@ -33,6 +34,10 @@ fn test_kind(kind: u8) -> bool
             | KIND_REFUSED
             | KIND_ASK_STATUS
             | KIND_NODE_STATUS
+            | KIND_ASK_CHANGE
+            | KIND_NOTICE
+            | KIND_ASK_AGES
+            | KIND_AGES
     )
 }
 
@@ -41,12 +46,12 @@ fn is_kept(kind: u8) -> bool
 {
     matches!(
         kind,
-        KIND_DIGEST | KIND_DELTA | KIND_ROWS | KIND_PUT | KIND_NODE_STATUS
+        KIND_DIGEST | KIND_DELTA | KIND_ROWS | KIND_PUT | KIND_NODE_STATUS | KIND_AGES
     )
 }
 
 /// Returns whether the payload begins with a kind whose messages take memory. These are a digest, a delta, a page of
-/// rows, a put and the status of a node.
+/// rows, a put, the status of a node and ages of owners.
 pub fn takes_memory(payload: &[u8]) -> bool
     ensures { (result ≡ true) ↔ TakesMemory payload.now }
 {
@@ -101,8 +106,8 @@ fn read(alloc: Global, payload: &[u8]) -> Result<Message, Fault>
 ///
 /// - `UnknownKind(byte)`: the first byte is not a kind. It is 0 for an empty payload. This takes no memory.
 /// - `Malformed(kind)`: the bytes spell no message of this kind.
-/// - `NoMemory`: only a digest, a delta, a page of rows, a put or the status of a node takes memory. This is the only
-///   fault of a payload that spells a message. A malformed payload of these kinds may have it too.
+/// - `NoMemory`: only a digest, a delta, a page of rows, a put, the status of a node or ages of owners take memory. This is
+///   the only fault of a payload that spells a message. A malformed payload of these kinds may have it too.
 pub fn decode_payload(alloc: Global, payload: &[u8]) -> Result<Message, Fault>
     // What is read is spelled so, and nothing else is.
     ensures found { IfOk result (λ message. Spells payload.now message) }

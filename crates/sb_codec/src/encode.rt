@@ -8,15 +8,18 @@ ghost use Rattle.sb_codec.specs.Messages.{Spells, IsSole, spelling, is_message};
 ghost use Rattle.sb_codec.specs.Standing.{StandsFirst};
 
 use crate::lengths::payload_length;
-use crate::message::{Ask, AskStatus, Bye, Done, Hello, Message, NodeStatus, Refused, Rows};
+use crate::message::{
+    Ages, Ask, AskChange, AskStatus, Bye, Done, Hello, Message, NodeStatus, Notice, Refused, Rows,
+};
 use crate::writing::{
     write_byte, write_bytes, write_flag, write_identity, write_list, write_optional_name,
     write_place, write_slot, write_text, write_u64,
 };
 use sb_digest::Digest;
 use sb_types::{
-    Delta, Fault, KIND_ASK, KIND_ASK_STATUS, KIND_BYE, KIND_DELTA, KIND_DIGEST, KIND_DONE,
-    KIND_HELLO, KIND_NODE_STATUS, KIND_PUT, KIND_REFUSED, KIND_ROWS, Name, Write,
+    Delta, Fault, KIND_AGES, KIND_ASK, KIND_ASK_AGES, KIND_ASK_CHANGE, KIND_ASK_STATUS, KIND_BYE,
+    KIND_DELTA, KIND_DIGEST, KIND_DONE, KIND_HELLO, KIND_NODE_STATUS, KIND_NOTICE, KIND_PUT,
+    KIND_REFUSED, KIND_ROWS, Name, Write,
 };
 use std::alloc::{AllocError, Global};
 
@@ -183,6 +186,45 @@ fn write_node_status(out: &mut Vec<u8>, status: &NodeStatus) -> Result<(), Alloc
     write_figures_and_peers(out, status)
 }
 
+#[tactic(auto, using(crate::proofs::Standings::stands_on), unfolding(crate::specs::Messages::spelling, crate::specs::Spelling::ask_change))]
+fn write_ask_change(out: &mut Vec<u8>, asked: &AskChange) -> Result<(), AllocError>
+    ensures written { OnOk result (out.new.items ≡ out.old.items ++ spelling (Message.AskChange asked.now)) }
+    ensures stands { StandsFirst out.old.items out.new.items }
+    ensures limits { OnOk result (is_message (Message.AskChange asked.now) ≡ true) }
+{
+    write_named(out, KIND_ASK_CHANGE, asked.owner)?;
+    write_text(out, asked.prefix.bytes())?;
+    write_u64(out, asked.wait)
+}
+
+#[tactic(auto, unfolding(crate::specs::Messages::spelling))]
+fn write_notice(out: &mut Vec<u8>, notice: Notice) -> Result<(), AllocError>
+    ensures written { OnOk result (out.new.items ≡ out.old.items ++ spelling (Message.Notice notice)) }
+    ensures stands { StandsFirst out.old.items out.new.items }
+    ensures limits { OnOk result (is_message (Message.Notice notice) ≡ true) }
+{
+    write_bytes(out, &[KIND_NOTICE, notice.number()])
+}
+
+#[tactic(auto, unfolding(crate::specs::Messages::spelling))]
+fn write_ask_ages(out: &mut Vec<u8>) -> Result<(), AllocError>
+    ensures written { OnOk result (out.new.items ≡ out.old.items ++ spelling Message.AskAges) }
+    ensures stands { StandsFirst out.old.items out.new.items }
+    ensures limits { OnOk result (is_message Message.AskAges ≡ true) }
+{
+    write_byte(out, KIND_ASK_AGES)
+}
+
+#[tactic(auto, using(crate::proofs::Standings::stands_on), unfolding(crate::specs::Messages::spelling))]
+fn write_ages(out: &mut Vec<u8>, ages: &Ages) -> Result<(), AllocError>
+    ensures written { OnOk result (out.new.items ≡ out.old.items ++ spelling (Message.Ages ages.now)) }
+    ensures stands { StandsFirst out.old.items out.new.items }
+    ensures limits { OnOk result (is_message (Message.Ages ages.now) ≡ true) }
+{
+    write_byte(out, KIND_AGES)?;
+    write_list(out, ages.list())
+}
+
 fn write_message(out: &mut Vec<u8>, message: &Message) -> Result<(), AllocError>
     ensures written { OnOk result (out.new.items ≡ out.old.items ++ spelling message.now) }
     ensures stands { StandsFirst out.old.items out.new.items }
@@ -200,6 +242,10 @@ fn write_message(out: &mut Vec<u8>, message: &Message) -> Result<(), AllocError>
         Message::Refused(refused) => write_refused(out, refused),
         Message::AskStatus(asked) => write_ask_status(out, asked),
         Message::NodeStatus(status) => write_node_status(out, status),
+        Message::AskChange(asked) => write_ask_change(out, asked),
+        Message::Notice(notice) => write_notice(out, *notice),
+        Message::AskAges => write_ask_ages(out),
+        Message::Ages(ages) => write_ages(out, ages),
     }
 }
 

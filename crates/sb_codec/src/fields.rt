@@ -11,19 +11,21 @@ ghost use Rattle.sb_codec.specs.Reading.{name_field, key_field, flag_field, cont
 ghost use Rattle.sb_codec.specs.Reading.{hello_field, bye_field, write_field, done_field, refused_field, optional_field, pair_field};
 ghost use Rattle.sb_codec.specs.Reading.{digest_field, prefix_field, place_field, ask_field, value_field, row_field, page_field};
 ghost use Rattle.sb_codec.specs.Reading.{ask_status_field, short_text_field, identity_field, figure_field, peer_field, status_field};
+ghost use Rattle.sb_codec.specs.Reading.{ask_change_field, notice_field, age_field, ages_field};
 ghost use Rattle.sb_codec.specs.Messages.{message_field, TakesMemory};
 
 use crate::list_item::ListItem;
 use crate::message::{
-    Ask, AskStatus, Bye, Done, Figure, Hello, Message, NodeIdentity, NodeStatus, PeerStatus,
-    Refused, Row, Rows,
+    Ages, Ask, AskChange, AskStatus, Bye, Done, Figure, Hello, Message, NodeIdentity, NodeStatus,
+    Notice, OwnerAge, PeerStatus, Refused, Row, Rows,
 };
 use crate::refusal::Refusal;
 use sb_digest::{Digest, Pair};
 use sb_types::{
-    Block, ContentRef, Delta, Entry, Form, KIND_ASK, KIND_ASK_STATUS, KIND_BYE, KIND_DELTA,
-    KIND_DIGEST, KIND_DONE, KIND_HELLO, KIND_NODE_STATUS, KIND_PUT, KIND_REFUSED, KIND_ROWS, Key,
-    Kind, Name, Prefix, ShortText, Slot, TAG_REMOVED, Value, Write,
+    Block, ContentRef, Delta, Entry, Form, KIND_AGES, KIND_ASK, KIND_ASK_AGES, KIND_ASK_CHANGE,
+    KIND_ASK_STATUS, KIND_BYE, KIND_DELTA, KIND_DIGEST, KIND_DONE, KIND_HELLO, KIND_NODE_STATUS,
+    KIND_NOTICE, KIND_PUT, KIND_REFUSED, KIND_ROWS, Key, Kind, Name, Prefix, ShortText, Slot,
+    TAG_REMOVED, Value, Write,
 };
 use std::alloc::Global;
 use std::marker::Model;
@@ -425,6 +427,49 @@ impl<'a> Fields<'a> {
         Ok(NodeStatus::new(more, identity, figures, peers)?)
     }
 
+    #[tactic(auto, unfolding(crate::specs::Reading::ask_change_field))]
+    fn ask_change(&mut self) -> Result<AskChange, Refusal>
+        ensures { ReadsWithoutMemory (λ x. x) (ask_change_field self.old) result self.new }
+    {
+        let owner = self.optional_name()?;
+        let prefix = self.prefix()?;
+        let wait = self.u64()?;
+        Ok(AskChange {
+            owner,
+            prefix,
+            wait,
+        })
+    }
+
+    #[tactic(auto, unfolding(crate::specs::Reading::notice_field))]
+    fn notice(&mut self) -> Result<Notice, Refusal>
+        ensures { ReadsWithoutMemory (λ x. x) (notice_field self.old) result self.new }
+    {
+        match self.byte()? {
+            1 => Ok(Notice::Watching),
+            2 => Ok(Notice::Changed),
+            3 => Ok(Notice::Same),
+            _ => Err(Refusal::Malformed),
+        }
+    }
+
+    #[tactic(auto, unfolding(crate::specs::Reading::age_field))]
+    pub(crate) fn age(&mut self) -> Result<OwnerAge, Refusal>
+        ensures { ReadsWithoutMemory (λ x. x) (age_field self.old) result self.new }
+    {
+        let owner = self.name()?;
+        let age = self.u64()?;
+        Ok(OwnerAge { owner, age })
+    }
+
+    #[tactic(auto, unfolding(crate::specs::Reading::ages_field))]
+    fn ages(&mut self, alloc: Global) -> Result<Ages, Refusal>
+        ensures { Reads (λ x. x) (ages_field self.old) result self.new }
+    {
+        let ages = self.list(alloc)?;
+        Ok(Ages::new(ages)?)
+    }
+
     #[tactic(auto, unfolding(crate::specs::Messages::message_field, crate::specs::Fields::byte_field))]
     pub(crate) fn message(&mut self, alloc: Global) -> Result<Message, Refusal>
         ensures read { Reads (λ x. x) (message_field self.old) result self.new }
@@ -442,6 +487,10 @@ impl<'a> Fields<'a> {
             KIND_REFUSED => Ok(Message::Refused(self.refused()?)),
             KIND_ASK_STATUS => Ok(Message::AskStatus(self.ask_status()?)),
             KIND_NODE_STATUS => Ok(Message::NodeStatus(self.status(alloc)?)),
+            KIND_ASK_CHANGE => Ok(Message::AskChange(self.ask_change()?)),
+            KIND_NOTICE => Ok(Message::Notice(self.notice()?)),
+            KIND_ASK_AGES => Ok(Message::AskAges),
+            KIND_AGES => Ok(Message::Ages(self.ages(alloc)?)),
             _ => Err(Refusal::Malformed),
         }
     }

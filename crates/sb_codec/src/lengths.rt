@@ -6,7 +6,7 @@ ghost use Rattle.sb_types.specs.declared.limits.TheConstants.{PAYLOAD_MOST, BUDG
 ghost use Rattle.sb_codec.specs.Spelling.{optional_text, place};
 ghost use Rattle.sb_codec.specs.Messages.{spelling};
 
-use crate::message::{Ask, Hello, Message};
+use crate::message::{Ask, AskChange, Hello, Message};
 use sb_types::{
     BYTE_LENGTH, HEADER_LENGTH, KEY_LENGTH_MOST, Key, NAME_LENGTH_MOST, NUMBER_LENGTH, Name,
     VALUE_LENGTH_MOST, Write,
@@ -14,6 +14,12 @@ use sb_types::{
 
 /// The most bytes of the payload of an Ask: its kind, two names and two keys.
 const ASK_LENGTH_MOST: u64 = BYTE_LENGTH + 2 * NAME_LENGTH_MOST + 2 * KEY_LENGTH_MOST;
+
+/// The most bytes of the payload of an AskChange: its kind, a name, a prefix and a number.
+const ASK_CHANGE_LENGTH_MOST: u64 = BYTE_LENGTH
+    + NAME_LENGTH_MOST
+    + KEY_LENGTH_MOST
+    + NUMBER_LENGTH;
 
 /// The most bytes of the payload of a Put: its kind, a key, a tag and a value.
 const PUT_LENGTH_MOST: u64 = BYTE_LENGTH + KEY_LENGTH_MOST + BYTE_LENGTH + VALUE_LENGTH_MOST;
@@ -57,6 +63,14 @@ fn ask_length(ask: &Ask) -> u64
     BYTE_LENGTH + optional_name_length(ask.owner) + prefix_length + place_length(ask.after)
 }
 
+fn ask_change_length(asked: &AskChange) -> u64
+    ensures length { result ≡ length (spelling (Message.AskChange asked.now)) }
+    ensures most { result ≤ ASK_CHANGE_LENGTH_MOST }
+{
+    let prefix_length = BYTE_LENGTH + asked.prefix.bytes().len() as u64;
+    BYTE_LENGTH + optional_name_length(asked.owner) + prefix_length + NUMBER_LENGTH
+}
+
 fn put_length(write: &Write) -> u64
     ensures length { result ≡ length (spelling (Message.Put write.now)) }
     ensures most { result ≤ PUT_LENGTH_MOST }
@@ -81,6 +95,10 @@ pub(crate) fn payload_length(message: &Message) -> u64
         Message::Refused(_) => BYTE_LENGTH + BYTE_LENGTH,
         Message::AskStatus(_) => BYTE_LENGTH + NUMBER_LENGTH,
         Message::NodeStatus(status) => status.encoded_length(),
+        Message::AskChange(asked) => ask_change_length(asked),
+        Message::Notice(_) => BYTE_LENGTH + BYTE_LENGTH,
+        Message::AskAges => BYTE_LENGTH,
+        Message::Ages(ages) => ages.encoded_length(),
     }
 }
 

@@ -46,7 +46,7 @@ pub use decode::{decode_payload, decode_shared, takes_memory};
 pub use encode::{append_payload, encode_payload};
 pub use lengths::length;
 pub use message::{
-    Ask, AskStatus, Bye, Done, Figure, FigureKind, Hello, Message, NodeIdentity, NodeStatus,
-    PeerStatus, Refused, Row, Rows,
+    Ages, Ask, AskChange, AskStatus, Bye, Done, Figure, FigureKind, Hello, Message, NodeIdentity,
+    NodeStatus, Notice, OwnerAge, PeerStatus, Refused, Row, Rows,
 };
 pub use payloads::{one_payload_each, payloads_have_these_lengths};

@@ -1,9 +1,11 @@
 //! What counted lists contain.
 
 use crate::fields::Fields;
-use crate::message::{Figure, PeerStatus, Row};
+use crate::message::{Figure, OwnerAge, PeerStatus, Row};
 use crate::refusal::Refusal;
-use crate::writing::{write_block, write_entry, write_figure, write_pair, write_peer, write_row};
+use crate::writing::{
+    write_age, write_block, write_entry, write_figure, write_pair, write_peer, write_row,
+};
 use sb_digest::Pair;
 use sb_types::{Block, Entry};
 use std::alloc::{AllocError, Global};
@@ -210,5 +212,34 @@ impl ListItem for PeerStatus {
 
     fn write(&self, out: &mut Vec<u8>) -> Result<(), AllocError> {
         write_peer(out, self)
+    }
+}
+
+impl ListItem for OwnerAge {
+    ghost use Rattle.std.specs.Prelude.{◌<◌};
+    ghost use Rattle.std.proofs.Common.{lit<};
+    ghost use Rattle.sb_codec.specs.Spelling.{owner_age};
+    ghost use Rattle.sb_codec.specs.Reading.{age_field};
+    ghost use Rattle.sb_codec.specs.Least.{age_reached};
+
+    ghost spelling = { owner_age };
+
+    ghost field = { age_field };
+
+    ghost LEAST = { 10 };
+
+    // An owner of one byte with its length, and the age.
+    const LEAST: usize = 10;
+
+    ghost least = { lit< tt };
+
+    ghost reached = { age_reached };
+
+    fn read(_: Global, fields: &mut Fields<'_>) -> Result<OwnerAge, Refusal> {
+        fields.age()
+    }
+
+    fn write(&self, out: &mut Vec<u8>) -> Result<(), AllocError> {
+        write_age(out, self)
     }
 }

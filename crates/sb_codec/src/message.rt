@@ -3,7 +3,9 @@
 ghost use Rattle.std.specs.Prelude.{◌≡◌, [], ◌∷◌, take};
 ghost use Rattle.sb_codec.specs.Messages.{spelling};
 
+mod ages;
 mod ask;
+mod ask_change;
 mod ask_status;
 mod bye;
 mod done;
@@ -11,11 +13,14 @@ mod figure;
 mod hello;
 mod node_identity;
 mod node_status;
+mod notice;
 mod peer_status;
 mod refused;
 mod rows;
 
+pub use ages::{Ages, OwnerAge};
 pub use ask::Ask;
+pub use ask_change::AskChange;
 pub use ask_status::AskStatus;
 pub use bye::Bye;
 pub use done::Done;
@@ -23,13 +28,15 @@ pub use figure::{Figure, FigureKind};
 pub use hello::Hello;
 pub use node_identity::NodeIdentity;
 pub use node_status::NodeStatus;
+pub use notice::Notice;
 pub use peer_status::PeerStatus;
 pub use refused::Refused;
 pub use rows::{Row, Rows};
 use sb_digest::Digest;
 use sb_types::{
-    Delta, KIND_ASK, KIND_ASK_STATUS, KIND_BYE, KIND_DELTA, KIND_DIGEST, KIND_DONE, KIND_HELLO,
-    KIND_NODE_STATUS, KIND_PUT, KIND_REFUSED, KIND_ROWS, Write,
+    Delta, KIND_AGES, KIND_ASK, KIND_ASK_AGES, KIND_ASK_CHANGE, KIND_ASK_STATUS, KIND_BYE,
+    KIND_DELTA, KIND_DIGEST, KIND_DONE, KIND_HELLO, KIND_NODE_STATUS, KIND_NOTICE, KIND_PUT,
+    KIND_REFUSED, KIND_ROWS, Write,
 };
 
 /// A message between two nodes, or between a control socket and its caller.
@@ -66,6 +73,14 @@ pub enum Message {
     AskStatus(AskStatus),
     /// The answer to an AskStatus.
     NodeStatus(NodeStatus),
+    /// The question for the next change.
+    AskChange(AskChange),
+    /// An answer to an AskChange.
+    Notice(Notice),
+    /// The question how long ago each owner was heard.
+    AskAges,
+    /// The answer to an AskAges.
+    Ages(Ages),
 }
 
 impl Message {
@@ -86,6 +101,10 @@ impl Message {
             Message::Refused(_) => KIND_REFUSED,
             Message::AskStatus(_) => KIND_ASK_STATUS,
             Message::NodeStatus(_) => KIND_NODE_STATUS,
+            Message::AskChange(_) => KIND_ASK_CHANGE,
+            Message::Notice(_) => KIND_NOTICE,
+            Message::AskAges => KIND_ASK_AGES,
+            Message::Ages(_) => KIND_AGES,
         }
     }
 }

@@ -8,10 +8,10 @@ ghost use Rattle.sb_types.specs.Kinds.{Fits, shown};
 ghost use Rattle.sb_types.specs.Limits.{is_slot};
 ghost use Rattle.sb_codec.specs.Limits.{is_optional, is_place};
 ghost use Rattle.sb_codec.specs.Standing.{StandsFirst};
-ghost use Rattle.sb_codec.specs.Spelling.{number, text, long_text, list, flag, content, value, slot, entry, block, optional_text, pair, place, row, identity, figure, peer};
+ghost use Rattle.sb_codec.specs.Spelling.{number, text, long_text, list, flag, content, value, slot, entry, block, optional_text, pair, place, row, identity, figure, peer, owner_age};
 
 use crate::list_item::ListItem;
-use crate::message::{Figure, NodeIdentity, PeerStatus, Row};
+use crate::message::{Figure, NodeIdentity, OwnerAge, PeerStatus, Row};
 use sb_digest::Pair;
 use sb_types::{Block, ContentRef, Entry, Key, Name, Slot, TAG_REMOVED, Value};
 use std::alloc::AllocError;
@@ -252,4 +252,13 @@ pub(crate) fn write_peer(out: &mut Vec<u8>, written: &PeerStatus) -> Result<(), 
     write_text(out, written.path.bytes())?;
     write_byte(out, written.state)?;
     write_u64(out, written.round)
+}
+
+#[tactic(auto, using(crate::proofs::Standings::stands_on), unfolding(crate::specs::Spelling::owner_age))]
+pub(crate) fn write_age(out: &mut Vec<u8>, written: &OwnerAge) -> Result<(), AllocError>
+    ensures written { OnOk result (out.new.items ≡ out.old.items ++ owner_age written.now) }
+    ensures stands { StandsFirst out.old.items out.new.items }
+{
+    write_text(out, written.owner.bytes())?;
+    write_u64(out, written.age)
 }

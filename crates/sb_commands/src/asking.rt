@@ -1,13 +1,17 @@
 //! Requests to a running node, over its control socket.
 ghost use Rattle.std.specs.Prelude.{◌≡◌, ◌<◌};
 
+use crate::ages::{fresh_page, print_aged};
 use crate::failure::{Failure, FaultPlace, Obstacle};
 use crate::output::Output;
-use sb_codec::{Ask, Message, Rows};
+use sb_codec::{Ages, Ask, AskChange, Message, Rows};
 use sb_control::ask_control;
 use sb_frames::{Connection, Steps};
 use sb_listing::print_json_rows;
-use sb_query::{NoAnswer, Pager, PagingFault, ask_all, goes_on, page_in, print_rows, version_in};
+use sb_query::{
+    NoAnswer, Pager, PagingFault, ages_in, ask_all, goes_on, notice_in, page_in, print_rows,
+    version_in,
+};
 use sb_types::{Fault, KIND_ROWS, Key, Slot, Write};
 use std::alloc::Global;
 use std::io::{self, Read};
@@ -64,14 +68,9 @@ fn request_answer<K: Ledger>(
     ask_control(&mut connection, request)
 }
 
-/// Returns the answer of the node at a control socket. `ReadFailed` if the node cannot be reached, or is silent for a
-/// minute; then the faults of `ask_control`. If so many others wait at the socket that it takes no more, the call waits
-/// without limit.
-pub(crate) fn answer_of<'a>(
-    rt: &HostRuntime,
-    control: &'a str,
-    request: &Message,
-) -> Result<Message, Failure<'a>> {
+/// A connection to the node at a control socket. `ReadFailed` if the node cannot be reached. If so many others wait at the
+/// socket that it takes no more, the call waits without limit.
+fn connected<'a>(rt: &HostRuntime, control: &'a str) -> Result<UnixStream, Failure<'a>> {
     let stream = match UnixStream::connect(rt, control) {
         Ok(stream) => stream,
         Err(error) => {
@@ -82,9 +81,30 @@ pub(crate) fn answer_of<'a>(
     if limit(&stream).is_err() {
         return Err(Failure::at(FaultPlace::Control(control), Fault::ReadFailed));
     }
-    match request_answer::<Brand>(rt.alloc(), &stream, request, Blank::new(1)) {
+    Ok(stream)
+}
+
+/// Returns the answer of the node at a control socket. The faults of `connected`; `ReadFailed` if the node is silent for a
+/// minute; then the faults of `ask_control`.
+pub(crate) fn answer_of<'a>(
+    rt: &HostRuntime,
+    control: &'a str,
+    request: &Message,
+) -> Result<Message, Failure<'a>> {
+    let stream = connected(rt, control)?;
+    answer_over(rt, control, &stream, request)
+}
+
+/// Returns the answer of the node at the other end of a connection. The faults of `answer_of`.
+fn answer_over<'a>(
+    rt: &HostRuntime,
+    control: &'a str,
+    stream: &UnixStream,
+    request: &Message,
+) -> Result<Message, Failure<'a>> {
+    match request_answer::<Brand>(rt.alloc(), stream, request, Blank::new(1)) {
         Ok(answer) => Ok(answer),
-        Err(Fault::ReadFailed) if is_silent(&stream) => {
+        Err(Fault::ReadFailed) if is_silent(stream) => {
             Err(Failure::at(FaultPlace::Silent(control), Fault::ReadFailed))
         }
         Err(fault) => Err(Failure::at(FaultPlace::Control(control), fault)),
@@ -99,6 +119,30 @@ pub(crate) fn unanswered<'a>(control: &'a str, reason: NoAnswer) -> Failure<'a> 
             FaultPlace::Control(control),
             Fault::UnknownKind(kind),
         ),
+    }
+}
+
+/// A connection over which the node reports the next change, which it notes from here on. Whatever comes over it next says
+/// that something may have changed. The faults of `answer_of`; the node's refusal.
+pub(crate) fn noting_stream<'a>(
+    rt: &HostRuntime,
+    control: &'a str,
+    asked: &AskChange,
+) -> Result<UnixStream, Failure<'a>> {
+    let stream = connected(rt, control)?;
+    let answer = answer_over(rt, control, &stream, &Message::AskChange(*asked))?;
+    match notice_in(&answer) {
+        Ok(_) => Ok(stream),
+        Err(reason) => Err(unanswered(control, reason)),
+    }
+}
+
+/// How long ago the node heard each owner.
+pub fn ages_of<'a>(rt: &HostRuntime, control: &'a str) -> Result<Ages, Failure<'a>> {
+    let answer = answer_of(rt, control, &Message::AskAges)?;
+    match ages_in(answer) {
+        Ok(ages) => Ok(ages),
+        Err(reason) => Err(unanswered(control, reason)),
     }
 }
 
@@ -172,16 +216,28 @@ pub enum RowFormat {
     Json,
 }
 
-/// Prints the rows of a page. `NoMemory`; `WriteFailed`, with the number of bytes that the output took in all.
+/// What is asked of the ages of owners.
+#[derive(Clone, Copy)]
+pub struct AgeQuery {
+    /// Whether rows are printed with the ages of their owners.
+    pub are_shown: bool,
+    /// How many milliseconds ago an owner may have been heard at the most.
+    pub most: Option<u64>,
+}
+
+/// Prints the rows of a page, as JSON with the ages of their owners, if these are given. `NoMemory`; `WriteFailed`, with the
+/// number of bytes that the output took in all.
 pub(crate) fn print_page(
     rt: &HostRuntime,
     output: &mut Output<'_>,
     page: &Rows,
     format: RowFormat,
+    ages: Option<&Ages>,
 ) -> Result<(), Fault> {
-    let (printed, _) = match format {
-        RowFormat::Text => print_rows(rt.alloc(), output, page),
-        RowFormat::Json => print_json_rows(rt.alloc(), output, page),
+    let (printed, _) = match (format, ages) {
+        (RowFormat::Text, _) => print_rows(rt.alloc(), output, page),
+        (RowFormat::Json, Some(ages)) => return print_aged(rt.alloc(), output, page, ages),
+        (RowFormat::Json, None) => print_json_rows(rt.alloc(), output, page),
     };
     match printed {
         Err(Fault::WriteFailed(_)) => Err(Fault::WriteFailed(output.taken())),
@@ -195,6 +251,9 @@ struct Printer<'r, 'a> {
     rt: &'r HostRuntime,
     control: &'a str,
     format: RowFormat,
+    /// Of the owners, as of before the first page, if it needs them.
+    ages: Option<Ages>,
+    query: AgeQuery,
     output: Output<'r>,
 }
 
@@ -208,24 +267,40 @@ impl<'a> Pager for Printer<'_, 'a> {
     }
 
     fn take(&mut self, page: &Rows) -> Result<(), Failure<'a>> {
-        print_page(self.rt, &mut self.output, page, self.format)?;
+        let ages = self.ages.as_ref();
+        let shown = if self.query.are_shown { ages } else { None };
+        match (ages, self.query.most) {
+            (Some(heard), Some(most)) => {
+                let fresh = fresh_page(self.rt.alloc(), page, heard, most)?;
+                print_page(self.rt, &mut self.output, &fresh, self.format, shown)?;
+            }
+            _ => print_page(self.rt, &mut self.output, page, self.format, shown)?,
+        }
         Ok(())
     }
 }
 
-/// Prints the asked rows of a node, page after page, from the first on. If it ends with a fault, the rows that it
-/// printed before stay printed.
+/// Prints the asked rows of a node, page after page, from the first on, without those of owners that are older than asked.
+/// If it ends with a fault, the rows that it printed before stay printed.
 pub fn print_all<'a>(
     rt: &HostRuntime,
     control: &'a str,
     asked: Ask,
     format: RowFormat,
+    query: AgeQuery,
 ) -> Result<(), Failure<'a>> {
+    let ages = if query.are_shown || query.most.is_some() {
+        Some(ages_of(rt, control)?)
+    } else {
+        None
+    };
     let output = Output::new(rt);
     let mut printer = Printer {
         rt,
         control,
         format,
+        ages,
+        query,
         output,
     };
     take_all(control, &mut printer, asked)

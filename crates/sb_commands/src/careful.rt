@@ -181,6 +181,11 @@ impl<'a> CarefulWatch<'a> {
         Ok(())
     }
 
+    /// Whether time alone may change what it shows: rows are missing, or are not yet shown.
+    pub(crate) fn waits_for_time(&self) -> bool {
+        self.since.is_some() || self.kept.iter().any(|one| one.missing.is_some())
+    }
+
     /// Takes a listing, and shows what is to be shown once it has settled. `NoMemory`; `WriteFailed`.
     pub(crate) fn take(
         &mut self,

@@ -188,6 +188,11 @@ impl<'a> Failure<'a> {
             _ => false,
         }
     }
+
+    /// Whether nobody could be reached at the control socket.
+    pub(crate) fn is_unreached(&self) -> bool {
+        matches!(self.place, FaultPlace::Unreached(..))
+    }
 }
 
 impl From<AllocError> for Failure<'_> {

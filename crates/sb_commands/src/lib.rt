@@ -11,7 +11,11 @@
 //!         prefix,
 //!         after,
 //!     };
-//!     print_all(rt, control, asked, RowFormat::Text)
+//!     let ages = AgeQuery {
+//!         are_shown: false,
+//!         most: None,
+//!     };
+//!     print_all(rt, control, asked, RowFormat::Text, ages)
 //! }
 //! ```
 //!
@@ -36,11 +40,13 @@
 #![tactic(auto)]
 
 mod advice;
+mod ages;
 mod asking;
 mod batch;
 mod beginning;
 mod care;
 mod careful;
+mod change_source;
 mod failure;
 mod keeping;
 mod lagging;
@@ -55,17 +61,19 @@ mod rendered_file;
 mod rendering;
 mod replacing;
 mod restoring;
+mod socket_stamp;
 mod status;
 mod template;
 mod watching;
 mod words;
 
 pub use advice::{ABOUT_LOSS, about_cause};
-pub use asking::{RowFormat, print_all, put};
+pub use asking::{AgeQuery, RowFormat, ages_of, print_all, put};
 pub use batch::write_lines;
 pub use beginning::{Start, begin_log};
 pub use care::Caution;
 pub use careful::{CarefulWatch, View};
+pub use change_source::WatchPace;
 pub use failure::{Failure, FaultPlace, Obstacle};
 pub use log_file::{
     DroppedRemovals, FileLog, Floor, StartPurge, error_of, has_folder, open_log, print_log,

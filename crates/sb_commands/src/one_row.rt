@@ -72,7 +72,7 @@ pub fn print_one<'a>(
     match query.portion {
         Portion::Row(format) => {
             let page = page_with(rt.alloc(), row)?;
-            print_page(rt, &mut Output::new(rt), &page, format)?;
+            print_page(rt, &mut Output::new(rt), &page, format, None)?;
         }
         Portion::Value => print_value(rt, row.value(), false)?,
         Portion::RawValue => print_value(rt, row.value(), true)?,

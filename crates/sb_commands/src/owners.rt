@@ -3,9 +3,10 @@ ghost use Rattle.std.specs.Prelude.{◌≡◌, ◌<◌, IfOk, IfErr};
 ghost use Rattle.sb_session.specs.Handlers.{IsRefusal};
 ghost use Rattle.sb_commands.specs.Owners as spec;
 
+use crate::ages::age_of;
 use crate::asking::{READS_OF_ONE, is_silent, limit};
 use crate::failure::{Failure, FaultPlace, Obstacle};
-use sb_codec::{Bye, Message};
+use sb_codec::{Ages, Bye, Message};
 use sb_digest::{Digest, Pair};
 use sb_frames::{Connection, Steps};
 use sb_holdings::Report;
@@ -181,11 +182,19 @@ fn hear_from<L: Ledger>(
     hear_all(&mut connection, session, heard)
 }
 
-/// Prints how far each owner is held, a line for each. `NoMemory`; `WriteFailed`.
-fn print_pairs(rt: &HostRuntime, pairs: &[Pair]) -> Result<(), Fault> {
+/// Prints how far each owner is held, a line for each, and the age of the owner after it if ages are given. `-` is the age of
+/// an owner without one. `NoMemory`; `WriteFailed`.
+fn print_pairs(rt: &HostRuntime, pairs: &[Pair], ages: Option<&Ages>) -> Result<(), Fault> {
     for pair in pairs {
         let name = str::from_utf8(pair.owner.bytes()).unwrap_or("");
-        if println!(rt; "{name} {}", pair.upto).is_err() {
+        let printed = match ages {
+            None => println!(rt; "{name} {}", pair.upto),
+            Some(ages) => match age_of(ages, &pair.owner) {
+                Some(age) => println!(rt; "{name} {} {age}", pair.upto),
+                None => println!(rt; "{name} {} -", pair.upto),
+            },
+        };
+        if printed.is_err() {
             return Err(Fault::WriteFailed(0));
         }
     }
@@ -222,15 +231,17 @@ fn ask_pairs<'a>(
     }
 }
 
-/// Asks the same, and prints how far each owner is held. The faults of `ask_pairs`; `WriteFailed`.
+/// Asks the same, and prints how far each owner is held, with its age if ages are given. The faults of `ask_pairs`;
+/// `WriteFailed`.
 pub fn print_owners<'a>(
     rt: &HostRuntime,
     sock: &'a str,
     cluster: Name,
     name: Name,
+    ages: Option<&Ages>,
 ) -> Result<(), Failure<'a>> {
     let pairs = ask_pairs(rt, sock, cluster, name)?;
-    Ok(print_pairs(rt, &pairs)?)
+    Ok(print_pairs(rt, &pairs, ages)?)
 }
 
 /// The greatest version in a pair, if it is this owner's: one that is held, a floor, or one of a table that has not come

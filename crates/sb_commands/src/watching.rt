@@ -1,26 +1,25 @@
-//! What changes at a running node, which a watch asks again and again.
+//! What changes at a running node, which a watch asks each time that something may have changed.
 use crate::asking::{page_of, take_all};
 use crate::careful::CarefulWatch;
+use crate::change_source::{ChangeSource, WatchPace};
 use crate::failure::{Failure, FaultPlace};
 use crate::keeping::{copy_of, kept_rows};
 use crate::lagging::{Lag, differing_owners};
-use crate::pausing::Pauses;
 use crate::reaches::{OwnerReach, enter_printed, enter_shown, forget_shown};
+use crate::socket_stamp::{SocketStamp, stamp_of};
 use crate::status::is_caught_up;
 use sb_codec::{Ask, Row, Rows};
 use sb_listing::{RowChange, changes, print_changes};
 use sb_query::Pager;
 use sb_types::{Fault, Key, Name};
 use std::alloc::Global;
-use std::fs::metadata;
-use std::os::unix::fs::MetadataExt;
 
 /// What a watch asks for, and how often.
 #[derive(Clone, Copy)]
 pub struct WatchQuery {
     pub asked: Ask,
-    /// How many milliseconds it waits before it asks again.
-    pub every: u64,
+    /// How it waits before it asks again.
+    pub pace: WatchPace,
     /// How many times it asks. 0 is for without end.
     pub count: u64,
     /// Whether it prints `asked` after each asking.
@@ -85,16 +84,8 @@ fn print_difference(
     Ok(())
 }
 
-/// Waits until it is time to ask again. `WriteFailed` if standard output is closed.
-fn wait(rt: &HostRuntime, pauses: &mut Pauses) -> Result<(), Fault> {
-    if pauses.wait(rt) {
-        return Err(Fault::WriteFailed(0));
-    }
-    Ok(())
-}
-
-/// Asks a node for rows again and again, and prints what changed since the last asking. The first time it prints each
-/// row. The first fault of an asking ends it, also a later one, and it prints nothing of a listing whose pages did not
+/// Asks a node for rows each time that something may have changed, and prints what changed since the last asking. The first
+/// time it prints each row. The first fault of an asking ends it, also a later one, and it prints nothing of a listing whose pages did not
 /// all come. `WriteFailed`, also if standard output was closed since it asked.
 pub fn watch<'a>(
     rt: &HostRuntime,
@@ -105,37 +96,18 @@ pub fn watch<'a>(
         0 => u64::MAX,
         count => count,
     };
-    let mut pauses = Pauses::new(rt, query.every)?;
+    let mut source = ChangeSource::new(rt, control, &query.asked, query.pace)?;
     let mut last = Vec::new(rt.alloc());
     for turn in 0..turns {
         if turn > 0 {
-            wait(rt, &mut pauses)?;
+            source.wait(false)?;
         }
+        source.begin();
         let rows = listing(rt, control, &query.asked)?;
         print_difference(rt, &changes(rt.alloc(), &last, &rows)?, query.prints_asked)?;
         last = rows;
     }
     Ok(())
-}
-
-/// Identifies the socket at a path. Each start of a node makes another one.
-#[derive(Clone, Copy, PartialEq, Eq, Drop)]
-struct SocketStamp {
-    device: u64,
-    file: u64,
-    seconds: i64,
-    nanoseconds: i64,
-}
-
-/// The socket at a path, if there is one.
-fn stamp_of(rt: &HostRuntime, path: &str) -> Option<SocketStamp> {
-    let found = metadata(rt, path).ok()?;
-    Some(SocketStamp {
-        device: found.dev(),
-        file: found.ino(),
-        seconds: found.mtime(),
-        nanoseconds: found.mtime_nsec(),
-    })
 }
 
 /// The rows that were printed, and what the node has shown since its last start. If the watch is careful, they count as
@@ -259,6 +231,14 @@ impl<'a> PrintedRows<'a> {
         Ok(!is_caught_up)
     }
 
+    /// Whether time alone may change what is shown.
+    fn waits_for_time(&self) -> bool {
+        match &self.careful {
+            Some(careful) => self.is_waiting || careful.waits_for_time(),
+            None => false,
+        }
+    }
+
     /// The rows that the node shows. `None` if it is not caught up, and the watch is careful.
     fn found_rows<'b>(
         &mut self,
@@ -309,9 +289,9 @@ impl<'a> PrintedRows<'a> {
 
 /// Does what `watch` does, and goes on if the node does not answer. What was printed stays.
 ///
-/// It prints that a row is gone only if the node knows it. The node knows it if at an earlier asking,
-/// since its last start, it has shown that owner by a row of the same version or a later one. It does not print a row of an earlier
-/// version than it printed before. It ends after `count` askings that were answered.
+/// It prints that a row is gone only if the node knows it. The node knows it if it showed a row of that owner with the same
+/// version or a later one, at an earlier asking since its last start. It does not print a row of an earlier version than
+/// it printed before. It ends after `count` askings that were answered.
 ///
 /// If the watch is careful, it takes no rows before the node is caught up.
 pub fn watch_on<'a>(
@@ -320,14 +300,15 @@ pub fn watch_on<'a>(
     query: &WatchQuery,
     careful: Option<CarefulWatch<'a>>,
 ) -> Result<(), Failure<'a>> {
-    let mut pauses = Pauses::new(rt, query.every)?;
+    let mut source = ChangeSource::new(rt, control, &query.asked, query.pace)?;
     let mut printed = PrintedRows::new(rt.alloc(), careful);
     for _ in 0..u64::MAX {
+        source.begin();
         printed.ask(rt, control, query)?;
         if query.count > 0 && printed.count >= query.count {
             return Ok(());
         }
-        wait(rt, &mut pauses)?;
+        source.wait(printed.waits_for_time())?;
     }
     Err(Failure::at(FaultPlace::Control(control), Fault::TurnsSpent))
 }

@@ -1,6 +1,6 @@
 //! The example in the docs of the commands.
 use sb_codec::Ask;
-use sb_commands::{Failure, RowFormat, key_of, prefix_of, print_all, put, value_of};
+use sb_commands::{AgeQuery, Failure, RowFormat, key_of, prefix_of, print_all, put, value_of};
 use sb_types::Slot;
 use std::alloc::Global;
 use std::process::Abort;
@@ -15,7 +15,11 @@ fn set_and_list<'a>(rt: &HostRuntime, control: &'a str) -> Result<(), Failure<'a
         prefix,
         after,
     };
-    print_all(rt, control, asked, RowFormat::Text)
+    let ages = AgeQuery {
+        are_shown: false,
+        most: None,
+    };
+    print_all(rt, control, asked, RowFormat::Text, ages)
 }
 
 /// The text of what ended a command. It is empty if nothing did.

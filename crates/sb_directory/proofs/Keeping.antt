@@ -2,6 +2,7 @@
 use Rattle.std.proofs.Common.{◌≡◌, ℕ, ◌+◌, ◌<◌, ◌^◌, ◌==◌, Bool, true, false, cond, not, List, [], ◌∷◌, ◌++◌, map, flat_map, Result, Ok, Err, MatchResult, le-leb, leb-true, eqb-true, refl, sym, ap, subst, ◌∙◌, arith, append-nil}
 use Rattle.std.proofs.lemmas.Grind.{flat_map-append}
 use Rattle.std.specs.FinMap.{contains_key}
+use Rattle.std.specs.List.{AllByRecursion}
 use mathlib.Core.List.{IsPrefix}
 use Rattle.sb_types.specs.declared.fault.Fault.{Fault}
 use Rattle.sb_types.specs.declared.fault.Fault.TheVariants.{OutOfTurn}
@@ -34,10 +35,12 @@ use Rattle.sb_views.proofs.Growing.{grown-on, own-grown, delta-grown}
 use Rattle.sb_views.proofs.Leading.{own-leads}
 use Rattle.sb_views.proofs.Purged.{purged-grown}
 use Rattle.sb_directory.specs.Lacking.{LackingOwners, since_of, with_owner, HasOwners, AreSince}
-use Rattle.sb_directory.specs.Notes.{note_of, with_notes, entered_of, versions_of, is_held}
-use Rattle.sb_directory.specs.ViewedNodes.{ViewedNode, IsViewedNode, after_own, after_purge, after_delta, with_published, with_hub}
+use Rattle.sb_directory.specs.Notes.{note_of, with_notes, notes_of_blocks, versions_of, is_held}
+use Rattle.sb_directory.specs.ViewedNodes.{ViewedNode, IsViewedNode, after_own, after_purge, after_delta, with_published, with_watches}
 use Rattle.sb_directory.proofs.Lacking.{add-has, added-since, own-since, purge-since, delta-since}
+use Rattle.sb_directory.specs.Watching.{DirectoryWatch, notes_of_event, IsWatched}
 use Rattle.sb_directory.proofs.Noting.{noted-held, since-held}
+use Rattle.sb_directory.proofs.Watching.{all-still}
 
 -- ---- the history
 
@@ -73,7 +76,7 @@ notes-raised old new hub grown notes =
 -- with what is lacked noted otherwise
 pub noted : (opening : Node) (queued : List Event) (lacking more : LackingOwners) (l : ViewedNode) → IsViewedNode opening queued lacking l
     → AreSince (node_after opening queued).held l.core.node.held more → IsViewedNode opening queued more l
-noted opening queued lacking more l is since = record { node = is.node; begins = is.begins; grown = is.grown; since = since; notes = is.notes }
+noted opening queued lacking more l is since = record { node = is.node; begins = is.begins; grown = is.grown; since = since; notes = is.notes; watches = is.watches }
 
 -- the version of an owner is read of the node, and the floor of what it holds
 pub since-read : (held lent : Held) (owner : List ℕ) (version floor : ℕ) → version ≡ (shown_of held owner).held → floor ≡ (shown_of lent owner).floor → lent ≡ held
@@ -104,7 +107,7 @@ own-held held e next =
     sym (own-leads held e next held.me).held
     ∙ ap (λ (b : Bool). (table_with_all (shown_of held held.me) (map (λ (p : List ℕ × Change). p.1) (cond b ((held.me, Enter e) ∷ []) []))).held) (text_same held.me held.me refl)
 
-own-noted : (held : Held) (e : Entry) → e.version ≡ (shown_of held held.me).held + 1 → is_held (held_after_write held e) (note_of (held.me, e)) ≡ true
+own-noted : (held : Held) (e : Entry) → e.version ≡ (shown_of held held.me).held + 1 → is_held (held_after_write held e) (note_of held.me e) ≡ true
 own-noted held e next = le-leb e.version (shown_of (held_after_write held e) held.me).held (omega (arith, own-held held e next))
 
 module _ (opening : Node) (queued : List Event) (lacking : LackingOwners) (old : ViewedNode) (is : IsViewedNode opening queued lacking old) (holds : IsHoldings old.core.node.held) where
@@ -119,17 +122,19 @@ module _ (opening : Node) (queued : List Event) (lacking : LackingOwners) (old :
       begins = begins-longer queued old.history (TookOwn e) is.begins;
       grown = grown-on (node_after opening queued).held old.core.node.held (held_after_write old.core.node.held e) is.grown (own-grown old.core.node.held e holds);
       since = own-since lacking (node_after opening queued).held old.core.node.held e has is.since;
-      notes = noted-held (held_after_write old.core.node.held e) old.hub ((old.core.node.held.me, e) ∷ [])
+      notes = noted-held (held_after_write old.core.node.held e) old.hub (note_of old.core.node.held.me e ∷ [])
           (notes-raised old.core.node.held (held_after_write old.core.node.held e) old.hub (own-grown old.core.node.held e holds) is.notes)
           (own-noted old.core.node.held e next, tt);
+      watches = all-still opening old.history (TookOwn e) old.hub (with_notes old.hub (note_of old.core.node.held.me e ∷ [])) old.watches is.watches
+          (ap (λ (n : Node). with_notes old.hub (notes_of_event n (TookOwn e))) is.node);
     }
 
     -- so it is wherever the core, the history and the watches are these
     pub own-there : (core : Core) (history : List Event) (hub : Hub) (published : List Event) → core ≡ with_node old.core (node_after_event old.core.node (Wrote e))
-        → history ≡ old.history ++ TookOwn e ∷ [] → hub ≡ with_notes old.hub ((old.core.node.held.me, e) ∷ [])
-        → IsViewedNode opening queued lacking (record { core = core; hub = hub; history = history; published = published })
+        → history ≡ old.history ++ TookOwn e ∷ [] → hub ≡ with_notes old.hub (note_of old.core.node.held.me e ∷ [])
+        → IsViewedNode opening queued lacking (record { core = core; hub = hub; watches = old.watches; history = history; published = published })
     own-there core history hub published taken longer seen =
-        subst (IsViewedNode opening queued lacking) (λ i. record { core = sym taken i; hub = sym seen i; history = sym longer i; published = published }) (own-locked published)
+        subst (IsViewedNode opening queued lacking) (λ i. record { core = sym taken i; hub = sym seen i; watches = old.watches; history = sym longer i; published = published }) (own-locked published)
 
   module _ (floor : ℕ) (has : contains_key lacking old.core.node.held.me ≡ true) where
     pub purge-locked : (published : List Event) → IsViewedNode opening queued lacking (after_purge old floor published)
@@ -141,14 +146,15 @@ module _ (opening : Node) (queued : List Event) (lacking : LackingOwners) (old :
           grown = grown-on (node_after opening queued).held old.core.node.held (purged_own old.core.node.held floor) is.grown grown;
           since = purge-since lacking (node_after opening queued).held old.core.node.held floor has is.since;
           notes = notes-raised old.core.node.held (purged_own old.core.node.held floor) old.hub grown is.notes;
+          watches = all-still opening old.history (Purged floor) old.hub old.hub old.watches is.watches refl;
         }
 
     -- so it is wherever the core and the history are these
     pub purge-there : (core : Core) (history : List Event) (published : List Event) → core ≡ with_node old.core (node_after_event old.core.node (node_events.Purged floor))
         → history ≡ old.history ++ Purged floor ∷ []
-        → IsViewedNode opening queued lacking (record { core = core; hub = old.hub; history = history; published = published })
+        → IsViewedNode opening queued lacking (record { core = core; hub = old.hub; watches = old.watches; history = history; published = published })
     purge-there core history published purged longer =
-        subst (IsViewedNode opening queued lacking) (λ i. record { core = sym purged i; hub = old.hub; history = sym longer i; published = published }) (purge-locked published)
+        subst (IsViewedNode opening queued lacking) (λ i. record { core = sym purged i; hub = old.hub; watches = old.watches; history = sym longer i; published = published }) (purge-locked published)
 
   module _ (blocks : List Block) (ends : List BlockEnd) (delta : is_delta blocks ≡ true) (treats : Treats old.core.node blocks ends)
       (after : IsHoldings (replay_node old.core.node (took_each blocks ends)).held) (has : HasOwners lacking blocks) where
@@ -161,23 +167,25 @@ module _ (opening : Node) (queued : List Event) (lacking : LackingOwners) (old :
           begins = begins-longer queued old.history (Applied blocks ends) is.begins;
           grown = grown-on (node_after opening queued).held old.core.node.held new.held is.grown grown;
           since = delta-since lacking (node_after opening queued).held old.core.node blocks ends has is.since;
-          notes = noted-held new.held old.hub (entered_of blocks old.core.node.held new.held)
+          notes = noted-held new.held old.hub (notes_of_blocks blocks old.core.node.held new.held)
               (notes-raised old.core.node.held new.held old.hub grown is.notes)
               (since-held new.held (versions_of old.core.node.held blocks) after);
+          watches = all-still opening old.history (Applied blocks ends) old.hub (with_notes old.hub (notes_of_blocks blocks old.core.node.held new.held)) old.watches is.watches
+              (ap (λ (n : Node). with_notes old.hub (notes_of_event n (Applied blocks ends))) is.node);
         }
 
     pub delta-there : (core : Core) (history : List Event) (hub : Hub) (published : List Event) → core ≡ with_node old.core (replay_node old.core.node (took_each blocks ends))
         → history ≡ old.history ++ Applied blocks ends ∷ []
-        → hub ≡ with_notes old.hub (entered_of blocks old.core.node.held (replay_node old.core.node (took_each blocks ends)).held)
-        → IsViewedNode opening queued lacking (record { core = core; hub = hub; history = history; published = published })
+        → hub ≡ with_notes old.hub (notes_of_blocks blocks old.core.node.held (replay_node old.core.node (took_each blocks ends)).held)
+        → IsViewedNode opening queued lacking (record { core = core; hub = hub; watches = old.watches; history = history; published = published })
     delta-there core history hub published taken longer seen =
-        subst (IsViewedNode opening queued lacking) (λ i. record { core = sym taken i; hub = sym seen i; history = sym longer i; published = published }) (delta-locked published)
+        subst (IsViewedNode opening queued lacking) (λ i. record { core = sym taken i; hub = sym seen i; watches = old.watches; history = sym longer i; published = published }) (delta-locked published)
 
 -- ---- what changes nothing of the node
 
 pub moved : (opening : Node) (queued later : List Event) (lacking left : LackingOwners) (l : ViewedNode) (published : List Event) → IsViewedNode opening queued lacking l → IsPrefix later l.history
     → AreGrown (node_after opening later).held l.core.node.held → AreSince (node_after opening later).held l.core.node.held left → IsViewedNode opening later left (with_published l published)
-moved opening queued later lacking left l published is begins grown since = record { node = is.node; begins = begins; grown = grown; since = since; notes = is.notes }
+moved opening queued later lacking left l published is begins grown since = record { node = is.node; begins = begins; grown = grown; since = since; notes = is.notes; watches = is.watches }
 
 queued-stays : (end : Result (Unit {0}) Fault) (views new : Views) → MatchResult end (λ _. new ≡ record { published = views.queued; queued = views.queued }) (λ _. new ≡ views) → new.queued ≡ views.queued
 queued-stays (Ok u) views new step = ap (λ (v : Views). v.queued) step
@@ -192,6 +200,7 @@ published-there opening queued lacking left l views new end is all grown since s
     moved opening queued views.queued lacking left l new.published is (subst (λ (h : List Event). IsPrefix views.queued h) all (prefix_self views.queued)) grown since in
     subst (λ (q : List Event). IsViewedNode opening q left (with_published l new.published)) (sym (queued-stays end views new step)) here
 
-pub hub-locked : (opening : Node) (queued : List Event) (lacking : LackingOwners) (l : ViewedNode) (hub : Hub) → IsViewedNode opening queued lacking l → AllNotes (is_held l.core.node.held) hub
-    → IsViewedNode opening queued lacking (with_hub l hub)
-hub-locked opening queued lacking l hub is notes = record { node = is.node; begins = is.begins; grown = is.grown; since = is.since; notes = notes }
+pub watches-locked : (opening : Node) (queued : List Event) (lacking : LackingOwners) (l : ViewedNode) (hub : Hub) (watches : List DirectoryWatch) → IsViewedNode opening queued lacking l
+    → AllNotes (is_held l.core.node.held) hub → AllByRecursion (IsWatched opening l.history hub) watches → IsViewedNode opening queued lacking (with_watches l hub watches)
+watches-locked opening queued lacking l hub watches is notes all =
+    record { node = is.node; begins = is.begins; grown = is.grown; since = is.since; notes = notes; watches = all }

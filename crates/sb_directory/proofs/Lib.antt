@@ -1,4 +1,5 @@
 pub mod Noting
+pub mod Watching
 pub mod Batches
 pub mod Rising
 pub mod Lacking

@@ -1,5 +1,6 @@
 pub mod Lacking
 pub mod Notes
+pub mod Watching
 pub mod ViewedNodes
 pub mod Seats
 pub mod Serving

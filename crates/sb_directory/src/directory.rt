@@ -14,13 +14,15 @@ ghost use Rattle.sb_views.specs.declared.event.Event.TheVariants as events;
 ghost use Rattle.sb_watch.specs.declared.note.Polled.TheVariants as answers;
 ghost use Rattle.sb_watch.specs.declared.note.Note.{Note};
 ghost use Rattle.sb_watch.specs.Records.{Hub};
-ghost use Rattle.sb_watch.specs.Hubs.{new_hub, next_id, has_watch, answer_at};
+ghost use Rattle.sb_watch.specs.Hubs.{new_hub, has_watch, answer_at};
 ghost use Rattle.sb_directory.specs.Audits.{Audits};
 ghost use Rattle.sb_directory.specs.Purging as purging;
 ghost use Rattle.sb_directory.specs.Seats as spec;
 ghost use Rattle.sb_directory.specs.Serving.{AnswersAfter};
+ghost use Rattle.sb_directory.specs.Watching.{SaysOf, reports, watch_given};
 
 use crate::difference::Difference;
+use crate::directory_watch::DirectoryWatch;
 use crate::receipt::{Applied, Closing, Purge, Receipt};
 use crate::seat::ReaderSeat;
 use crate::shares::seat_all;
@@ -32,7 +34,7 @@ use sb_log::Committed;
 use sb_node::NodeCore;
 use sb_types::{Block, Delta, Fault, Name, SEATS_MOST, Settings};
 use sb_views::{NewHistory, views};
-use sb_watch::{Filter, Polled, WatchId};
+use sb_watch::{Filter, Polled};
 use std::alloc::Global;
 use std::marker::PhantomData;
 use std::sync::ledger::Blank;
@@ -108,6 +110,7 @@ impl<S: DirectoryTag, R: Wait + Drop> Directory<S, R> {
     fn of(node: ViewedNode<S, R>, identity: Identity<S>) -> Directory<S, R>
         requires history { node.history ≡ [] }
         requires hub { node.hub ≡ new_hub }
+        requires watches { node.watches ≡ [] }
     {
         Directory {
             node: Mutex::new(node),
@@ -160,8 +163,9 @@ impl<S: DirectoryTag, R: Wait + Drop> Directory<S, R> {
         self.node.lock(rt).take_own(seat, committed)
     }
 
-    /// Takes each block of a delta in turn, notes each entry that it entered in watches, and publishes all that happened. It gives
-    /// how the blocks ended, and says whether the seat has seen it. If it has not, the next call that publishes makes up for it.
+    /// Takes each block of a delta in turn, and publishes all that happened. It notes each entry that it entered in watches,
+    /// and each table that it replaced. It gives how the blocks ended, and says whether the seat has seen it. If it has not,
+    /// the next call that publishes makes up for it.
     /// `TurnsSpent` after 2^64 - 1 events; `NoMemory` if there is no room for the ends, or to note whose writes watches and views
     /// lack. Each changes nothing except the seat's last call.
     pub fn apply<Q: Wait>(
@@ -331,20 +335,41 @@ impl<S: DirectoryTag, R: Wait + Drop> Directory<S, R> {
         node.core().key_count()
     }
 
-    /// Adds a watch with room for 1 to 1,024 notes, and gives its id, by which any seat may poll it. `BadSetting` if the room is
-    /// outside these; `WatchesFull` if there are 64 watches, or all ids were used; `NoMemory`. Each leaves everything as it was. The
-    /// command `attrdir watch` uses no watch: it asks for pages.
-    pub fn watch<Q: Wait>(&self, rt: &Q, filter: Filter, capacity: usize) -> Result<WatchId, Fault>
-        ensures { (hub : Hub) × Gives result (next_id hub capacity) × ((fault : Fault) → next_id hub capacity ≡ Err fault → result ≡ Err fault) }
+    /// Adds a watch with room for 1 to 1,024 notes. It reports each change from here on that its filter is for: of a key, or of a
+    /// table that was replaced. Any seat may poll it. `BadSetting` if the room is outside these; `WatchesFull` if there are 64
+    /// watches, or all ids were used; `NoMemory`. Each leaves everything as it was.
+    pub fn watch<Q: Wait>(
+        &self,
+        rt: &Q,
+        filter: Filter,
+        capacity: usize,
+    ) -> Result<DirectoryWatch<S>, Fault>
+        ensures { (hub : Hub) × (history : List Event) × Gives result (watch_given hub filter capacity history)
+            × ((fault : Fault) → watch_given hub filter capacity history ≡ Err fault → result ≡ Err fault) }
     {
         self.node.lock(rt).watch(filter, capacity)
     }
 
-    /// Drops a watch with its notes. `NoWatch` if there is no watch with the id, which changes nothing.
-    pub fn unwatch<Q: Wait>(&self, rt: &Q, id: WatchId) -> Result<(), Fault>
-        ensures { (hub : Hub) × (result ≡ (if has_watch hub id then Ok tt else Err Fault.NoWatch)) }
+    /// Whether any watch has a note. It takes no memory, and is not noted as a call of a seat.
+    pub fn has_notes<Q: Wait>(&self, rt: &Q) -> bool {
+        self.node.lock(rt).has_notes()
+    }
+
+    /// Publishes all that happened, and says whether anything changed that a watch is for. So whoever reads then sees the change.
+    /// What counts is what came since the watch was added, or since a poll left it without notes. `NoWatch` if it is not a watch of this directory, before anything is published; `NoMemory` if there is none to publish what happened. It
+    /// is not noted as a call of a seat.
+    pub fn has_note<Q: Wait>(&self, rt: &Q, watch: &DirectoryWatch<S>) -> Result<bool, Fault>
+        ensures says { IfOk result (λ has_note. (history : List Event) × SaysOf S.opening history watch.now has_note) }
+        ensures fault { IfErr result (λ fault. fault ≢ Fault.NoWatch → fault ≡ Fault.NoMemory) }
     {
-        self.node.lock(rt).unwatch(id)
+        self.node.lock(rt).has_note(watch)
+    }
+
+    /// Drops a watch with its notes. `NoWatch` if it is not a watch of this directory, which changes nothing.
+    pub fn unwatch<Q: Wait>(&self, rt: &Q, watch: &DirectoryWatch<S>) -> Result<(), Fault>
+        ensures { (hub : Hub) × (result ≡ (if has_watch hub watch.now.id then Ok tt else Err Fault.NoWatch)) }
+    {
+        self.node.lock(rt).unwatch(watch.id())
     }
 
     /// Publishes all that happened, and says whether the seat has seen it. Then it has seen at least as many events as its own calls
@@ -362,16 +387,20 @@ impl<S: DirectoryTag, R: Wait + Drop> Directory<S, R> {
 
     /// Publishes all that happened, lets the seat see it, and gives the watch's next answer, one a call. If the watch lost notes
     /// since its last `Lagged`, the answer is `Lagged` with how many. Else it is `Note` with its oldest note, which it then no longer has;
-    /// else `Empty`. `NoWatch` if there is no watch with the id, before anything is published: it is the seat's last call, and
-    /// nothing else changes. `NoMemory` if there is none to publish what happened, or the seat can't enter: then the note is still to
-    /// come.
+    /// else `Empty`. It is `Empty` exactly if nothing that the watch is for changed since it was added, or since a poll left it
+    /// without notes. `NoWatch` if it is not a watch of this directory, before anything is published: it is
+    /// the seat's last call, and nothing else changes. `NoMemory` if there is none to publish what happened, or the seat can't enter:
+    /// then the note is still to come.
     pub fn poll<Q: Wait>(
         &self,
         rt: &Q,
         seat: &mut ReaderSeat<S>,
-        id: WatchId,
+        watch: &mut DirectoryWatch<S>,
     ) -> Result<Polled, Fault>
-        ensures answer { (hub : Hub) × Gives result (answer_at hub id) × IfErr (answer_at hub id) (λ fault. result ≡ Err fault) }
+        ensures answer { OnOk result ((hub : Hub) × (result ≡ answer_at hub watch.old.id)) }
+        ensures says { IfOk result (λ polled. SaysOf S.opening seat.new.last_call watch.old (reports polled)) }
+        ensures fault { IfErr result (λ fault. fault ≢ Fault.NoWatch → fault ≡ Fault.NoMemory) }
+        ensures err { OnErr result (watch.new ≡ watch.old) }
         ensures seat { result ≡ Err Fault.NoWatch → seat.new ≡ spec.with_last_call seat.old seat.new.last_call }
         ensures held { (note : Note) → result ≡ Ok (answers.Note note) → note.version ≤ (shown_of (node_after S.opening seat.new.seen).held note.owner).held }
         ensures seen { OnOk result (seat.new.seen ≡ seat.new.last_call) }
@@ -380,7 +409,7 @@ impl<S: DirectoryTag, R: Wait + Drop> Directory<S, R> {
         ensures grows { IsPrefix seat.old.seen seat.new.seen }
         ensures count { seat.new.events ≡ seat.old.events }
     {
-        self.node.lock(rt).poll(seat, id)
+        self.node.lock(rt).poll(seat, watch)
     }
 
     /// Ends a directory, and gives its node, whose settings are as they were, with the number of events. `BadSetting` if these are

@@ -59,11 +59,12 @@
 //! - A directory adds events to its history that no call made. Only `close` counts events, and a node that runs
 //!   forever never calls it. Clauses of `ViewedNode` and tests refuse it.
 //! - A refused `Directory::close` adds a watch of its own. Nothing refuses it.
-//! - `Directory::watch` returns an id without a watch, or drops the watch again. Tests in
-//!   `crates/sb_directory_tests` refuse it.
+//! - `Directory::watch` drops the watch again by a second call, so `has_note` and `poll` return `NoWatch`. Private clauses
+//!   refuse it within one call, and tests in `crates/sb_directory_tests` refuse the rest.
 //! - `Directory::unwatch` drops nothing and returns `Ok`. Tests refuse it.
-//! - `Directory::poll` returns that there is no note, repeats one, makes one up with a held version, or drops its
-//!   watch. Tests refuse it. Private clauses cover one call under the lock, not a second that nobody asked for.
+//! - `Directory::poll` gives another note than the oldest, or drops its watch. Tests refuse it. Private clauses cover one
+//!   call under the lock, not a second that nobody asked for.
+//! - `Directory::has_note` answers for a past moment, and `has_notes` anything. Private clauses and tests refuse it.
 //! - `Directory::take_news` leaves out an owner whose held version rose, has one whose version did not rise, or has a
 //!   wrong version. A delta for any backlog is honest. Clauses of `add_risen` and tests in
 //!   `crates/sb_directory_tests` refuse it.
@@ -77,6 +78,7 @@
 
 mod difference;
 mod directory;
+mod directory_watch;
 mod lacked;
 mod lacking_owners;
 mod laws;
@@ -91,6 +93,7 @@ mod viewed_node;
 
 pub use difference::{Difference, ForeignEntry};
 pub use directory::Directory;
+pub use directory_watch::DirectoryWatch;
 pub use laws::held_never_falls;
 pub use receipt::{Applied, Closing, Purge, Receipt};
 pub use seat::{EnteredSeat, ReaderSeat};

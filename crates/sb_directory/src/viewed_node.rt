@@ -1,15 +1,16 @@
 //! What the lock of a directory guards: a node with its history, its views, its watches and the book of its seats.
-ghost use Rattle.std.specs.Prelude.{◌≡◌, ◌≤◌, ◌+◌, ◌++◌, ◌∷◌, [], true, false, length, if◌then◌else◌, None, Ok, Err, IfOk, IfErr, IfSome, IsSome, OnOk, OnErr};
+ghost use Rattle.std.specs.Prelude.{◌≡◌, ◌≢◌, ◌≤◌, ◌+◌, ◌++◌, ◌∷◌, [], true, false, length, if◌then◌else◌, None, Ok, Err, IfOk, IfErr, IfSome, IsSome, IsOk, OnOk, OnErr, MatchBool};
 ghost use Rattle.std.specs.Option.{option_map};
 ghost use mathlib.Core.List.{IsPrefix};
 ghost use Rattle.sb_types.specs.Faults.{Gives};
+ghost use Rattle.sb_types.specs.Runs.{Stands};
 ghost use Rattle.sb_holdings.specs.Held.{shown_of};
 ghost use Rattle.sb_holdings.specs.Plain.{IsHoldings};
 ghost use Rattle.sb_holdings.specs.Treats.{Treats};
 ghost use Rattle.sb_session.specs.Handlers.{IsRefusal};
 ghost use Rattle.sb_watch.specs.declared.note.Note.{Note};
 ghost use Rattle.sb_watch.specs.declared.note.Polled.TheVariants as answers;
-ghost use Rattle.sb_watch.specs.Hubs.{new_hub, next_id, has_watch, answer_at, with_watch, with_answer, without_watch};
+ghost use Rattle.sb_watch.specs.Hubs.{new_hub, has_watch, has_note_at, has_notes, answer_at, with_watch, without_watch};
 ghost use Rattle.sb_views.specs.declared.event.Event.TheVariants as events;
 ghost use Rattle.sb_views.specs.Histories.{node_after};
 ghost use Rattle.sb_directory.specs.ViewedNodes as nodes;
@@ -17,8 +18,10 @@ ghost use Rattle.sb_node.specs.Purging.{purge_answer};
 ghost use Rattle.sb_directory.specs.Audits as audits;
 ghost use Rattle.sb_directory.specs.Purging as purging;
 ghost use Rattle.sb_directory.specs.Seats as spec;
+ghost use Rattle.sb_directory.specs.Watching.{SaysOf, reports, watch_given, watch_after, others};
 
 use crate::difference::{Difference, difference_of, mark_of};
+use crate::directory_watch::{DirectoryWatch, is_one_of, leave_out, renew_unless_owed};
 use crate::lacked::catch_up;
 use crate::lacking_owners::LackingOwners;
 use crate::notes::{push_note, push_notes_since, versions_of};
@@ -45,6 +48,8 @@ use std::sync::ledger::{Book, Share};
 pub(crate) struct ViewedNode<S: DirectoryTag, R: Wait + Drop> {
     core: NodeCore,
     hub: Hub,
+    /// The watches of callers, which are also in the hub.
+    watches: Vec<DirectoryWatch<S>>,
     history: History<S>,
     views: ViewWriter<S, R>,
     lacking: LackingOwners,
@@ -67,9 +72,9 @@ impl<S: DirectoryTag, R: Wait + Drop> Model for ViewedNode<S, R> {
 
     ghost coded = { Prim.hlevel (codes, code) };
 
-    ghost view = { λ l. record { core = l.core; hub = l.hub; history = l.history; published = l.views.published } };
+    ghost view = { λ l. record { core = l.core; hub = l.hub; watches = l.watches.items; history = l.history; published = l.views.published } };
 
-    ghost invariant = { λ l. nodes.IsViewedNode S.opening l.views.queued l.lacking (record { core = l.core; hub = l.hub; history = l.history; published = l.views.published })
+    ghost invariant = { λ l. nodes.IsViewedNode S.opening l.views.queued l.lacking (record { core = l.core; hub = l.hub; watches = l.watches.items; history = l.history; published = l.views.published })
         × (l.book.total ≡ length l.history) × (l.core.settings ≡ S.settings) × (l.rest.parts ≡ 0) × (l.rest.amount ≡ 0) };
 }
 
@@ -90,11 +95,12 @@ impl<S: DirectoryTag, R: Wait + Drop> ViewedNode<S, R> {
         requires views { views ≡ record { published = []; queued = [] } }
         requires total { book.total ≡ 0 }
         requires rest { (rest.parts ≡ 0) × (rest.amount ≡ 0) }
-        ensures { result ≡ record { core = core; hub = new_hub; history = []; published = [] } }
+        ensures { result ≡ record { core = core; hub = new_hub; watches = []; history = []; published = [] } }
     {
         ViewedNode {
             core,
             hub: Hub::new(alloc),
+            watches: Vec::new(alloc),
             history,
             views,
             lacking: LackingOwners::new(alloc),
@@ -148,7 +154,7 @@ impl<S: DirectoryTag, R: Wait + Drop> ViewedNode<S, R> {
         })
     }
 
-    /// Takes each block of a delta for a seat, notes each entry that it entered in watches, and publishes all that happened. Its faults
+    /// Takes each block of a delta for a seat, notes in watches what it changed, and publishes all that happened. Its faults
     /// are those of `Directory::apply`.
     pub(crate) fn apply(
         &mut self,
@@ -325,25 +331,80 @@ impl<S: DirectoryTag, R: Wait + Drop> ViewedNode<S, R> {
         &self.core
     }
 
-    /// Adds a watch.
-    pub(crate) fn watch(&mut self, filter: Filter, capacity: usize) -> Result<WatchId, Fault>
-        ensures answer { Gives result (next_id self.old.hub capacity) }
-        ensures refused { (fault : Fault) → next_id self.old.hub capacity ≡ Err fault → result ≡ Err fault }
-        ensures ok { OnOk result (self.new ≡ nodes.with_hub self.old (with_watch self.old.hub filter capacity)) }
+    /// Adds a watch, which reports what changes from here on.
+    pub(crate) fn watch(
+        &mut self,
+        filter: Filter,
+        capacity: usize,
+    ) -> Result<DirectoryWatch<S>, Fault>
+        ensures answer { Gives result (watch_given self.old.hub filter capacity self.old.history) }
+        ensures refused { (fault : Fault) → watch_given self.old.hub filter capacity self.old.history ≡ Err fault → result ≡ Err fault }
+        ensures ok { IfOk result (λ watch. self.new ≡ nodes.with_watches self.old (with_watch self.old.hub filter capacity) (self.old.watches ++ watch ∷ [])) }
         ensures err { OnErr result (self.new ≡ self.old) }
     {
-        match self.hub.add(filter, capacity) {
-            Ok(id) => Ok(id),
-            Err(fault) => Err(fault),
+        if let Some(refusal) = self.hub.refusal(capacity) {
+            return Err(refusal);
         }
+        self.watches.reserve(1)?;
+        let id = self.hub.add(filter, capacity)?;
+        let watch = DirectoryWatch::new(id, &filter, self.history.prefix().copy());
+        self.watches.push_reserved(watch.copy());
+        Ok(watch)
     }
 
     /// Drops a watch with its notes.
     pub(crate) fn unwatch(&mut self, id: WatchId) -> Result<(), Fault>
         ensures answer { result ≡ (if has_watch self.old.hub id then Ok tt else Err Fault.NoWatch) }
-        ensures left { self.new ≡ nodes.with_hub self.old (without_watch self.old.hub id) }
+        ensures left { self.new ≡ nodes.with_watches self.old (without_watch self.old.hub id) (others id self.old.watches) }
     {
+        leave_out(&mut self.watches, id);
         self.hub.drop_watch(id)
+    }
+
+    /// Whether any watch has a note.
+    pub(crate) fn has_notes(&self) -> bool
+        ensures { result ≡ has_notes self.now.hub }
+    {
+        self.hub.has_notes()
+    }
+
+    /// Whether a watch is one of this node's.
+    fn has(&self, watch: &DirectoryWatch<S>) -> bool
+        ensures found { MatchBool result (Stands self.now.watches watch.now) (Stands self.now.watches watch.now → ⊥) }
+        ensures note { result ≡ true → IsOk (has_note_at self.now.hub watch.now.id) }
+        ensures answer { result ≡ true → IsOk (answer_at self.now.hub watch.now.id) }
+    {
+        is_one_of(&self.watches, watch)
+    }
+
+    /// Whether one of its watches has a note.
+    fn owes(&self, watch: &DirectoryWatch<S>) -> Result<bool, Fault>
+        requires known { Stands self.now.watches watch.now }
+        ensures answer { result ≡ has_note_at self.now.hub watch.now.id }
+        ensures ok { IsOk result }
+        ensures says { IfOk result (SaysOf S.opening self.now.history watch.now) }
+    {
+        self.hub.has_note(watch.id())
+    }
+
+    /// Publishes all that happened, and says whether anything changed that a watch is for. So what changed is published by then.
+    pub(crate) fn has_note(&mut self, watch: &DirectoryWatch<S>) -> Result<bool, Fault>
+        ensures says { IfOk result (SaysOf S.opening self.old.history watch.now) }
+        ensures fault { IfErr result (λ fault. fault ≢ Fault.NoWatch → fault ≡ Fault.NoMemory) }
+        ensures none { (Stands self.old.watches watch.now → ⊥) → result ≡ Err Fault.NoWatch }
+        ensures known { result ≡ Err Fault.NoWatch → Stands self.old.watches watch.now → ⊥ }
+        ensures refused { IfErr (has_note_at self.old.hub watch.now.id) (λ fault. result ≡ Err fault) }
+        ensures left { self.new ≡ nodes.with_published self.old self.new.published }
+        ensures shown { OnOk result (self.new.published ≡ self.new.history) }
+        ensures same { result ≡ Err Fault.NoWatch → self.new ≡ self.old }
+    {
+        if !self.has(watch) {
+            Err(Fault::NoWatch)
+        } else if self.publish() {
+            self.owes(watch)
+        } else {
+            Err(Fault::NoMemory)
+        }
     }
 
     /// Publishes all that happened, and says whether there was memory for it. If there was none, what is published stays, and what
@@ -385,14 +446,38 @@ impl<S: DirectoryTag, R: Wait + Drop> ViewedNode<S, R> {
         seat.look(self.history.prefix())
     }
 
+    /// What one of its watches answers. If the watch has nothing more to report, it begins anew.
+    fn take_answer(&mut self, watch: &mut DirectoryWatch<S>) -> Result<Polled, Fault>
+        requires known { Stands self.old.watches watch.old }
+        ensures answer { result ≡ answer_at self.old.hub watch.old.id }
+        ensures ok { IsOk result }
+        ensures says { IfOk result (λ polled. SaysOf S.opening self.old.history watch.old (reports polled)) }
+        ensures held { (note : Note) → result ≡ Ok (answers.Note note) → note.version ≤ (shown_of (node_after S.opening self.old.history).held note.owner).held }
+        ensures left { self.new ≡ nodes.after_poll self.old watch.old }
+        ensures watch { watch.new ≡ watch_after self.new.hub self.old.history watch.old }
+    {
+        let answer = self.hub.take(watch.id());
+        renew_unless_owed(&self.hub, self.history.prefix(), &mut self.watches, watch);
+        answer
+    }
+
     /// Publishes all that happened, lets the seat see it, and gives what the watch answers. So it gives a note only once the note's
     /// write is published.
-    pub(crate) fn poll(&mut self, seat: &mut ReaderSeat<S>, id: WatchId) -> Result<Polled, Fault>
-        ensures answer { Gives result (answer_at self.old.hub id) }
-        ensures refused { IfErr (answer_at self.old.hub id) (λ fault. result ≡ Err fault) }
+    pub(crate) fn poll(
+        &mut self,
+        seat: &mut ReaderSeat<S>,
+        watch: &mut DirectoryWatch<S>,
+    ) -> Result<Polled, Fault>
+        ensures answer { OnOk result (result ≡ answer_at self.old.hub watch.old.id) }
+        ensures says { IfOk result (λ polled. SaysOf S.opening self.old.history watch.old (reports polled)) }
+        ensures fault { IfErr result (λ fault. fault ≢ Fault.NoWatch → fault ≡ Fault.NoMemory) }
+        ensures unknown { (Stands self.old.watches watch.old → ⊥) → result ≡ Err Fault.NoWatch }
+        ensures known { result ≡ Err Fault.NoWatch → Stands self.old.watches watch.old → ⊥ }
+        ensures refused { IfErr (answer_at self.old.hub watch.old.id) (λ fault. result ≡ Err fault) }
         ensures held { (note : Note) → result ≡ Ok (answers.Note note) → note.version ≤ (shown_of (node_after S.opening seat.new.seen).held note.owner).held }
-        ensures ok { OnOk result (self.new ≡ nodes.with_published (nodes.with_hub self.old (with_answer self.old.hub id)) self.old.history) }
-        ensures err { OnErr result (self.new ≡ nodes.with_published self.old self.new.published) }
+        ensures ok { OnOk result (self.new ≡ nodes.with_published (nodes.after_poll self.old watch.old) self.old.history) }
+        ensures watch { OnOk result (watch.new ≡ watch_after self.new.hub self.old.history watch.old) }
+        ensures err { OnErr result ((self.new ≡ nodes.with_published self.old self.new.published) × (watch.new ≡ watch.old)) }
         ensures shown { OnErr result (spec.PublishesWhereSaid false self.old self.new) }
         ensures none { result ≡ Err Fault.NoWatch → self.new ≡ self.old }
         ensures seat { result ≡ Err Fault.NoWatch → seat.new ≡ spec.with_last_call seat.old seat.new.last_call }
@@ -403,14 +488,14 @@ impl<S: DirectoryTag, R: Wait + Drop> ViewedNode<S, R> {
         ensures seen { OnOk result (seat.new.seen ≡ self.new.history) }
         ensures made { OnOk result (seat.new.events ≤ length seat.new.seen) }
     {
-        seat.call_at(&mut self.history);
-        if !self.hub.has(id) {
+        self.note_call(seat);
+        if !self.has(watch) {
             return Err(Fault::NoWatch);
         }
         if !self.refresh(seat) {
             return Err(Fault::NoMemory);
         }
-        self.hub.take(id)
+        self.take_answer(watch)
     }
 
     /// The node, and how many events there were. These are all its seats.
@@ -425,6 +510,7 @@ impl<S: DirectoryTag, R: Wait + Drop> ViewedNode<S, R> {
         let Self {
             core,
             hub: _hub,
+            watches: _watches,
             mut history,
             views: _views,
             lacking: _lacking,

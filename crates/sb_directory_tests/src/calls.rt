@@ -1,6 +1,6 @@
 //! A node, from a seat of its directory: what its calls answer, and what readers see of it.
 use crate::course::{Course, Run, run_new, run_seated};
-use crate::desk::{Answer, Call, Case, noted};
+use crate::desk::{Answer, Call, Case, cleared, noted};
 use crate::got;
 use crate::making::{full_table, node_of, written_log};
 use sb_holdings::BlockEnd;
@@ -65,6 +65,44 @@ fn writes_are_noted_once(rt: HostRuntime) {
         (Call::Poll(0), first),
         (Call::Poll(0), second),
         (Call::Poll(0), Answer::Polled(Polled::Empty)),
+    ];
+    answers(&rt, rt.alloc(), &cases);
+}
+
+/// A watch has a note from the first change that it is for, until that was handed out.
+#[test]
+fn watches_say_whether_they_have_a_note(rt: HostRuntime) {
+    let note = noted(&rt, b"b", b"x", 1);
+    let cases = [
+        (Call::Write(b"x"), Answer::Shown),
+        (Call::Watch(b"x", 1), Answer::Done),
+        (Call::Watch(b"y", 1), Answer::Done),
+        (Call::HasNote(0), Answer::HasNote(false, false)),
+        (Call::Write(b"z"), Answer::Shown),
+        (Call::HasNote(0), Answer::HasNote(false, false)),
+        (Call::Delta(b"b", 0, b"x"), taken(1)),
+        (Call::HasNote(0), Answer::HasNote(true, true)),
+        (Call::HasNote(1), Answer::HasNote(false, true)),
+        (Call::Delta(b"b", 0, b"x"), ended(BlockEnd::Stale)),
+        (Call::Poll(0), note),
+        (Call::HasNote(0), Answer::HasNote(false, false)),
+        (Call::Unwatch(0), Answer::Done),
+        (Call::HasNote(0), refused(Fault::NoWatch)),
+    ];
+    answers(&rt, rt.alloc(), &cases);
+}
+
+/// A table that is replaced is noted before its entries, and a stage that is not whole is not.
+#[test]
+fn replaced_tables_are_noted(rt: HostRuntime) {
+    let clear = cleared(&rt, b"b", 5);
+    let cases = [
+        (Call::Delta(b"b", 0, b"xy"), taken(2)),
+        (Call::Watch(b"q", 1), Answer::Done),
+        (Call::Floor(5, 5, b""), taken(0)),
+        (Call::HasNote(0), Answer::HasNote(true, true)),
+        (Call::Poll(0), clear),
+        (Call::Rows, Answer::Rows(0)),
     ];
     answers(&rt, rt.alloc(), &cases);
 }

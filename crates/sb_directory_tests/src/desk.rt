@@ -7,12 +7,12 @@ use crate::reached::Seated;
 use crate::{got, same_at, there};
 use sb_budget::Backlog;
 use sb_digest::Digest;
-use sb_directory::{Difference, DirectoryTag};
+use sb_directory::{Difference, DirectoryTag, DirectoryWatch};
 use sb_holdings::{BlockEnd, Report};
 use sb_log::{Committed, PlainLog};
 use sb_table::Table;
 use sb_types::{Delta, Fault, Name};
-use sb_watch::{Filter, Note, Polled, WatchId};
+use sb_watch::{Filter, Note, Polled};
 use std::alloc::Global;
 use std::process::Abort;
 use std::sync::Wait;
@@ -45,6 +45,8 @@ pub(crate) enum Call {
     Unwatch(usize),
     /// The watch that was added at this place is polled.
     Poll(usize),
+    /// The watch that was added at this place is asked whether it has a note, and then whether any watch has one.
+    HasNote(usize),
     Refresh,
     Conflict,
     /// The keys of its own table are counted.
@@ -78,6 +80,8 @@ pub(crate) enum Answer {
     /// What happened is not shown, because memory was missing.
     NotShown,
     Polled(Polled),
+    /// Whether the watch has a note, and whether any has one.
+    HasNote(bool, bool),
     Conflict(Option<u64>),
     Keys(usize),
     /// How many events the reader has seen, and how far a and b are held.
@@ -101,7 +105,7 @@ pub(crate) struct Desk<S: DirectoryTag, H: Wait + Drop> {
     node: Seated<S, H>,
     log: PlainLog,
     committed: Option<Committed>,
-    watches: Vec<WatchId>,
+    watches: Vec<DirectoryWatch<S>>,
     alloc: Global,
 }
 
@@ -109,7 +113,16 @@ pub(crate) struct Desk<S: DirectoryTag, H: Wait + Drop> {
 pub(crate) fn noted(rt: &impl Abort, owner: &[u8], text: &[u8], version: u64) -> Answer {
     Answer::Polled(Polled::Note(Note {
         owner: name(rt, owner),
-        key: key(rt, text),
+        key: Some(key(rt, text)),
+        version,
+    }))
+}
+
+/// The answer if a watch gives the note that the table of an owner was replaced, up to this version.
+pub(crate) fn cleared(rt: &impl Abort, owner: &[u8], version: u64) -> Answer {
+    Answer::Polled(Polled::Note(Note {
+        owner: name(rt, owner),
+        key: None,
         version,
     }))
 }
@@ -203,6 +216,7 @@ impl<S: DirectoryTag, H: Wait + Drop> Desk<S, H> {
             Call::Watches(count) => self.watch_all(rt, count),
             Call::Unwatch(place) => self.unwatch(rt, place),
             Call::Poll(place) => self.poll(rt, place),
+            Call::HasNote(place) => self.has_note(rt, place),
             Call::Refresh => shown(self.node.refresh(rt), Answer::Shown),
             Call::Conflict => Answer::Conflict(self.node.conflict(rt)),
             Call::Keys => Answer::Keys(self.node.key_count(rt)),
@@ -314,8 +328,8 @@ impl<S: DirectoryTag, H: Wait + Drop> Desk<S, H> {
 
     fn watch<Q: Wait + Abort>(&mut self, rt: &Q, text: &[u8], capacity: usize) -> Answer {
         match self.node.watch(rt, filter_of(rt, text), capacity) {
-            Ok(id) => {
-                got(rt, self.watches.push(id));
+            Ok(watch) => {
+                got(rt, self.watches.push(watch));
                 Answer::Done
             }
             Err(fault) => Answer::Refused(fault),
@@ -332,23 +346,26 @@ impl<S: DirectoryTag, H: Wait + Drop> Desk<S, H> {
         Answer::Done
     }
 
-    /// The id of the watch that was added at this place.
-    fn id_at(&self, rt: &impl Abort, place: usize) -> WatchId {
-        *there(rt, self.watches.get(place))
-    }
-
     fn unwatch<Q: Wait + Abort>(&mut self, rt: &Q, place: usize) -> Answer {
-        let id = self.id_at(rt, place);
-        match self.node.unwatch(rt, id) {
+        let watch = there(rt, self.watches.get(place));
+        match self.node.unwatch(rt, watch) {
             Ok(()) => Answer::Done,
             Err(fault) => Answer::Refused(fault),
         }
     }
 
     fn poll<Q: Wait + Abort>(&mut self, rt: &Q, place: usize) -> Answer {
-        let id = self.id_at(rt, place);
-        match self.node.poll(rt, id) {
+        let watch = there(rt, self.watches.get_mut(place));
+        match self.node.poll(rt, watch) {
             Ok(polled) => Answer::Polled(polled),
+            Err(fault) => Answer::Refused(fault),
+        }
+    }
+
+    fn has_note<Q: Wait + Abort>(&mut self, rt: &Q, place: usize) -> Answer {
+        let watch = there(rt, self.watches.get(place));
+        match self.node.has_note(rt, watch) {
+            Ok((one, any)) => Answer::HasNote(one, any),
             Err(fault) => Answer::Refused(fault),
         }
     }

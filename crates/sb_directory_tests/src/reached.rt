@@ -5,13 +5,13 @@ use crate::making::{name, prefix};
 use crate::{got, same, there};
 use sb_budget::Backlog;
 use sb_digest::Digest;
-use sb_directory::{Difference, Directory, DirectoryTag, ReaderSeat};
+use sb_directory::{Difference, Directory, DirectoryTag, DirectoryWatch, ReaderSeat};
 use sb_holdings::Report;
 use sb_log::Committed;
 use sb_node::NodeCore;
 use sb_types::{Block, Delta, Fault, Name};
 use sb_views::{NewHistory, NodeTag, Snapshot};
-use sb_watch::{Filter, Polled, WatchId};
+use sb_watch::{Filter, Polled};
 use std::alloc::Global;
 use std::process::Abort;
 use std::sync::Wait;
@@ -167,17 +167,37 @@ impl<S: DirectoryTag, H: Wait + Drop> Seated<S, H> {
         rt: &Q,
         filter: Filter,
         capacity: usize,
-    ) -> Result<WatchId, Fault> {
+    ) -> Result<DirectoryWatch<S>, Fault> {
         self.directory.watch(rt, filter, capacity)
     }
 
-    pub(crate) fn unwatch<Q: Wait + Abort>(&mut self, rt: &Q, id: WatchId) -> Result<(), Fault> {
-        self.directory.unwatch(rt, id)
+    pub(crate) fn unwatch<Q: Wait + Abort>(
+        &mut self,
+        rt: &Q,
+        watch: &DirectoryWatch<S>,
+    ) -> Result<(), Fault> {
+        self.directory.unwatch(rt, watch)
     }
 
-    pub(crate) fn poll<Q: Wait + Abort>(&mut self, rt: &Q, id: WatchId) -> Result<Polled, Fault> {
+    pub(crate) fn poll<Q: Wait + Abort>(
+        &mut self,
+        rt: &Q,
+        watch: &mut DirectoryWatch<S>,
+    ) -> Result<Polled, Fault> {
         let seat = there(rt, self.seat.as_mut());
-        self.directory.poll(rt, seat, id)
+        self.directory.poll(rt, seat, watch)
+    }
+
+    /// Whether a watch has a note, and whether any has one.
+    pub(crate) fn has_note<Q: Wait + Abort>(
+        &mut self,
+        rt: &Q,
+        watch: &DirectoryWatch<S>,
+    ) -> Result<(bool, bool), Fault> {
+        match self.directory.has_note(rt, watch) {
+            Ok(has_note) => Ok((has_note, self.directory.has_notes(rt))),
+            Err(fault) => Err(fault),
+        }
     }
 
     pub(crate) fn refresh<Q: Wait + Abort>(&mut self, rt: &Q) -> bool {

@@ -4,7 +4,7 @@ ghost use Rattle.std.specs.Prelude.{◌≡◌, ◌⊎◌, MatchBool};
 use sb_digest::Digest;
 use sb_holdings::{BlockEnd, Report};
 use sb_session::{Ended, Handler};
-use sb_types::{Delta, Fault, Name};
+use sb_types::{Block, Delta, Fault, Name};
 
 /// At which point a session asks its gate.
 #[derive(Clone, Copy, Debug, PartialEq, Eq)]
@@ -32,6 +32,9 @@ pub trait Gate {
 
     /// Sessions call it after each delta that entered something.
     fn entered(&self, _delta: &Delta) {}
+
+    /// Sessions call it for each owner whose held version a delta raised.
+    fn heard(&self, _owner: &Name) {}
 
     /// Sessions call it after each delta with a block that does not join on to what is held.
     fn missed(&self) {}
@@ -64,9 +67,24 @@ fn has_entered(end: &BlockEnd) -> bool {
     }
 }
 
+/// Whether a block that ended so raised the version up to which its owner is held. A block of a stage does that once the stage is
+/// whole: once it goes up to the floor.
+fn is_risen(block: &Block, end: &BlockEnd) -> bool {
+    has_entered(end) && block.upto() >= block.floor()
+}
+
 /// Whether writes are missing before those of a block that ended so.
 fn is_gap(end: &BlockEnd) -> bool {
     matches!(end, BlockEnd::Gap)
+}
+
+/// Tells a gate whose held version a delta raised.
+fn tell_heard<G: Gate>(gate: &G, delta: &Delta, report: &Report) {
+    for (block, end) in delta.blocks().iter().zip(report.ends()) {
+        if is_risen(block, end) {
+            gate.heard(block.owner());
+        }
+    }
 }
 
 /// A handler behind a gate, for the session of this number.
@@ -133,6 +151,7 @@ impl<H: Handler, G: Gate> Handler for GatedHandler<'_, H, G> {
             return Err(Fault::TurnsSpent);
         }
         let report = self.inner.apply(delta)?;
+        tell_heard(self.gate, delta, &report);
         if report.ends().iter().any(has_entered) {
             self.gate.entered(delta);
         }

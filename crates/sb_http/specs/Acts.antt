@@ -25,6 +25,10 @@ IsQuestion (kinds.Rows x) = ⊥
 IsQuestion (kinds.Done x) = ⊥
 IsQuestion (kinds.Refused x) = ⊥
 IsQuestion (kinds.NodeStatus x) = ⊥
+IsQuestion (kinds.AskChange x) = ⊥
+IsQuestion (kinds.Notice x) = ⊥
+IsQuestion kinds.AskAges = ⊥
+IsQuestion (kinds.Ages x) = ⊥
 
 -- the call writes nothing
 abbrev pub OnlyReads : Act → Type 0

@@ -96,6 +96,10 @@ taken_up s core (kinds.Done version) answer t new a = absurd a
 taken_up s core (kinds.Refused fault) answer t new a = absurd a
 taken_up s core (kinds.AskStatus after) answer t new a = absurd a
 taken_up s core (kinds.NodeStatus told) answer t new a = absurd a
+taken_up s core (kinds.AskChange asked) answer t new a = absurd a
+taken_up s core (kinds.Notice notice) answer t new a = absurd a
+taken_up s core kinds.AskAges answer t new a = absurd a
+taken_up s core (kinds.Ages ages) answer t new a = absurd a
 
 not_up : (s : Session) (core : Core) (m : Message) (fault : Fault) (t : Session) (new : Core) → TakesUp Steps s core m (Err fault) t new → new ≡ core
 not_up s core (kinds.Hello hello) fault t new a = a.2
@@ -109,6 +113,10 @@ not_up s core (kinds.Done version) fault t new a = absurd a
 not_up s core (kinds.Refused reason) fault t new a = absurd a
 not_up s core (kinds.AskStatus after) fault t new a = absurd a
 not_up s core (kinds.NodeStatus told) fault t new a = absurd a
+not_up s core (kinds.AskChange asked) fault t new a = absurd a
+not_up s core (kinds.Notice notice) fault t new a = absurd a
+not_up s core kinds.AskAges fault t new a = absurd a
+not_up s core (kinds.Ages ages) fault t new a = absurd a
 
 pub up_unless : (refusal : Option Fault) (s : Session) (core : Core) (m : Message) (answer : Replies) (t : Session) (new : Core)
     → TakesUnless refusal Steps s core m (Ok answer) t new → TakesUp Steps s core m (Ok answer) t new
@@ -151,6 +159,10 @@ asked_with s core (Ok (kinds.Done version)) t new a = absurd a
 asked_with s core (Ok (kinds.Refused fault)) t new a = absurd a
 asked_with s core (Ok (kinds.AskStatus after)) t new a = absurd a
 asked_with s core (Ok (kinds.NodeStatus told)) t new a = absurd a
+asked_with s core (Ok (kinds.AskChange asked)) t new a = absurd a
+asked_with s core (Ok (kinds.Notice notice)) t new a = absurd a
+asked_with s core (Ok kinds.AskAges) t new a = absurd a
+asked_with s core (Ok (kinds.Ages ages)) t new a = absurd a
 asked_with s core (Err fault) t new a = told_nothing core new s.cursor true (Err fault) a.1
 
 asked_in : (phase : Phase) (s : Session) (core : Core) (answer : Result Message Fault) (t : Session) (new : Core) → AsksIn phase Steps s core answer t new → new ≡ core

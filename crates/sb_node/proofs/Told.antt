@@ -50,6 +50,10 @@ asked_true writes s core (kinds.Done version) t new a = absurd a
 asked_true writes s core (kinds.Refused fault) t new a = absurd a
 asked_true writes s core (kinds.AskStatus after) t new a = absurd a
 asked_true writes s core (kinds.NodeStatus told) t new a = absurd a
+asked_true writes s core (kinds.AskChange asked) t new a = absurd a
+asked_true writes s core (kinds.Notice notice) t new a = absurd a
+asked_true writes s core kinds.AskAges t new a = absurd a
+asked_true writes s core (kinds.Ages ages) t new a = absurd a
 
 pub asked_in_true : (writes : List ℕ → List Write) (phase : Phase) (s : Session) (core : Core) (m : Message) (t : Session) (new : Core)
     → AsksIn phase Steps s core (Ok m) t new → TrueMessage writes m
@@ -105,6 +109,10 @@ calls_are s core (kinds.Done version) answer t new a = no_calls
 calls_are s core (kinds.Refused fault) answer t new a = no_calls
 calls_are s core (kinds.AskStatus after) answer t new a = no_calls
 calls_are s core (kinds.NodeStatus told) answer t new a = no_calls
+calls_are s core (kinds.AskChange asked) answer t new a = no_calls
+calls_are s core (kinds.Notice notice) answer t new a = no_calls
+calls_are s core kinds.AskAges answer t new a = no_calls
+calls_are s core (kinds.Ages ages) answer t new a = no_calls
 
 applied_true : (writes : List ℕ → List Write) (me : List ℕ) (blocks : List Block) (answer : Replies) → AreHonest writes blocks → AreTrue writes me (applied_with blocks answer)
 applied_true writes me blocks (replies.Applied ends) are = one_true writes me (Applied blocks ends) are
@@ -125,6 +133,10 @@ calls_true writes me (kinds.Done version) answer are = none_true writes me
 calls_true writes me (kinds.Refused fault) answer are = none_true writes me
 calls_true writes me (kinds.AskStatus after) answer are = none_true writes me
 calls_true writes me (kinds.NodeStatus told) answer are = none_true writes me
+calls_true writes me (kinds.AskChange asked) answer are = none_true writes me
+calls_true writes me (kinds.Notice notice) answer are = none_true writes me
+calls_true writes me kinds.AskAges answer are = none_true writes me
+calls_true writes me (kinds.Ages ages) answer are = none_true writes me
 
 -- what a session needs of the laws of a node
 pub record Laws : Type 0 where
@@ -181,6 +193,10 @@ module _ (laws : Laws) (writes : List ℕ → List Write) where
   heard_said s core (kinds.Refused fault) answer t new is holds a = absurd (up_unless (refusal_of s (kinds.Refused fault)) s core (kinds.Refused fault) answer t new a)
   heard_said s core (kinds.AskStatus after) answer t new is holds a = absurd (up_unless (refusal_of s (kinds.AskStatus after)) s core (kinds.AskStatus after) answer t new a)
   heard_said s core (kinds.NodeStatus told) answer t new is holds a = absurd (up_unless (refusal_of s (kinds.NodeStatus told)) s core (kinds.NodeStatus told) answer t new a)
+  heard_said s core (kinds.AskChange asked) answer t new is holds a = absurd (up_unless (refusal_of s (kinds.AskChange asked)) s core (kinds.AskChange asked) answer t new a)
+  heard_said s core (kinds.Notice notice) answer t new is holds a = absurd (up_unless (refusal_of s (kinds.Notice notice)) s core (kinds.Notice notice) answer t new a)
+  heard_said s core kinds.AskAges answer t new is holds a = absurd (up_unless (refusal_of s kinds.AskAges) s core kinds.AskAges answer t new a)
+  heard_said s core (kinds.Ages ages) answer t new is holds a = absurd (up_unless (refusal_of s (kinds.Ages ages)) s core (kinds.Ages ages) answer t new a)
 
   pub heard_kept : (s : Session) (core : Core) (m : Message) (answer : Replies) (said : List Message) (t : Session) (new : Core) → IsNode core.node → NodeHolds writes core.node
       → TrueMessage writes m → Takes Steps s core m (Ok answer) t new → said ≡ messages_of answer → Kept writes new said

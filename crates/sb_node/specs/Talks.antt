@@ -7,7 +7,7 @@ use Rattle.sb_digest.specs.Builders.{IsLongestFront}
 use Rattle.sb_digest.specs.Digests as digests
 use Rattle.sb_digest.specs.Pairs.{pairs_from}
 use Rattle.sb_codec.specs.declared.message.Message.{Message}
-use Rattle.sb_codec.specs.declared.message.Message.TheVariants.{Hello, Digest, Delta, Bye, Ask, Rows, Put, Done, Refused, AskStatus, NodeStatus}
+use Rattle.sb_codec.specs.declared.message.Message.TheVariants.{Hello, Digest, Delta, Bye, Ask, Rows, Put, Done, Refused, AskStatus, NodeStatus, AskChange, Notice, AskAges, Ages}
 use Rattle.sb_session.specs.declared.replies.Replies.{Replies}
 use Rattle.sb_session.specs.declared.replies.Replies.TheVariants.{Greeted, Answered, Exchanged, Applied, Ended}
 use Rattle.sb_session.specs.Sessions.{Session}
@@ -37,6 +37,10 @@ taken_of (Done version) replies = []
 taken_of (Refused fault) replies = []
 taken_of (AskStatus after) replies = []
 taken_of (NodeStatus told) replies = []
+taken_of (AskChange asked) replies = []
+taken_of (Notice notice) replies = []
+taken_of AskAges replies = []
+taken_of (Ages ages) replies = []
 
 -- the answer to a digest, and if one is wanted, the own digest from the session's place on
 abbrev pub IsReply : Core → Session → digests.Digest → Replies → Type 0
@@ -70,6 +74,10 @@ TrueMessage writes (Done version) = Unit {0}
 TrueMessage writes (Refused fault) = Unit {0}
 TrueMessage writes (AskStatus after) = Unit {0}
 TrueMessage writes (NodeStatus told) = Unit {0}
+TrueMessage writes (AskChange asked) = Unit {0}
+TrueMessage writes (Notice notice) = Unit {0}
+TrueMessage writes AskAges = Unit {0}
+TrueMessage writes (Ages ages) = Unit {0}
 
 abbrev pub AreTrueMessages : (List ℕ → List Write) → List Message → Type 0
 AreTrueMessages writes messages = (message : Message) → Stands messages message → TrueMessage writes message

@@ -1,9 +1,11 @@
 -- What a message means to the caller that sent a request.
-use Rattle.std.specs.Prelude.{◌≡◌, ℕ, [], ◌∷◌, take, Result, Ok, Err}
+use Rattle.std.specs.Prelude.{◌≡◌, ℕ, List, [], ◌∷◌, take, Result, Ok, Err}
 use Rattle.sb_types.specs.declared.fault.Fault.{Fault}
 use Rattle.sb_types.specs.Faults.{number_of, carried_by}
 use Rattle.sb_codec.specs.declared.message.Message.{Message}
-use Rattle.sb_codec.specs.declared.message.Message.TheVariants.{Rows, Done, Refused, NodeStatus}
+use Rattle.sb_codec.specs.declared.message.Message.TheVariants.{Rows, Done, Refused, NodeStatus, Notice, Ages}
+use Rattle.sb_codec.specs.declared.message.notice.Notice as notices
+use Rattle.sb_codec.specs.declared.message.ages.OwnerAge.{OwnerAge}
 use Rattle.sb_codec.specs.Messages.{spelling}
 use Rattle.sb_codec.specs.Records as records
 use Rattle.sb_query.specs.declared.answers.NoAnswer.{NoAnswer}
@@ -25,3 +27,11 @@ TellsPage other result = (reason : NoAnswer) × (result ≡ Err reason) × IsNoA
 abbrev pub TellsStatus : Message → Result records.NodeStatus NoAnswer → Type 0
 TellsStatus (NodeStatus status) result = result ≡ Ok status
 TellsStatus other result = (reason : NoAnswer) × (result ≡ Err reason) × IsNoAnswer other reason
+
+abbrev pub TellsNotice : Message → Result notices.Notice NoAnswer → Type 0
+TellsNotice (Notice notice) result = result ≡ Ok notice
+TellsNotice other result = (reason : NoAnswer) × (result ≡ Err reason) × IsNoAnswer other reason
+
+abbrev pub TellsAges : Message → Result (List OwnerAge) NoAnswer → Type 0
+TellsAges (Ages ages) result = result ≡ Ok ages
+TellsAges other result = (reason : NoAnswer) × (result ≡ Err reason) × IsNoAnswer other reason

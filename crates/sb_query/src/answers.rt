@@ -1,7 +1,7 @@
 //! What a message means to the caller that sent a request.
-ghost use Rattle.sb_query.specs.Answers.{IsNoAnswer, TellsVersion, TellsPage, TellsStatus};
+ghost use Rattle.sb_query.specs.Answers.{IsNoAnswer, TellsVersion, TellsPage, TellsStatus, TellsNotice, TellsAges};
 
-use sb_codec::{Message, NodeStatus, Rows};
+use sb_codec::{Ages, Message, NodeStatus, Notice, Rows};
 use sb_types::Fault;
 
 /// Why a message is not the answer to a request.
@@ -49,6 +49,26 @@ pub fn status_in(message: Message) -> Result<NodeStatus, NoAnswer>
 {
     match message {
         Message::NodeStatus(status) => Ok(status),
+        other => Err(no_answer(&other)),
+    }
+}
+
+/// Returns the notice that answers an AskChange. `Refused` and `OtherKind` as in `version_in`.
+pub fn notice_in(message: &Message) -> Result<Notice, NoAnswer>
+    ensures { TellsNotice message.now result }
+{
+    match message {
+        Message::Notice(notice) => Ok(*notice),
+        other => Err(no_answer(other)),
+    }
+}
+
+/// Returns the ages that answer an AskAges. `Refused` and `OtherKind` as in `version_in`.
+pub fn ages_in(message: Message) -> Result<Ages, NoAnswer>
+    ensures { TellsAges message result }
+{
+    match message {
+        Message::Ages(ages) => Ok(ages),
         other => Err(no_answer(&other)),
     }
 }

@@ -39,7 +39,7 @@ mod printing;
 mod status_pages;
 
 pub use answering::{answer, first_at};
-pub use answers::{NoAnswer, page_in, status_in, version_in};
+pub use answers::{NoAnswer, ages_in, notice_in, page_in, status_in, version_in};
 pub use laws::{listings_are_whole, pages_follow};
 pub use paging::{Pager, PagingFault, ask_all, goes_on};
 pub use printing::{add_row, print_rows};

@@ -11,6 +11,7 @@ use Rattle.sb_holdings.specs.Nodes.{Node}
 use Rattle.sb_codec.specs.declared.message.Message.{Message}
 use Rattle.sb_codec.specs.declared.message.Message.TheVariants as kinds
 use Rattle.sb_codec.specs.declared.message.ask.Ask as asking
+use Rattle.sb_codec.specs.declared.message.ages.OwnerAge.{OwnerAge}
 use Rattle.sb_codec.specs.Records.{Rows}
 use Rattle.sb_frames.specs.Frames.{frame}
 use Rattle.sb_frames.specs.Sending.{Sends}
@@ -78,11 +79,21 @@ Answers seen opening budget old owed before (kinds.Done x) new owes after reply 
 Answers seen opening budget old owed before (kinds.Refused x) new owes after reply = (new ≡ old) × (owes ≡ owed) × (after ≡ before) × IsUnknown reply
 Answers seen opening budget old owed before (kinds.AskStatus x) new owes after reply = (new ≡ old) × (owes ≡ owed) × (after ≡ before) × IsUnknown reply
 Answers seen opening budget old owed before (kinds.NodeStatus x) new owes after reply = (new ≡ old) × (owes ≡ owed) × (after ≡ before) × IsUnknown reply
+Answers seen opening budget old owed before (kinds.AskChange x) new owes after reply = (new ≡ old) × (owes ≡ owed) × (after ≡ before) × IsUnknown reply
+Answers seen opening budget old owed before (kinds.Notice x) new owes after reply = (new ≡ old) × (owes ≡ owed) × (after ≡ before) × IsUnknown reply
+Answers seen opening budget old owed before kinds.AskAges new owes after reply = (new ≡ old) × (owes ≡ owed) × (after ≡ before) × IsUnknown reply
+Answers seen opening budget old owed before (kinds.Ages x) new owes after reply = (new ≡ old) × (owes ≡ owed) × (after ≡ before) × IsUnknown reply
 
--- what a running node answers: a question how it is by its status, and all else as a node of which nothing else is known
+-- how long ago each owner was heard; or there was no memory for it
+abbrev pub IsAgesReply : Message → Type 0
+IsAgesReply reply = ((ages : List OwnerAge) × (reply ≡ kinds.Ages ages)) ⊎ (reply ≡ kinds.Refused (number_of NoMemory))
+
+-- what a running node answers: a question how it is by its status, one for ages by them, and all else as a node of which nothing
+-- else is known
 abbrev pub AnswersAll : {L : Type 0} → (L → Log) → Node → Settings → L → Option Committed → Seat → Message → L → Option Committed → Seat → Message → Type 0
 AnswersAll seen opening settings old owed before (kinds.AskStatus asked) new owes after reply =
     (new ≡ old) × (owes ≡ owed) × IsStatusReply opening settings before asked after reply
+AnswersAll seen opening settings old owed before kinds.AskAges new owes after reply = (new ≡ old) × (owes ≡ owed) × (after ≡ before) × IsAgesReply reply
 AnswersAll seen opening settings old owed before request new owes after reply = Answers seen opening settings.budget old owed before request new owes after reply
 
 -- this request is answered; or it failed, and nothing changes

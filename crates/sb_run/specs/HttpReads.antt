@@ -36,6 +36,10 @@ AnswersQuestion opening settings before (kinds.Rows x) after reply = (after ≡ 
 AnswersQuestion opening settings before (kinds.Done x) after reply = (after ≡ before) × IsUnknown reply
 AnswersQuestion opening settings before (kinds.Refused x) after reply = (after ≡ before) × IsUnknown reply
 AnswersQuestion opening settings before (kinds.NodeStatus x) after reply = (after ≡ before) × IsUnknown reply
+AnswersQuestion opening settings before (kinds.AskChange x) after reply = (after ≡ before) × IsUnknown reply
+AnswersQuestion opening settings before (kinds.Notice x) after reply = (after ≡ before) × IsUnknown reply
+AnswersQuestion opening settings before kinds.AskAges after reply = (after ≡ before) × IsUnknown reply
+AnswersQuestion opening settings before (kinds.Ages x) after reply = (after ≡ before) × IsUnknown reply
 
 -- the owners of the view after these events
 abbrev pub AreOwnersAfter : Node → List Event → List HeldOwner → Type 0

@@ -10,6 +10,7 @@ use crate::dialer::RoundsTag;
 use crate::first_message::{FIRST_MOST, is_enough, name_of};
 use crate::sockets::WAKER_TOKEN;
 use crate::threads::NodeContext;
+use crate::watchers::WatcherList;
 use mio::net::UnixStream;
 use mio::{Events, Interest, Poll, Registry, Token};
 use sb_codec::Message;
@@ -172,9 +173,10 @@ impl Backlog {
     }
 
     /// Hands on the connection of this number, if it has said enough.
-    fn take_up<S: RoundsTag, H: Wait + Drop, Q: Wait>(
+    fn take_up<S: RoundsTag, H: Wait + Drop, Q: Wait + Clock>(
         &mut self,
         node: &NodeContext<S, H, Q>,
+        watchers: &mut WatcherList<S>,
         registry: &Registry,
         number: usize,
     ) -> Result<(), Fault> {
@@ -188,14 +190,30 @@ impl Backlog {
             .callers
             .take_request::<Brand>(registry, number, Blank::new(1))?;
         match whole {
+            Some((Message::AskChange(asked), stream)) => {
+                watchers.admit(node, registry, number, &asked, stream)
+            }
             Some((request, stream)) => {
                 let given = self
                     .handover
                     .give_request(node.rt, node.asked, request, stream);
                 note_given(node.counts, given)
             }
-            None => Ok(()),
+            None => {
+                watchers.hear(node, registry, number);
+                Ok(())
+            }
         }
+    }
+
+    /// Tells those who wait for a change that came, or whose time is over.
+    fn tell<S: RoundsTag, H: Wait + Drop, Q: Wait + Clock>(
+        &mut self,
+        node: &NodeContext<S, H, Q>,
+        watchers: &mut WatcherList<S>,
+    ) {
+        let untold = watchers.answer(node);
+        self.faults = self.faults.saturating_add(untold);
     }
 
     /// Closes those whose time is over.
@@ -210,17 +228,22 @@ impl Backlog {
         self.faults = self.faults.saturating_add(closed);
     }
 
-    /// How long it is until the time of a connection is over; none if no connection has one.
-    fn time_left<Q: Clock>(&self, clock: &Q) -> Option<Duration> {
-        let first = match (self.peers.first_until(), self.callers.first_until()) {
-            (Some(one), Some(other)) => Some(one.min(other)),
-            (one, other) => one.or(other),
-        };
-        let until = first?;
+    /// How long it is until the time of a connection is over, or until this moment; none if there is no moment.
+    fn time_left<Q: Clock>(&self, clock: &Q, until: Option<Instant>) -> Option<Duration> {
+        let lists = earlier(self.peers.first_until(), self.callers.first_until());
+        let until = earlier(lists, until)?;
         match Instant::now(clock) {
             Ok(now) => Some(until.saturating_duration_since(now)),
             Err(_) => Some(Duration::from_millis(ACCEPT_PAUSE)),
         }
+    }
+}
+
+/// The earlier of two moments, if there is one.
+pub(crate) fn earlier(one: Option<Instant>, other: Option<Instant>) -> Option<Instant> {
+    match (one, other) {
+        (Some(one), Some(other)) => Some(one.min(other)),
+        (one, other) => one.or(other),
     }
 }
 
@@ -278,13 +301,15 @@ impl Acceptor {
             mut events,
             mut backlog,
         } = self;
+        let mut watchers = WatcherList::new(node.alloc);
         for _ in node.rt.forever() {
             let registry = poll.registry();
             let left = [
                 backlog.accept_at(node, registry, At::Sock),
                 backlog.accept_at(node, registry, At::Control),
             ];
-            let patience = patience(left, backlog.time_left(node.rt));
+            let time_left = backlog.time_left(node.rt, watchers.first_until());
+            let patience = patience(left, time_left);
             if poll.poll(&mut events, patience).is_err() {
                 thread::sleep(node.rt, Duration::from_millis(ACCEPT_PAUSE));
             }
@@ -293,12 +318,14 @@ impl Acceptor {
             }
             for event in &events {
                 let number = event.token().0;
-                if let Err(fault) = backlog.take_up(node, poll.registry(), number) {
+                let taken = backlog.take_up(node, &mut watchers, poll.registry(), number);
+                if let Err(fault) = taken {
                     node.counts.note_version(&fault);
                     backlog.note_fault();
                 }
             }
             backlog.close_late(node.rt);
+            backlog.tell(node, &mut watchers);
         }
         unreachable!()
     }

@@ -18,7 +18,7 @@ use std::io::{Chain, Cursor, Read};
 use std::os::unix::net::UnixStream;
 use std::sync::atomic::{AtomicU64, Ordering};
 use std::sync::{Mutex, Wait};
-use std::time::{Clock, Duration};
+use std::time::{Clock, Duration, Instant};
 
 /// How many things may wait for a worker, and how many of each kind for the calling thread.
 const HANDED_MOST: usize = 1_024;
@@ -213,6 +213,15 @@ impl Handover {
     }
 }
 
+/// What the calling thread is to do next.
+#[derive(Drop)]
+pub(crate) enum Work {
+    /// To answer a request.
+    Request(Request),
+    /// To make the next beat.
+    Beat,
+}
+
 impl Requests {
     /// Whether writes may be made. They wait until the peers were heard, or until the moment up to which they wait at most.
     fn takes_writes<R: Wait + Clock>(&mut self, rt: &R, hearing: &Mutex<FirstHearing>) -> bool {
@@ -245,46 +254,72 @@ impl Requests {
         self.take(rt, true)
     }
 
-    /// Waits for the arrival of a request, only for a while if writes wait. Whether one arrived; none if no more can.
-    fn await_arrival<R: Wait + Clock>(&self, rt: &R) -> Option<bool> {
-        if self.held == 0 {
+    /// What is to be done before the arrival of another request: a write that had to wait, or a beat whose moment has come. None
+    /// while writes have to wait.
+    fn take_due<R: Wait + Clock>(
+        &mut self,
+        rt: &R,
+        takes_writes: bool,
+        beat: Option<Instant>,
+    ) -> Option<Work> {
+        if !takes_writes {
+            return None;
+        }
+        if has_come(rt, beat) {
+            return Some(Work::Beat);
+        }
+        let request = self.take_held(rt)?;
+        Some(Work::Request(request))
+    }
+
+    /// Waits for the arrival of a request, and no longer than until the next beat. If a write or a beat has to wait, it waits only
+    /// for a while. Whether one arrived; none if no more can.
+    fn await_arrival<R: Wait + Clock>(
+        &self,
+        rt: &R,
+        takes_writes: bool,
+        beat: Option<Instant>,
+    ) -> Option<bool> {
+        let arrived = if !takes_writes && (self.held > 0 || beat.is_some()) {
+            let pause = Duration::from_millis(HEARING_PAUSE);
+            self.arrivals.recv_timeout(rt, pause)
+        } else if let Some(moment) = beat {
+            self.arrivals.recv_deadline(rt, moment)
+        } else {
             return match self.arrivals.recv(rt) {
                 Ok(()) => Some(true),
                 Err(_) => None,
             };
-        }
-        match self
-            .arrivals
-            .recv_timeout(rt, Duration::from_millis(HEARING_PAUSE))
-        {
+        };
+        match arrived {
             Ok(()) => Some(true),
             Err(RecvTimeoutError::Timeout) => Some(false),
             Err(RecvTimeoutError::Disconnected) => None,
         }
     }
 
-    /// The next request, questions after all others; none once the node is to end. Writes wait until the peers were heard, and
-    /// others are answered meanwhile.
+    /// What is to be done next: a beat once its moment has come, or a request, questions after all others. None once the node is to
+    /// end. Writes and beats wait until the peers were heard, and others are answered meanwhile.
     pub(crate) fn next<R: Wait + Clock>(
         &mut self,
         rt: &R,
         ending: &EndFlag,
         hearing: &Mutex<FirstHearing>,
-    ) -> Option<Request> {
+        beat: Option<Instant>,
+    ) -> Option<Work> {
         for _ in rt.forever() {
-            if self.held > 0 && self.takes_writes(rt, hearing) {
-                if let Some(request) = self.take_held(rt) {
-                    return Some(request);
-                }
+            let takes_writes = self.takes_writes(rt, hearing);
+            if let Some(work) = self.take_due(rt, takes_writes, beat) {
+                return Some(work);
             }
-            let has_arrived = self.await_arrival(rt)?;
+            let has_arrived = self.await_arrival(rt, takes_writes, beat)?;
             if ending.is_raised() {
                 return None;
             }
             if has_arrived {
                 let takes_writes = self.takes_writes(rt, hearing);
                 match self.take(rt, takes_writes) {
-                    Some(request) => return Some(request),
+                    Some(request) => return Some(Work::Request(request)),
                     None => self.held = self.held.saturating_add(1),
                 }
             }

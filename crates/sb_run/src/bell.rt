@@ -2,12 +2,11 @@
 ghost use Rattle.std.specs.Prelude.{◌≡◌, IfErr};
 
 use crossbeam_utils::sync::{Parker, Unparker};
-use sb_handlers::{Gate, GatePoint};
 use sb_types::{Delta, Fault};
 use std::alloc::Global;
 use std::sync::atomic::{AtomicBool, Ordering};
 
-/// Wakes the threads that dial when there is something new to pass on. Sessions pass it as a gate that turns nobody away.
+/// Wakes the threads that dial when there is something new to pass on.
 #[derive(Drop)]
 pub(crate) struct Bell {
     /// Wakes the thread of the turns.
@@ -101,22 +100,15 @@ impl Bell {
     }
 }
 
-impl Gate for Bell {
-    ghost lets = { λ gate session point. Unit {0} };
-
-    // It turns nobody away.
-    ghost turns_away = { λ gate session point. ⊥ };
-
-    fn pass(&self, _session: u64, _point: GatePoint) -> bool {
-        true
-    }
-
-    fn entered(&self, delta: &Delta) {
+impl Bell {
+    /// Says that a delta brought something new.
+    pub(crate) fn enter(&self, delta: &Delta) {
         let is_new_owner = delta.blocks().iter().any(|block| block.after() == 0);
         self.ring(is_new_owner);
     }
 
-    fn missed(&self) {
+    /// Says that a peer sent writes after ones that are missing.
+    pub(crate) fn miss(&self) {
         self.has_gap.store(true, Ordering::SeqCst);
         self.turns.unpark();
     }

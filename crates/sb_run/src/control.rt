@@ -22,8 +22,9 @@ use sb_frames::{Connection, send};
 use sb_log::WriteLog;
 use sb_query::answer;
 use sb_types::{
-    Fault, KIND_ASK_STATUS, KIND_BYE, KIND_DELTA, KIND_DIGEST, KIND_DONE, KIND_HELLO,
-    KIND_NODE_STATUS, KIND_REFUSED, KIND_ROWS, Key, Settings, Slot,
+    Fault, KIND_AGES, KIND_ASK_AGES, KIND_ASK_CHANGE, KIND_ASK_STATUS, KIND_BYE, KIND_DELTA,
+    KIND_DIGEST, KIND_DONE, KIND_HELLO, KIND_NODE_STATUS, KIND_NOTICE, KIND_REFUSED, KIND_ROWS,
+    Key, Settings, Slot,
 };
 use sb_views::NodeTag;
 use std::alloc::Global;
@@ -135,6 +136,10 @@ fn reply_to<L: WriteLog, S: DirectoryTag, H: Wait + Drop, Q: Wait>(
         Message::Refused(_) => (seat, refused_by(Fault::UnknownKind(KIND_REFUSED))),
         Message::AskStatus(_) => (seat, refused_by(Fault::UnknownKind(KIND_ASK_STATUS))),
         Message::NodeStatus(_) => (seat, refused_by(Fault::UnknownKind(KIND_NODE_STATUS))),
+        Message::AskChange(_) => (seat, refused_by(Fault::UnknownKind(KIND_ASK_CHANGE))),
+        Message::Notice(_) => (seat, refused_by(Fault::UnknownKind(KIND_NOTICE))),
+        Message::AskAges => (seat, refused_by(Fault::UnknownKind(KIND_ASK_AGES))),
+        Message::Ages(_) => (seat, refused_by(Fault::UnknownKind(KIND_AGES))),
     }
 }
 

@@ -9,7 +9,8 @@ ghost use Rattle.sb_run.specs.Control.{AnswersAll, AnswersTo};
 ghost use Rattle.sb_run.specs.OwnPurging.{MayPurge};
 ghost use Rattle.sb_run.specs.Running.{IsOpenedFrom};
 
-use crate::arrivals::{Request, Requests};
+use crate::arrivals::{Request, Requests, Work};
+use crate::beating::BeatTurns;
 use crate::dialer::{Dialing, RoundsTag};
 use crate::log_watch::AskObserver;
 use crate::node::OnLogFault;
@@ -41,7 +42,8 @@ pub(crate) struct ControlEnd<S: RoundsTag> {
 }
 
 impl<S: RoundsTag, H: Wait + Drop, Q: Wait + Clock> NodeContext<'_, S, H, Q> {
-    /// Writes the answer to a request: the status of the node to an AskStatus, and the answer of `Serving` to any other request.
+    /// Writes the answer to a request. To an AskStatus it is the status of the node, to an AskAges the ages of owners, and to any
+    /// other the answer of `Serving`.
     /// `WriteFailed`, with how many bytes of the answer are written; `NoMemory`, with none.
     fn write_answer<W: Write, L: WriteLog, O: Observer>(
         &self,
@@ -59,6 +61,10 @@ impl<S: RoundsTag, H: Wait + Drop, Q: Wait + Clock> NodeContext<'_, S, H, Q> {
             Message::AskStatus(asked) => {
                 let (seat, reply) = self.reply_to_ask_status(dialing, asked, seat);
                 let sent = send(self.alloc, writer, &reply);
+                (seat, sent)
+            }
+            Message::AskAges => {
+                let sent = send(self.alloc, writer, &self.reply_to_ask_ages());
                 (seat, sent)
             }
             other => self.serving().answer_request(writer, writes, seat, other),
@@ -89,9 +95,9 @@ impl<S: RoundsTag, H: Wait + Drop, Q: Wait + Clock> NodeContext<'_, S, H, Q> {
     }
 }
 
-impl<S: RoundsTag, H: Wait + Drop, Q> NodeContext<'_, S, H, Q> {
-    /// Tells the threads that dial of a write that the last request made, and the observer of a log that it closed. Whether the node
-    /// is to end with that.
+impl<S: RoundsTag, H: Wait + Drop, Q: Wait + Clock> NodeContext<'_, S, H, Q> {
+    /// Reports a write of the last request to the threads that dial and to those who wait for a change. Reports to the observer that
+    /// a log closed. Whether the node is to end with that.
     fn report_writes<L: WriteLog, O: Observer>(
         &self,
         writes: &mut OwnWrites<L>,
@@ -104,6 +110,8 @@ impl<S: RoundsTag, H: Wait + Drop, Q> NodeContext<'_, S, H, Q> {
     {
         if let Some(version) = writes.take_stored() {
             self.bell.ring(version == 1);
+            self.heard.note(self.rt, writes.owner());
+            self.tell_watchers();
         }
         if writes.take_full() {
             self.counts.add_full_write();
@@ -139,7 +147,7 @@ impl<S: RoundsTag, H: Wait + Drop, Q> NodeContext<'_, S, H, Q> {
     }
 }
 
-impl<S: RoundsTag, H: Wait + Drop, Q: Wait> NodeContext<'_, S, H, Q> {
+impl<S: RoundsTag, H: Wait + Drop, Q: Wait + Clock> NodeContext<'_, S, H, Q> {
     /// Reports what the last request did to the log, then purges if that is due, and reports what that did. Whether the node is to
     /// end with either, or because the log was closed since; then its other threads end too.
     fn ends_after<L: WriteLog, O: Observer>(
@@ -165,7 +173,37 @@ impl<S: RoundsTag, H: Wait + Drop, Q: Wait> NodeContext<'_, S, H, Q> {
     }
 }
 
+/// Notes work that may lead to a purge.
+fn note_work(turns: &mut PurgeTurns, work: &Work)
+    ensures least { turns.new.least ≡ turns.old.least }
+{
+    if let Work::Request(request) = work {
+        turns.note(&request.message);
+    }
+}
+
 impl<S: RoundsTag, H: Wait + Drop, Q: Wait + Clock> NodeContext<'_, S, H, Q> {
+    /// Answers a request, or makes a beat, and says whether that ended with a fault.
+    fn do_work<L: WriteLog, O: Observer>(
+        &self,
+        dialing: &Dialing<'_, O>,
+        writes: &mut OwnWrites<L>,
+        beats: &mut BeatTurns,
+        work: Work,
+        seat: ReaderSeat<S>,
+    ) -> (ReaderSeat<S>, bool)
+        ensures closes { (L.seen writes.old.log).is_open ≡ true → (L.seen writes.new.log).is_open ≡ false → writes.new.has_failed ≡ true }
+    {
+        match work {
+            Work::Request(request) => self.answer_one(dialing, writes, request, seat),
+            Work::Beat => {
+                let mut seat = seat;
+                self.make_beat(beats, writes, &mut seat);
+                (seat, false)
+            }
+        }
+    }
+
     /// Answers one request after another, until the node is to end. Writes wait until the peers were heard. It ends the node itself if
     /// the log takes no more writes and the node is to exit then. If the log is closed at the start, that is before the first request.
     pub(crate) fn answer_requests<L: WriteLog + Drop, O: Observer>(
@@ -190,8 +228,9 @@ impl<S: RoundsTag, H: Wait + Drop, Q: Wait + Clock> NodeContext<'_, S, H, Q> {
             };
         }
         let mut turns = PurgeTurns::new(self.pace.purge_removals);
+        let mut beats = BeatTurns::new(self.rt, self.beat);
         for _ in self.rt.forever() {
-            let Some(request) = requests.next(self.rt, self.ending, self.hearing) else {
+            let Some(work) = requests.next(self.rt, self.ending, self.hearing, beats.next()) else {
                 // A thread that dials ends the node too if it finds the log lost.
                 return ControlEnd {
                     seat: current,
@@ -200,8 +239,8 @@ impl<S: RoundsTag, H: Wait + Drop, Q: Wait + Clock> NodeContext<'_, S, H, Q> {
                 };
             };
             self.close_lost_log(&mut writes, &AskObserver { observer }, observer);
-            turns.note(&request.message);
-            let (seat, failed) = self.answer_one(dialing, &mut writes, request, current);
+            note_work(&mut turns, &work);
+            let (seat, failed) = self.do_work(dialing, &mut writes, &mut beats, work, current);
             current = seat;
             faults = faults.saturating_add(u64::from(failed));
             if self.ends_after(&mut turns, &mut writes, &mut current, observer) {
@@ -243,7 +282,7 @@ pub(crate) fn owners_at_zero<S: RoundsTag, H: Wait + Drop, Q: Wait>(
 }
 
 impl<S: RoundsTag, H: Wait + Drop, Q: Wait + Clock> NodeContext<'_, S, H, Q> {
-    /// Reports to the observer how the node is. If memory is missing, no owner at version 0 is listed.
+    /// Reports to the observer how the node is. If memory is missing, no owner at version 0 is listed, or no age.
     pub(crate) fn report_status<O: Observer>(
         &self,
         observer: &O,
@@ -252,7 +291,7 @@ impl<S: RoundsTag, H: Wait + Drop, Q: Wait + Clock> NodeContext<'_, S, H, Q> {
         seat: ReaderSeat<S>,
     ) -> ReaderSeat<S> {
         let mut seat = seat;
-        let uptime = self.counts.uptime(self.rt);
+        let (uptime, ages) = (self.counts.uptime(self.rt), self.heard.known_ages(self.rt));
         let keys = self.directory.key_count(self.rt, &mut seat);
         let conflict = self.directory.conflict(self.rt, &mut seat);
         let at_zero = match owners_at_zero(self, &mut seat) {
@@ -278,6 +317,7 @@ impl<S: RoundsTag, H: Wait + Drop, Q: Wait + Clock> NodeContext<'_, S, H, Q> {
                     conflict,
                     snapshot: entered.snapshot(),
                     owners_at_zero: at_zero.as_slice(),
+                    ages: ages.as_slice(),
                     peers,
                 });
                 entered.leave()

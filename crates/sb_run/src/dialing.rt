@@ -10,9 +10,9 @@ use crate::sockets::{connect, limit};
 use crate::threads::NodeContext;
 use sb_directory::{ReaderSeat, SeatHandler};
 use sb_frames::{Connection, Steps};
-use sb_handlers::{Asker, DeferringHandler, ForgettingHandler, GatedHandler};
+use sb_handlers::{Asker, DeferringHandler, ForgettingHandler, Gate, GatePoint, GatedHandler};
 use sb_session::{Ended, dial};
-use sb_types::{Fault, OWNERS_MOST};
+use sb_types::{Delta, Fault, Name, OWNERS_MOST};
 use std::io;
 use std::io::{Read, Write};
 use std::marker::Brand;
@@ -20,6 +20,7 @@ use std::net::Net;
 use std::os::unix::net::UnixStream;
 use std::sync::Wait;
 use std::sync::ledger::{Blank, Ledger};
+use std::time::Clock;
 
 /// The digests that cover all owners that the node holds.
 #[derive(Clone, Copy)]
@@ -56,7 +57,38 @@ pub(crate) fn digests_of_all<S: RoundsTag, H: Wait + Drop, Q: Wait>(
     })
 }
 
-impl<S: RoundsTag, H: Wait + Drop, Q: Wait> NodeContext<'_, S, H, Q> {
+/// The gate of sessions with peers that were dialed. It turns nobody away. If a session brings something new, it rings the bell,
+/// and those who wait for a change hear of it.
+#[derive(Drop)]
+struct DialedGate<'a, 'b, S: RoundsTag, H: Wait + Drop, Q> {
+    node: &'a NodeContext<'b, S, H, Q>,
+}
+
+impl<S: RoundsTag, H: Wait + Drop, Q: Wait + Clock> Gate for DialedGate<'_, '_, S, H, Q> {
+    ghost lets = { λ gate session point. Unit {0} };
+
+    // It turns nobody away.
+    ghost turns_away = { λ gate session point. ⊥ };
+
+    fn pass(&self, _session: u64, _point: GatePoint) -> bool {
+        true
+    }
+
+    fn entered(&self, delta: &Delta) {
+        self.node.bell.enter(delta);
+        self.node.tell_watchers();
+    }
+
+    fn heard(&self, owner: &Name) {
+        self.node.heard.note(self.node.rt, owner);
+    }
+
+    fn missed(&self) {
+        self.node.bell.miss();
+    }
+}
+
+impl<S: RoundsTag, H: Wait + Drop, Q: Wait + Clock> NodeContext<'_, S, H, Q> {
     /// A session over a connection to the peer at this index, of so many exchanges of digests and deltas, and how it ended. It makes at most the node's
     /// `max_reads` reads. What it enters is news.
     fn talk<I: Read, O: Write, K: Ledger>(
@@ -74,7 +106,8 @@ impl<S: RoundsTag, H: Wait + Drop, Q: Wait> NodeContext<'_, S, H, Q> {
         let asker = Some(Asker::Dialed(index));
         let served = SeatHandler::new(self.rt, self.directory, seat);
         let deferring = DeferringHandler::new(served, self.rt, self.vain_offers, asker);
-        let gated = GatedHandler::new(deferring, self.bell, 0);
+        let gate = DialedGate { node: self };
+        let gated = GatedHandler::new(deferring, &gate, 0);
         let mut handler = ForgettingHandler::new(gated, self.alloc, self.forgotten);
         let session = session_of(self.directory);
         let ended = dial(connection, session, &mut handler, exchanges);
@@ -86,7 +119,7 @@ impl<S: RoundsTag, H: Wait + Drop, Q: Wait> NodeContext<'_, S, H, Q> {
 
 /// A session over the connection to a peer, which may be idle for the node's `dial_idle`, and how the peer is by it. Its reads
 /// are the first of a ledger.
-fn dial_stream<S: RoundsTag, H: Wait + Drop, Q: Wait, K: Ledger>(
+fn dial_stream<S: RoundsTag, H: Wait + Drop, Q: Wait + Clock, K: Ledger>(
     node: &NodeContext<S, H, Q>,
     stream: &UnixStream,
     seat: ReaderSeat<S>,
@@ -120,7 +153,7 @@ pub(crate) fn reach<S: RoundsTag, H: Wait + Drop, Q: Net>(
 }
 
 /// Dials the peer at this index and this path, for so many exchanges, and how the peer is by this round.
-pub(crate) fn dial_peer<S: RoundsTag, H: Wait + Drop, Q: Wait + Net>(
+pub(crate) fn dial_peer<S: RoundsTag, H: Wait + Drop, Q: Wait + Net + Clock>(
     node: &NodeContext<S, H, Q>,
     index: usize,
     path: &str,

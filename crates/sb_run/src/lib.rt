@@ -20,6 +20,7 @@
 //!         settings,
 //!         paths: *paths,
 //!         pace,
+//!         beat: None,
 //!         forgotten: &[],
 //!     };
 //!     run_node(rt, alloc, config, log, &Nobody)
@@ -104,6 +105,16 @@
 //!   much, stops too soon, or goes on too long. The tests of `sb_run` and `tools/check-node` refuse it.
 //! - The first write never waits for the peers, or waits for longer than it may. Or other requests wait with it. Or the
 //!   first rounds are not made at once. The tests of `sb_run` and `tools/check-node` refuse it.
+//! - A caller that waits for a change never hears of one, hears of one that did not come, or hears too late. Or a watch for
+//!   it stays after it left. The tests of `sb_run` and `tools/check-node` refuse it.
+//! - An owner has a wrong age or none: no clause is about when an owner was heard. The tests of `sb_run` and
+//!   `tools/check-node` refuse it.
+//! - A beat is missing, comes too often, or is another write than its key and true. The tests of `sb_run` and
+//!   `tools/check-node` refuse it.
+//! - The calling thread takes a request and does not answer it, or makes beats alone. The tests of `sb_run` and
+//!   `tools/check-node` refuse it.
+//! - The gate of a dialed session, or that of the node, tells nobody what was entered, heard or missed. The tests of
+//!   `sb_run` and `tools/check-node` refuse it.
 //! - A peer that dials counts as one that is not known, although its Hello has its name. `tools/check-node` refuses it.
 //! - A node answers nobody over HTTP, or each question by the number of `Closed`. `tools/check-node` refuses it.
 //! - Over HTTP the owners or the metrics are a fault each time, or the metrics are others. `tools/check-node` refuses it.
@@ -122,6 +133,7 @@ mod arrivals;
 mod audit_turns;
 mod auditing;
 mod backlogs;
+mod beating;
 mod bell;
 mod control;
 mod control_socket;
@@ -131,6 +143,7 @@ mod dialing;
 mod facts;
 mod first_hearing;
 mod first_message;
+mod heard;
 mod http_socket;
 mod http_threads;
 mod laws;
@@ -147,11 +160,14 @@ mod sockets;
 mod status_reply;
 mod status_texts;
 mod threads;
+mod watchers;
 
 pub use http_socket::is_own_port;
 pub use http_threads::HTTP_WORKERS;
 pub use laws::{forgotten_owners_stay_out, running_nodes_keep_truth, running_nodes_tell_truth};
-pub use node::{NodeConfig, OnLogFault, Pace, Paths, Ran, Runtime, run_closed_node, run_node};
+pub use node::{
+    Beat, NodeConfig, OnLogFault, Pace, Paths, Ran, Runtime, run_closed_node, run_node,
+};
 pub use observer::{Nobody, Observer, PushCounts, Status, Troubles};
 pub use own_writes::{OwnWrites, Stored};
 pub use peers::{DownReason, Peer, PeerState};

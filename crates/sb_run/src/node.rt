@@ -10,6 +10,7 @@ use crate::bell::Bell;
 use crate::counts::Counts;
 use crate::dialer::{Dialing, RoundsTag, rounds_channel};
 use crate::first_hearing::FirstHearing;
+use crate::heard::HeardTimes;
 use crate::http_threads::HTTP_WORKERS;
 use crate::observer::Observer;
 use crate::own_writes::{ClosableLog, OwnWrites};
@@ -17,12 +18,13 @@ use crate::sockets::BoundSockets;
 use crate::threads::{
     EndFlag, Links, NodeContext, ThreadSeats, ThreadsEnd, gather_seats, part_seats,
 };
+use crate::watchers::WatcherCount;
 use sb_directory::Directory;
 use sb_handlers::{ForgottenOwners, VainOffers};
 use sb_log::WriteLog;
 use sb_node::NodeCore;
 use sb_table::Table;
-use sb_types::{Fault, Name, Settings};
+use sb_types::{Fault, Key, Name, Settings};
 use sb_views::NewHistory;
 use std::alloc::Global;
 use std::marker::Brand;
@@ -86,12 +88,22 @@ pub struct Pace {
     pub hearing: u64,
 }
 
-/// What a node is to do: its settings, its sockets and its pace, and which owners it forgets.
+/// A write that a node makes of itself again and again, so that its peers hear of it: true, under a key of its own.
+#[derive(Clone, Copy, Debug)]
+pub struct Beat {
+    /// How long it waits after each such write, in milliseconds, at least 1.
+    pub pause: u64,
+    pub key: Key,
+}
+
+/// What a node is to do: its settings, its sockets, its pace and its beat, and which owners it forgets.
 #[derive(Clone, Copy, Debug)]
 pub struct NodeConfig<'a> {
     pub settings: Settings,
     pub paths: Paths<'a>,
     pub pace: Pace,
+    /// How it shows that it lives, while nobody else writes; none if it does not.
+    pub beat: Option<Beat>,
     /// The owners whose rows it does not take from its peers, as if it had no room for them. Its own name does not count.
     pub forgotten: &'a [Name],
 }
@@ -161,6 +173,12 @@ fn start_refusal<L: WriteLog>(settings: &Settings, http: Option<&str>, log: &L) 
 /// peer was heard: its first round ended, and so did its first audit if it answered. It waits no longer than until `hearing`
 /// milliseconds after the start. Other requests are answered meanwhile.
 ///
+/// A client that waits for a change holds no thread. Its connection waits where those wait that have said nothing yet, and the
+/// thread that accepts reports the change to it. At most 64 clients may wait so; one more is refused by `WatchesFull`.
+///
+/// With a `beat` the calling thread writes the flag true under its key, at once and then after each pause. It is an own write
+/// like any other. None is made once the log is closed, or while another node writes under the own name.
+///
 /// A connection takes a worker or the calling thread only once it has something to say: a peer's whole Hello, or a client's
 /// whole request. Until then it waits, for `idle` milliseconds at `sock` and for `request` at `control`, or `idle` if that is
 /// 0. At most 1,024 wait at a socket; one more closes the oldest that sent nothing, or else the oldest.
@@ -209,6 +227,7 @@ pub fn run_node<
         settings,
         paths,
         pace,
+        beat,
         forgotten,
     } = config;
     if let Some(fault) = start_refusal(&settings, paths.http, &log) {
@@ -218,6 +237,7 @@ pub fn run_node<
         settings,
         paths,
         pace,
+        beat,
         forgotten,
     };
     let mut log = log;
@@ -256,12 +276,14 @@ pub fn run_closed_node<
         settings,
         paths,
         pace,
+        beat,
         forgotten,
     } = config;
     let config = NodeConfig {
         settings,
         paths,
         pace,
+        beat,
         forgotten,
     };
     if log.cause().is_none() {
@@ -294,6 +316,7 @@ fn run_with_table<
         settings,
         paths,
         pace,
+        beat,
         forgotten,
     } = config;
     if let Some(fault) = start_refusal(&settings, paths.http, &log) {
@@ -303,6 +326,7 @@ fn run_with_table<
         settings,
         paths,
         pace,
+        beat,
         forgotten,
     };
     run_opened(
@@ -339,6 +363,7 @@ fn run_opened<
         settings,
         paths,
         pace,
+        beat,
         forgotten,
     } = config;
     let forgotten = ForgottenOwners::new(alloc, forgotten, writes.owner())?;
@@ -351,6 +376,7 @@ fn run_opened<
     let start = NodeStart {
         directory,
         forgotten,
+        beat,
         writes,
     };
     run_tagged::<Brand, L, R, O>(rt, alloc, start, &paths, pace, observer)
@@ -379,6 +405,8 @@ pub(crate) struct NodeStart<L: WriteLog> {
     pub(crate) directory: DirectoryStart,
     /// The owners that it forgets.
     pub(crate) forgotten: ForgottenOwners,
+    /// How it shows that it lives, if it does.
+    pub(crate) beat: Option<Beat>,
     /// Its log, and the write in it that is still to be handed to the directory.
     pub(crate) writes: OwnWrites<ClosableLog<L>>,
 }
@@ -451,7 +479,7 @@ pub(crate) fn run_tagged<
     ensures fault { IfErr result (IsOpenedFault pace.on_log_fault) }
     ensures failed { start.writes.has_failed ≡ true → pace.on_log_fault ≡ OnLogFault.Exit → IsErr result }
 {
-    let (rounds_sender, rounds_receiver) = rounds_channel::<S>(alloc)?;
+    let rounds = rounds_channel::<S>(alloc)?;
     let (handover, jobs, requests) = new_handover(alloc)?;
     let events = Acceptor::events(alloc)?;
     let http = http_seats(paths.http);
@@ -464,17 +492,13 @@ pub(crate) fn run_tagged<
         return Err(Fault::ReadFailed);
     };
     observer.listening();
-    let links = Links {
-        acceptor: Acceptor::new(alloc, poll, events, handover),
-        jobs,
-        turns,
-        requests,
-        rounds_sender,
-        rounds_receiver,
-    };
+    let acceptor = Acceptor::new(alloc, poll, events, handover);
+    let links = Links::new(acceptor, jobs, requests, turns, rounds);
     let (workers, forgotten) = (directory.settings().workers(), start.forgotten);
     let (ending, counts, asked) = (EndFlag::new(), Counts::new(rt, workers), Asked::new());
     let (vain_offers, hearing) = (VainOffers::new(alloc), Mutex::new(hearing));
+    let watchers = WatcherCount::new();
+    let heard = HeardTimes::new(rt, alloc, directory.name());
     let node = NodeContext {
         rt,
         alloc,
@@ -487,7 +511,10 @@ pub(crate) fn run_tagged<
         forgotten: &forgotten,
         vain_offers: &vain_offers,
         hearing: &hearing,
+        watchers: &watchers,
+        heard: &heard,
         pace,
+        beat: start.beat,
     };
     let finished = dialing.run_threads(&node, start.writes, thread_seats, links);
     sockets.remove(rt);

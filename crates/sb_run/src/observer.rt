@@ -1,6 +1,7 @@
 //! The observer of a running node.
 
 use crate::peers::{Peer, PeerState};
+use sb_codec::OwnerAge;
 use sb_control::{LogCause, LogLoss};
 use sb_directory::Difference;
 use sb_log::StoreCause;
@@ -39,6 +40,7 @@ use std::fmt;
 ///         settings,
 ///         paths: *paths,
 ///         pace,
+///         beat: None,
 ///         forgotten: &[],
 ///     };
 ///     match run_node(rt, alloc, config, log, &observer) {
@@ -152,6 +154,9 @@ pub struct Status<'a> {
     /// The owners that it held at version 0 shortly before, in ascending order: those with nothing but a stage, and itself before
     /// its first write. None is listed if memory is missing. The snapshot may show some of them by now.
     pub owners_at_zero: &'a [Name],
+    /// How long ago the held version of each owner rose last, in ascending order of the names. The node's own time begins at its
+    /// start. An owner that was not heard since then is not listed.
+    pub ages: &'a [OwnerAge],
     /// Whom it dials.
     pub peers: &'a [Peer<'a>],
 }

@@ -5,6 +5,7 @@ ghost use Rattle.sb_views.specs.Histories.{node_after};
 ghost use Rattle.sb_query.specs.Statuses as pages;
 ghost use Rattle.sb_views.specs.NodeViews.{upto_of};
 ghost use Rattle.sb_directory.specs.Serving.{IsStill, IsLater};
+ghost use Rattle.sb_run.specs.Control.{IsAgesReply};
 ghost use Rattle.sb_run.specs.Facts.{figures_of};
 ghost use Rattle.sb_run.specs.StatusReplies as spec;
 ghost use Rattle.sb_run.specs.StatusReplies.{identity_of, IsCounted, IsShownUpTo, IsStatusFault, IsStatusReply};
@@ -17,7 +18,7 @@ use crate::observer::Observer;
 use crate::schedule::PeersReport;
 use crate::status_texts::short_text;
 use crate::threads::NodeContext;
-use sb_codec::{AskStatus, Message, NodeIdentity, NodeStatus};
+use sb_codec::{Ages, AskStatus, Message, NodeIdentity, NodeStatus};
 use sb_directory::ReaderSeat;
 use sb_query::status_page;
 use sb_types::{Fault, Name, Settings};
@@ -206,6 +207,19 @@ impl<S: RoundsTag, H: Wait + Drop, Q: Wait + Clock> NodeContext<'_, S, H, Q> {
         match self.page_with(&facts, &report, dialing.observer().release(), asked) {
             Ok(page) => (seat, Message::NodeStatus(page)),
             Err(fault) => (seat, refused_by(fault)),
+        }
+    }
+
+    /// The answer to an AskAges: how long ago each owner was heard, or that there is no memory for it.
+    pub(crate) fn reply_to_ask_ages(&self) -> Message
+        ensures { IsAgesReply result }
+    {
+        let Ok(ages) = self.heard.ages(self.rt) else {
+            return refused_by(Fault::NoMemory);
+        };
+        match Ages::new(ages) {
+            Ok(ages) => Message::Ages(ages),
+            Err(_) => refused_by(Fault::NoMemory),
         }
     }
 }

@@ -11,18 +11,20 @@ use crate::control_socket::ControlEnd;
 use crate::counts::Counts;
 use crate::dialer::{Dialing, Rounds, RoundsReceiver, RoundsSender, RoundsTag, Turns};
 use crate::first_hearing::FirstHearing;
+use crate::heard::HeardTimes;
 use crate::log_watch::LogWatch;
-use crate::node::{OnLogFault, Pace, Runtime};
+use crate::node::{Beat, OnLogFault, Pace, Runtime};
 use crate::observer::Observer;
 use crate::own_writes::{ClosableLog, OwnWrites};
 use crate::pool::{Pooled, Serving};
 use crate::sockets::BoundSockets;
+use crate::watchers::WatcherCount;
 use sb_control::LogCause;
 use sb_directory::{Directory, DirectoryTag, ReaderSeat};
 use sb_handlers::{ForgottenOwners, Gate, GatePoint, VainOffers};
 use sb_log::{StoreCause, WriteLog};
 use sb_session::Ended;
-use sb_types::{Delta, Fault};
+use sb_types::{Delta, Fault, Name};
 use std::alloc::Global;
 use std::net::{Net, TcpListener, TcpStream};
 use std::sync::atomic::{AtomicBool, Ordering};
@@ -43,12 +45,33 @@ pub(crate) struct ThreadsEnd<S: RoundsTag> {
 /// What the threads of a node have beside their seats: one thread each has a part of it.
 #[derive(Drop)]
 pub(crate) struct Links<'a, S: RoundsTag> {
-    pub(crate) acceptor: Acceptor,
-    pub(crate) jobs: Jobs,
-    pub(crate) turns: Turns<'a>,
-    pub(crate) requests: Requests,
-    pub(crate) rounds_sender: RoundsSender<S>,
-    pub(crate) rounds_receiver: RoundsReceiver<S>,
+    acceptor: Acceptor,
+    jobs: Jobs,
+    turns: Turns<'a>,
+    requests: Requests,
+    rounds_sender: RoundsSender<S>,
+    rounds_receiver: RoundsReceiver<S>,
+}
+
+impl<'a, S: RoundsTag> Links<'a, S> {
+    /// What the threads are given. The dialing thread sends its rounds over the last.
+    pub(crate) fn new(
+        acceptor: Acceptor,
+        jobs: Jobs,
+        requests: Requests,
+        turns: Turns<'a>,
+        rounds: (RoundsSender<S>, RoundsReceiver<S>),
+    ) -> Links<'a, S> {
+        let (rounds_sender, rounds_receiver) = rounds;
+        Links {
+            acceptor,
+            jobs,
+            turns,
+            requests,
+            rounds_sender,
+            rounds_receiver,
+        }
+    }
 }
 
 /// The seats of the threads that dial.
@@ -124,10 +147,7 @@ fn serve_arrivals<
         node.pace,
         node.counts,
     );
-    let gate = NodeGate {
-        bell: node.bell,
-        counts: node.counts,
-    };
+    let gate = NodeGate { node };
     let serving = node.serving();
     match serving.serve_pool(seats, &source, &gate) {
         Ok(pooled) => pooled,
@@ -520,7 +540,11 @@ pub(crate) struct NodeContext<'a, S: RoundsTag, H: Wait + Drop, Q> {
     pub(crate) vain_offers: &'a VainOffers,
     /// Which peers were heard.
     pub(crate) hearing: &'a Mutex<FirstHearing>,
+    pub(crate) watchers: &'a WatcherCount,
+    pub(crate) heard: &'a HeardTimes,
     pub(crate) pace: Pace,
+    /// How the node shows that it lives, if it does.
+    pub(crate) beat: Option<Beat>,
     ghost paced: { pace.rounds ≡ S.rounds },
 }
 
@@ -634,15 +658,14 @@ impl<S: RoundsTag, H: Wait + Drop, Q> NodeContext<'_, S, H, Q> {
     }
 }
 
-/// A gate that turns nobody away, counts each session, its fault and each gap, and rings the bell if a session brings something
-/// new.
+/// A gate that turns nobody away, counts each session, its fault and each gap. If a session brings something new, it rings the bell,
+/// and those who wait for a change hear of it.
 #[derive(Drop)]
-pub(crate) struct NodeGate<'a> {
-    pub(crate) bell: &'a Bell,
-    pub(crate) counts: &'a Counts,
+pub(crate) struct NodeGate<'a, 'b, S: RoundsTag, H: Wait + Drop, Q> {
+    pub(crate) node: &'a NodeContext<'b, S, H, Q>,
 }
 
-impl Gate for NodeGate<'_> {
+impl<S: RoundsTag, H: Wait + Drop, Q: Wait + Clock> Gate for NodeGate<'_, '_, S, H, Q> {
     ghost lets = { λ gate session point. Unit {0} };
 
     // It turns nobody away.
@@ -653,15 +676,20 @@ impl Gate for NodeGate<'_> {
     }
 
     fn entered(&self, delta: &Delta) {
-        self.bell.entered(delta);
+        self.node.bell.enter(delta);
+        self.node.tell_watchers();
+    }
+
+    fn heard(&self, owner: &Name) {
+        self.node.heard.note(self.node.rt, owner);
     }
 
     fn missed(&self) {
-        self.counts.add_gap();
-        self.bell.missed();
+        self.node.counts.add_gap();
+        self.node.bell.miss();
     }
 
     fn ended(&self, _session: u64, ended: &Result<Ended, Fault>) {
-        self.counts.end_session(ended);
+        self.node.counts.end_session(ended);
     }
 }

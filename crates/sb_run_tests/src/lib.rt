@@ -34,6 +34,8 @@ mod suffering;
 mod telling;
 #[cfg(test)]
 mod waking;
+#[cfg(test)]
+mod watching;
 
 #[cfg(test)]
 use std::fmt::Debug;

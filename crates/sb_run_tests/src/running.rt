@@ -107,6 +107,7 @@ pub(crate) fn run_observed<
         settings: settings(rt, 3),
         paths: *paths,
         pace,
+        beat: None,
         forgotten: &[],
     };
     run_node(rt, alloc, config, log, observer)
@@ -125,6 +126,7 @@ pub(crate) fn run_log<R: Host + Net<Listener = TcpListener, Stream = TcpStream>>
         settings,
         paths: *paths,
         pace,
+        beat: None,
         forgotten: &[],
     };
     run_node(rt, alloc, config, log, &Nobody)

@@ -139,6 +139,10 @@ fn add_message(words: &mut String, message: &Message) -> Result<(), Fault> {
         Message::Refused(_) => add(words, "refused\n"),
         Message::AskStatus(_) => add(words, "ask status\n"),
         Message::NodeStatus(_) => add(words, "node status\n"),
+        Message::AskChange(_) => add(words, "ask change\n"),
+        Message::Notice(_) => add(words, "notice\n"),
+        Message::AskAges => add(words, "ask ages\n"),
+        Message::Ages(_) => add(words, "ages\n"),
     }
 }
 

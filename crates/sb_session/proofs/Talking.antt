@@ -281,6 +281,10 @@ ended_by step s h (kinds.Done version) reason s' h' takes = absurd takes
 ended_by step s h (kinds.Refused fault) reason s' h' takes = absurd takes
 ended_by step s h (kinds.AskStatus after) reason s' h' takes = absurd takes
 ended_by step s h (kinds.NodeStatus told) reason s' h' takes = absurd takes
+ended_by step s h (kinds.AskChange asked) reason s' h' takes = absurd takes
+ended_by step s h (kinds.Notice notice) reason s' h' takes = absurd takes
+ended_by step s h kinds.AskAges reason s' h' takes = absurd takes
+ended_by step s h (kinds.Ages ages) reason s' h' takes = absurd takes
 
 bye_taken : {H : Type 0} (step : H → Act → H → Type 0) (s : Session) (h : H) (m : Message) (answer : Replies) (reason : ℕ) (s' : Session) (h' : H)
     → TakesUp step s h m (Ok answer) s' h' → bye_of answer ≡ Some reason → m ≡ kinds.Bye reason

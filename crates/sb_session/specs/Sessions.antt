@@ -3,7 +3,7 @@ use Rattle.std.specs.Prelude.{ℕ, nat_eq, if◌then◌else◌, List, Option, So
 use Rattle.std.specs.Cmp.Lexicographic.{pointwise}
 use Rattle.sb_types.specs.declared.fault.Fault.{Fault}
 use Rattle.sb_types.specs.declared.fault.Fault.TheVariants as faults
-use Rattle.sb_types.specs.declared.format.TheConstants.{KIND_ASK, KIND_ROWS, KIND_PUT, KIND_DONE, KIND_REFUSED, KIND_ASK_STATUS, KIND_NODE_STATUS}
+use Rattle.sb_types.specs.declared.format.TheConstants.{KIND_ASK, KIND_ROWS, KIND_PUT, KIND_DONE, KIND_REFUSED, KIND_ASK_STATUS, KIND_NODE_STATUS, KIND_ASK_CHANGE, KIND_NOTICE, KIND_ASK_AGES, KIND_AGES}
 use Rattle.sb_codec.specs.declared.message.hello.Hello.{Hello}
 use Rattle.sb_codec.specs.declared.message.Message.{Message}
 use Rattle.sb_codec.specs.declared.message.Message.TheVariants as kinds
@@ -71,3 +71,7 @@ refusal_of s (kinds.Done version) = kind_refusal s.phase KIND_DONE
 refusal_of s (kinds.Refused fault) = kind_refusal s.phase KIND_REFUSED
 refusal_of s (kinds.AskStatus after) = kind_refusal s.phase KIND_ASK_STATUS
 refusal_of s (kinds.NodeStatus told) = kind_refusal s.phase KIND_NODE_STATUS
+refusal_of s (kinds.AskChange asked) = kind_refusal s.phase KIND_ASK_CHANGE
+refusal_of s (kinds.Notice notice) = kind_refusal s.phase KIND_NOTICE
+refusal_of s kinds.AskAges = kind_refusal s.phase KIND_ASK_AGES
+refusal_of s (kinds.Ages ages) = kind_refusal s.phase KIND_AGES

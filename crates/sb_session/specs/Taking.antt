@@ -5,7 +5,7 @@ use Rattle.sb_types.specs.declared.fault.Fault.TheVariants as faults
 use Rattle.sb_types.specs.Records.{Block}
 use Rattle.sb_digest.specs.Digests as digests
 use Rattle.sb_codec.specs.declared.message.Message.{Message}
-use Rattle.sb_codec.specs.declared.message.Message.TheVariants.{Hello, Digest, Delta, Bye, Ask, Rows, Put, Done, Refused, AskStatus, NodeStatus}
+use Rattle.sb_codec.specs.declared.message.Message.TheVariants.{Hello, Digest, Delta, Bye, Ask, Rows, Put, Done, Refused, AskStatus, NodeStatus, AskChange, Notice, AskAges, Ages}
 use Rattle.sb_session.specs.declared.session.Phase.{Phase}
 use Rattle.sb_session.specs.declared.session.Phase.TheVariants as phases
 use Rattle.sb_session.specs.declared.replies.Replies.{Replies}
@@ -88,6 +88,10 @@ TakesUp step s h (Done version) result s' h' = ⊥
 TakesUp step s h (Refused fault) result s' h' = ⊥
 TakesUp step s h (AskStatus after) result s' h' = ⊥
 TakesUp step s h (NodeStatus told) result s' h' = ⊥
+TakesUp step s h (AskChange asked) result s' h' = ⊥
+TakesUp step s h (Notice notice) result s' h' = ⊥
+TakesUp step s h AskAges result s' h' = ⊥
+TakesUp step s h (Ages ages) result s' h' = ⊥
 
 -- refused, and closed from then on; or taken up
 abbrev pub TakesUnless : {H : Type 0} → Option Fault → (H → Act → H → Type 0) → Session → H → Message → Result Replies Fault → Session → H → Type 0

@@ -43,6 +43,10 @@ ends_round (kinds.Done version) = false
 ends_round (kinds.Refused fault) = false
 ends_round (kinds.AskStatus after) = false
 ends_round (kinds.NodeStatus told) = false
+ends_round (kinds.AskChange asked) = false
+ends_round (kinds.Notice notice) = false
+ends_round kinds.AskAges = false
+ends_round (kinds.Ages ages) = false
 
 -- the rounds that are left after a message, which may end one
 abbrev pub rounds_after : Bool → Option ℕ → Option ℕ

@@ -1,4 +1,4 @@
-ghost use Rattle.std.specs.Prelude.{◌≡◌, true, Err, OnErr, IfErr};
+ghost use Rattle.std.specs.Prelude.{◌≡◌, true, Err, OnErr, IfErr, IfSome};
 ghost use Rattle.sb_session.specs.declared.session.Phase.TheVariants as phases;
 ghost use Rattle.sb_session.specs.Sessions.{new_session, hello_of, in_phase, greeting_refusal};
 ghost use Rattle.sb_session.specs.Taking.{is_session_fault, Takes, Asks, Greets, AnswersDigest};
@@ -9,8 +9,8 @@ use crate::replies::Replies;
 use sb_codec::{Hello, Message};
 use sb_digest::Digest;
 use sb_types::{
-    Fault, KIND_ASK, KIND_ASK_STATUS, KIND_DONE, KIND_NODE_STATUS, KIND_PUT, KIND_REFUSED,
-    KIND_ROWS, Name,
+    Fault, KIND_AGES, KIND_ASK, KIND_ASK_AGES, KIND_ASK_CHANGE, KIND_ASK_STATUS, KIND_DONE,
+    KIND_NODE_STATUS, KIND_NOTICE, KIND_PUT, KIND_REFUSED, KIND_ROWS, Name,
 };
 use std::marker::Model;
 
@@ -87,7 +87,7 @@ impl Session {
     /// Takes a message. Its faults, in their order:
     ///
     /// - `Closed`.
-    /// - `UnknownKind` of the kinds 10 to 16 hex, which have no place here.
+    /// - `UnknownKind` of the kinds 10 to 1a hex, which have no place here.
     /// - `NoHello` of what comes before the peer's Hello.
     /// - `SecondHello`.
     /// - `WrongCluster` and `SameName` of the peer's Hello.
@@ -109,6 +109,10 @@ impl Session {
             (_, Message::Refused(_)) => self.refuse(Fault::UnknownKind(KIND_REFUSED)),
             (_, Message::AskStatus(_)) => self.refuse(Fault::UnknownKind(KIND_ASK_STATUS)),
             (_, Message::NodeStatus(_)) => self.refuse(Fault::UnknownKind(KIND_NODE_STATUS)),
+            (_, Message::AskChange(_)) => self.refuse(Fault::UnknownKind(KIND_ASK_CHANGE)),
+            (_, Message::Notice(_)) => self.refuse(Fault::UnknownKind(KIND_NOTICE)),
+            (_, Message::AskAges) => self.refuse(Fault::UnknownKind(KIND_ASK_AGES)),
+            (_, Message::Ages(_)) => self.refuse(Fault::UnknownKind(KIND_AGES)),
             (Phase::Waiting, Message::Hello(hello)) => self.greet(&hello),
             (Phase::Waiting, _) => self.refuse(Fault::NoHello),
             (Phase::Greeted, Message::Hello(_)) => self.refuse(Fault::SecondHello),
@@ -144,7 +148,8 @@ impl Session {
 
     /// Why the first Hello is refused, if it is.
     fn greeting_fault(&self, hello: &Hello) -> Option<Fault>
-        ensures { result ≡ greeting_refusal self.now hello.now }
+        ensures answer { result ≡ greeting_refusal self.now hello.now }
+        ensures fault { IfSome result (λ fault. is_session_fault fault ≡ true) }
     {
         if hello.cluster != self.cluster {
             return Some(Fault::WrongCluster);
@@ -157,7 +162,8 @@ impl Session {
 
     /// Why a message is refused where nothing but a Hello may come.
     fn first_fault(&self, message: &Message) -> Option<Fault>
-        ensures { result ≡ first_refusal self.now message.now }
+        ensures answer { result ≡ first_refusal self.now message.now }
+        ensures fault { IfSome result (λ fault. is_session_fault fault ≡ true) }
     {
         match (self.phase, message) {
             (Phase::Closed, _) => Some(Fault::Closed),
@@ -168,6 +174,10 @@ impl Session {
             (_, Message::Refused(_)) => Some(Fault::UnknownKind(KIND_REFUSED)),
             (_, Message::AskStatus(_)) => Some(Fault::UnknownKind(KIND_ASK_STATUS)),
             (_, Message::NodeStatus(_)) => Some(Fault::UnknownKind(KIND_NODE_STATUS)),
+            (_, Message::AskChange(_)) => Some(Fault::UnknownKind(KIND_ASK_CHANGE)),
+            (_, Message::Notice(_)) => Some(Fault::UnknownKind(KIND_NOTICE)),
+            (_, Message::AskAges) => Some(Fault::UnknownKind(KIND_ASK_AGES)),
+            (_, Message::Ages(_)) => Some(Fault::UnknownKind(KIND_AGES)),
             (Phase::Waiting, Message::Hello(hello)) => self.greeting_fault(hello),
             (Phase::Greeted, Message::Hello(_)) => Some(Fault::SecondHello),
             (_, Message::Digest(_) | Message::Delta(_) | Message::Bye(_)) => Some(Fault::NoHello),
@@ -177,7 +187,7 @@ impl Session {
     /// Takes the first message of a peer that is to say nothing but its Hello. It asks no handler. Its faults, in their order:
     ///
     /// - `Closed`.
-    /// - `UnknownKind` of the kinds 10 to 16 hex.
+    /// - `UnknownKind` of the kinds 10 to 1a hex.
     /// - `NoHello` of a Digest, a Delta or a Bye.
     /// - `SecondHello`.
     /// - `WrongCluster` and `SameName` of the Hello.

@@ -8,7 +8,9 @@ use rand_core::utils::NextWord;
 use rand_pcg::Pcg32;
 use sb_codec::Message;
 use sb_frames::{Frames, frame_of};
-use sb_testing::wire::{ASK_STATUS, BYE, HELLO_A, NODE_STATUS, PUT};
+use sb_testing::wire::{
+    AGES, ASK_AGES, ASK_CHANGE, ASK_STATUS, BYE, HELLO_A, NODE_STATUS, NOTICE, PUT,
+};
 use sb_types::Fault;
 use std::alloc::Global;
 use std::process::Abort;
@@ -43,7 +45,7 @@ const DONE: &[u8] = b"\xa7\x03\x00\x00\x00\x09\x13\x00\x00\x00\x00\x00\x00\x00\x
 const REFUSED: &[u8] = b"\xa7\x03\x00\x00\x00\x02\x14\x06";
 
 /// A frame of each kind.
-const FRAMES: [&[u8]; 11] = [
+const FRAMES: [&[u8]; 15] = [
     HELLO_A,
     DIGEST,
     DELTA,
@@ -55,6 +57,10 @@ const FRAMES: [&[u8]; 11] = [
     REFUSED,
     ASK_STATUS,
     NODE_STATUS,
+    ASK_CHANGE,
+    NOTICE,
+    ASK_AGES,
+    AGES,
 ];
 
 /// How many streams are made up.
@@ -232,7 +238,7 @@ fn wanted(place: usize, value: u8) -> Option<Answer> {
         (5, 0) => Some(Answer::Faulty(Fault::BadLength)),
         (5, 1..=0x31) => Some(Answer::Faulty(Fault::Malformed(3))),
         (5, _) => Some(Answer::Waiting),
-        (6, 1 | 2 | 4 | 0x10..=0x16) => Some(Answer::Faulty(Fault::Malformed(value))),
+        (6, 1 | 2 | 4 | 0x10..=0x1a) => Some(Answer::Faulty(Fault::Malformed(value))),
         (6, _) => Some(Answer::Faulty(Fault::UnknownKind(value))),
         _ => None,
     }
@@ -288,22 +294,22 @@ fn is_damaged(rt: &impl Abort, alloc: Global, frame: &[u8], wanted: [u64; 7]) {
 #[test]
 fn each_byte_of_a_delta_is_damaged(rt: HostRuntime) {
     let alloc = rt.alloc();
-    is_damaged(&rt, alloc, DELTA, [10_789, 378, 255, 255, 511, 245, 22_757]);
+    is_damaged(&rt, alloc, DELTA, [10_789, 378, 255, 255, 511, 241, 22_761]);
 }
 
 /// The same for a frame of each other kind.
 #[test]
 fn each_byte_is_damaged(rt: HostRuntime) {
     let alloc = rt.alloc();
-    is_damaged(&rt, alloc, HELLO_A, [108, 504, 255, 255, 511, 245, 1_182]);
-    is_damaged(&rt, alloc, DIGEST, [12_275, 450, 255, 255, 511, 245, 2_839]);
-    is_damaged(&rt, alloc, BYE, [5, 508, 255, 255, 511, 245, 261]);
-    is_damaged(&rt, alloc, ASK, [268, 498, 255, 255, 511, 245, 2_558]);
-    is_damaged(&rt, alloc, ROWS, [6_383, 468, 255, 255, 511, 245, 4_123]);
-    is_damaged(&rt, alloc, PUT, [1_951, 498, 255, 255, 511, 245, 875]);
-    is_damaged(&rt, alloc, DONE, [2_040, 501, 255, 255, 511, 245, 18]);
-    is_damaged(&rt, alloc, REFUSED, [30, 508, 255, 255, 511, 245, 236]);
-    is_damaged(&rt, alloc, ASK_STATUS, [2_041, 501, 255, 255, 511, 245, 17]);
+    is_damaged(&rt, alloc, HELLO_A, [108, 504, 255, 255, 511, 241, 1_186]);
+    is_damaged(&rt, alloc, DIGEST, [12_275, 450, 255, 255, 511, 241, 2_843]);
+    is_damaged(&rt, alloc, BYE, [6, 508, 255, 255, 511, 241, 264]);
+    is_damaged(&rt, alloc, ASK, [268, 498, 255, 255, 511, 241, 2_562]);
+    is_damaged(&rt, alloc, ROWS, [6_383, 468, 255, 255, 511, 241, 4_127]);
+    is_damaged(&rt, alloc, PUT, [1_951, 498, 255, 255, 511, 241, 879]);
+    is_damaged(&rt, alloc, DONE, [2_040, 501, 255, 255, 511, 241, 22]);
+    is_damaged(&rt, alloc, REFUSED, [30, 508, 255, 255, 511, 241, 240]);
+    is_damaged(&rt, alloc, ASK_STATUS, [2_041, 501, 255, 255, 511, 241, 21]);
 }
 
 /// The same for the status of a node.
@@ -314,8 +320,23 @@ fn each_byte_of_a_status_is_damaged(rt: HostRuntime) {
         &rt,
         alloc,
         NODE_STATUS,
-        [10_654, 446, 255, 255, 511, 245, 5_484],
+        [10_654, 446, 255, 255, 511, 241, 5_488],
     );
+}
+
+/// The same for the messages about changes and ages.
+#[test]
+fn each_byte_of_changes_and_ages_is_damaged(rt: HostRuntime) {
+    let alloc = rt.alloc();
+    is_damaged(
+        &rt,
+        alloc,
+        ASK_CHANGE,
+        [2_154, 496, 255, 255, 511, 241, 1_188],
+    );
+    is_damaged(&rt, alloc, NOTICE, [4, 508, 255, 255, 511, 241, 266]);
+    is_damaged(&rt, alloc, ASK_AGES, [0, 509, 255, 255, 511, 241, 14]);
+    is_damaged(&rt, alloc, AGES, [4_115, 487, 255, 255, 511, 241, 1_531]);
 }
 
 /// A number below another.
@@ -344,7 +365,7 @@ fn push_bytes(rt: &impl Abort, random: &mut Pcg32, stream: &mut Vec<u8>) {
 /// Puts up to three frames at the end of a stream, and changes up to three bytes.
 fn push_frames(rt: &impl Abort, random: &mut Pcg32, stream: &mut Vec<u8>) {
     for _ in 0..=below(random, 3) {
-        add(rt, stream, FRAMES[below(random, 11)]);
+        add(rt, stream, FRAMES[below(random, 15)]);
     }
     for _ in 0..below(random, 4) {
         change(random, stream);
@@ -419,6 +440,6 @@ fn made_up_streams(rt: HostRuntime) {
         let is_whole = read_made_up(&rt, rt.alloc(), &mut random, &mut counts);
         whole = whole.wrapping_add(u64::from(is_whole));
     }
-    let wanted = [63_175, 23_168, 28_691, 3_942, 6_395, 2_070, 13_501];
-    same(&rt, &(counts, whole), &(Counts::new(wanted), 22_233));
+    let wanted = [62_201, 23_159, 29_292, 4_388, 7_204, 2_275, 11_764];
+    same(&rt, &(counts, whole), &(Counts::new(wanted), 21_918));
 }

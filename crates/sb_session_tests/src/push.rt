@@ -10,8 +10,8 @@ use sb_frames::{Connection, Steps};
 use sb_session::{Ended, PushEnd, Session, push};
 use sb_testing::streams::Pieces;
 use sb_testing::wire::{
-    ASK, ASK_STATUS, BYE, DELTA_A, DELTA_B, DELTA_NONE, DIGEST_B, DONE, HELLO_A, HELLO_B,
-    NODE_STATUS, PUT, REFUSED,
+    AGES, ASK, ASK_AGES, ASK_CHANGE, ASK_STATUS, BYE, DELTA_A, DELTA_B, DELTA_NONE, DIGEST_B, DONE,
+    HELLO_A, HELLO_B, NODE_STATUS, NOTICE, PUT, REFUSED,
 };
 use sb_types::{Delta, Fault};
 use std::alloc::Global;
@@ -163,6 +163,10 @@ fn the_first_message_is_of_a_control_socket(rt: HostRuntime) {
     ends_so(&rt, alloc, &[REFUSED], Err(Fault::UnknownKind(0x14)));
     ends_so(&rt, alloc, &[ASK_STATUS], Err(Fault::UnknownKind(0x15)));
     ends_so(&rt, alloc, &[NODE_STATUS], Err(Fault::UnknownKind(0x16)));
+    ends_so(&rt, alloc, &[ASK_CHANGE], Err(Fault::UnknownKind(0x17)));
+    ends_so(&rt, alloc, &[NOTICE], Err(Fault::UnknownKind(0x18)));
+    ends_so(&rt, alloc, &[ASK_AGES], Err(Fault::UnknownKind(0x19)));
+    ends_so(&rt, alloc, &[AGES], Err(Fault::UnknownKind(0x1a)));
 }
 
 #[test]

@@ -10,8 +10,8 @@ use sb_holdings::{BlockEnd, Holdings, Report};
 use sb_session::{Handler, Replies, Session};
 use sb_table::Table;
 use sb_testing::wire::{
-    ASK, ASK_STATUS, BYE, DELTA_B, DELTA_NONE, DIGEST_A, DIGEST_B, DONE, HELLO_A, HELLO_B,
-    NODE_STATUS, PUT, REFUSED,
+    AGES, ASK, ASK_AGES, ASK_CHANGE, ASK_STATUS, BYE, DELTA_B, DELTA_NONE, DIGEST_A, DIGEST_B,
+    DONE, HELLO_A, HELLO_B, NODE_STATUS, NOTICE, PUT, REFUSED,
 };
 use sb_types::{BUDGET_LEAST, Block, Delta, Entry, Fault, Key, Name, Slot, Value};
 use std::alloc::Global;
@@ -332,6 +332,10 @@ fn messages_out_of_place_close(rt: HostRuntime) {
     has_no_place(&rt, alloc, REFUSED, 0x14);
     has_no_place(&rt, alloc, ASK_STATUS, 0x15);
     has_no_place(&rt, alloc, NODE_STATUS, 0x16);
+    has_no_place(&rt, alloc, ASK_CHANGE, 0x17);
+    has_no_place(&rt, alloc, NOTICE, 0x18);
+    has_no_place(&rt, alloc, ASK_AGES, 0x19);
+    has_no_place(&rt, alloc, AGES, 0x1a);
 }
 
 /// Tests that the message of a frame is refused if so many calls of the handler are granted, which are too few.

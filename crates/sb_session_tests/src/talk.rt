@@ -8,8 +8,8 @@ use sb_frames::{Connection, Steps};
 use sb_session::{Ended, Session, dial, serve};
 use sb_testing::streams::Pieces;
 use sb_testing::wire::{
-    ASK, ASK_STATUS, BYE, DELTA_B, DELTA_NONE, DIGEST_A, DIGEST_B, DONE, HELLO_A, HELLO_B,
-    NODE_STATUS, PUT, REFUSED,
+    AGES, ASK, ASK_AGES, ASK_CHANGE, ASK_STATUS, BYE, DELTA_B, DELTA_NONE, DIGEST_A, DIGEST_B,
+    DONE, HELLO_A, HELLO_B, NODE_STATUS, NOTICE, PUT, REFUSED,
 };
 use sb_types::Fault;
 use std::alloc::Global;
@@ -577,6 +577,10 @@ fn end_behind(rt: &impl Abort, alloc: Global, greeting: &[u8]) {
     ends_behind(rt, alloc, greeting, REFUSED, 0x14);
     ends_behind(rt, alloc, greeting, ASK_STATUS, 0x15);
     ends_behind(rt, alloc, greeting, NODE_STATUS, 0x16);
+    ends_behind(rt, alloc, greeting, ASK_CHANGE, 0x17);
+    ends_behind(rt, alloc, greeting, NOTICE, 0x18);
+    ends_behind(rt, alloc, greeting, ASK_AGES, 0x19);
+    ends_behind(rt, alloc, greeting, AGES, 0x1a);
 }
 
 /// Tests that messages end the talks if they must not come there.

@@ -1,17 +1,19 @@
 //! Payloads by hand, the greatest of each kind, and bytes that are not payloads.
 ghost use Rattle.std.specs.Prelude.{◌≤◌};
 
+use crate::ages::{ask_change, two_ages};
 use crate::status::{ask_status, one_status};
 use crate::words::{
-    ASK, ASK_BEHIND, ASK_STATUS, BELOW_ITS_FLOOR, BYE, DIGEST, DIGEST_OF_A_RANGE, DONE,
-    EMPTY_STATUS, EVERY_SLOT, GREATEST_HEAD, GREATEST_NUMBERS, HELLO, LAST_ENTRY, LAST_ROW,
-    LONGEST_ASK, LONGEST_ENTRY, LONGEST_HELLO, LONGEST_PUT, LONGEST_ROW, NO_BLOCK, NO_ENTRY,
-    NODE_STATUS, ONE_ENTRY, ONE_TEXT, PUT, PUT_OF_A_REMOVAL, REFUSED, ROWS, UP_TO_ITS_FLOOR, WRONG,
+    AGES, ASK, ASK_AGES, ASK_BEHIND, ASK_CHANGE, ASK_STATUS, BELOW_ITS_FLOOR, BYE, DIGEST,
+    DIGEST_OF_A_RANGE, DONE, EMPTY_STATUS, EVERY_SLOT, GREATEST_HEAD, GREATEST_NUMBERS, HELLO,
+    LAST_ENTRY, LAST_ROW, LONGEST_ASK, LONGEST_ENTRY, LONGEST_HELLO, LONGEST_PUT, LONGEST_ROW,
+    NO_AGES, NO_BLOCK, NO_ENTRY, NODE_STATUS, NOTICE, ONE_ENTRY, ONE_TEXT, PUT, PUT_OF_A_REMOVAL,
+    REFUSED, ROWS, UP_TO_ITS_FLOOR, WRONG,
 };
 use crate::{entry, got, holds, key, name, one, push, refusal, same, same_at, weighing, weight};
 use bytes::Bytes;
 use sb_codec::{
-    Ask, Bye, Done, Hello, Message, Refused, Row, Rows, append_payload, decode_payload,
+    Ask, Bye, Done, Hello, Message, Notice, Refused, Row, Rows, append_payload, decode_payload,
     decode_shared, encode_payload, length,
 };
 use sb_digest::{Digest, Pair};
@@ -240,6 +242,15 @@ fn assert_client_payloads(rt: &impl Abort, alloc: Global) {
     assert_payload(rt, alloc, status, NODE_STATUS);
 }
 
+fn assert_payloads_of_changes_and_ages(rt: &impl Abort, alloc: Global) {
+    assert_payload(rt, alloc, Message::AskChange(ask_change(rt)), ASK_CHANGE);
+    assert_payload(rt, alloc, Message::Notice(Notice::Changed), NOTICE);
+    assert_payload(rt, alloc, Message::Notice(Notice::Watching), "18 01");
+    assert_payload(rt, alloc, Message::Notice(Notice::Same), "18 03");
+    assert_payload(rt, alloc, Message::AskAges, ASK_AGES);
+    assert_payload(rt, alloc, Message::Ages(two_ages(rt, alloc)), AGES);
+}
+
 /// Blocks with a floor, which may be above their reach. Some reach further than their last entry, and some have no
 /// entries.
 fn assert_floored_payloads(rt: &impl Abort, alloc: Global) {
@@ -254,6 +265,7 @@ fn assert_floored_payloads(rt: &impl Abort, alloc: Global) {
 fn the_payload_of_each_message(rt: HostRuntime) {
     assert_peer_payloads(&rt, rt.alloc());
     assert_client_payloads(&rt, rt.alloc());
+    assert_payloads_of_changes_and_ages(&rt, rt.alloc());
     assert_floored_payloads(&rt, rt.alloc());
 }
 
@@ -395,6 +407,11 @@ const LENGTHS: &[(&str, u32)] = &[
     (REFUSED, 8),
     (ASK_STATUS, 15),
     (NODE_STATUS, 57),
+    (ASK_CHANGE, 22),
+    (NOTICE, 8),
+    (ASK_AGES, 7),
+    (AGES, 29),
+    (NO_AGES, 9),
     (EMPTY_STATUS, 18),
     (LONGEST_HELLO, 73),
     (LONGEST_ASK, 203),
@@ -590,7 +607,7 @@ fn payloads_of_unknown_kinds(rt: HostRuntime) {
     assert_unknown(&rt, alloc, 0x00, b"\x00");
     assert_unknown(&rt, alloc, 0x05, b"\x05\x01");
     assert_unknown(&rt, alloc, 0x0f, b"\x0f");
-    assert_unknown(&rt, alloc, 0x17, b"\x17\x01");
+    assert_unknown(&rt, alloc, 0x1b, b"\x1b\x01");
     assert_unknown(&rt, alloc, 0x55, b"\x55");
     assert_unknown(&rt, alloc, 0xff, b"\xff");
 }
@@ -670,4 +687,6 @@ fn refused_allocations(rt: HostRuntime) {
     assert_read(&rt, alloc, REFUSED, 8);
     assert_read(&rt, alloc, ASK_STATUS, 15);
     assert_read(&rt, alloc, NODE_STATUS, 57);
+    assert_read(&rt, alloc, ASK_CHANGE, 22);
+    assert_read(&rt, alloc, AGES, 29);
 }

@@ -5,6 +5,8 @@
 ghost use Rattle.std.specs.Prelude.{◌≤◌};
 
 #[cfg(test)]
+mod ages;
+#[cfg(test)]
 mod codec;
 #[cfg(test)]
 mod digest;

@@ -76,6 +76,21 @@ pub(crate) const NODE_STATUS: &str = "16 00 0161 026331 05302e332e30 0002 \
     02 0000000000000001 06 0000000000000003 \
     0001 06622e736f636b 01 0000000000000004";
 
+/// Asks for the next change of a under web/, within 30,000 milliseconds.
+pub(crate) const ASK_CHANGE: &str = "17 0161 047765622f 0000000000007530";
+
+/// Something changed.
+pub(crate) const NOTICE: &str = "18 02";
+
+/// Asks how long ago each owner was heard.
+pub(crate) const ASK_AGES: &str = "19";
+
+/// a was heard just now, and b 1,500 milliseconds ago.
+pub(crate) const AGES: &str = "1a 0002 0161 0000000000000000 0162 00000000000005dc";
+
+/// Nobody was heard.
+pub(crate) const NO_AGES: &str = "1a 0000";
+
 /// A status without figures. More peers follow, and it has none.
 pub(crate) const EMPTY_STATUS: &str = "16 01 0161 0161 0130 0000 0000";
 
@@ -231,6 +246,24 @@ pub(crate) const WRONG: &[&str] = &[
     "16 01 0161 0161 0130 0000 0001 0162 01",
     "16 01 0161 0161 0130 0000 0002 0162 01 0000000000000004",
     "16 01 0161 0161 0130 0000 0000 00",
+    // an owner that is no name; a prefix that is none; a wait of seven bytes; one more byte
+    "17 0141 00 0000000000007530",
+    "17 00 0141 0000000000007530",
+    "17 00 00 00000000007530",
+    "17 00 00 0000000000007530 00",
+    // no notice; one below and one above them; two
+    "18",
+    "18 00",
+    "18 04",
+    "18 01 02",
+    // a body, which there is none
+    "19 00",
+    // owners b, then a; a twice; no name; a missing owner; one more byte
+    "1a 0002 0162 0000000000000000 0161 0000000000000000",
+    "1a 0002 0161 0000000000000000 0161 0000000000000000",
+    "1a 0001 00 0000000000000000",
+    "1a 0001",
+    "1a 0000 00",
 ];
 
 /// The head of the greatest delta.

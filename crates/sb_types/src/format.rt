@@ -45,6 +45,18 @@ pub const KIND_ASK_STATUS: u8 = 0x15;
 /// The kind of a NodeStatus.
 pub const KIND_NODE_STATUS: u8 = 0x16;
 
+/// The kind of an AskChange.
+pub const KIND_ASK_CHANGE: u8 = 0x17;
+
+/// The kind of a Notice.
+pub const KIND_NOTICE: u8 = 0x18;
+
+/// The kind of an AskAges.
+pub const KIND_ASK_AGES: u8 = 0x19;
+
+/// The kind of Ages.
+pub const KIND_AGES: u8 = 0x1a;
+
 /// The tag of a tombstone, the marker of a removed key. It has no value.
 pub const TAG_REMOVED: u8 = 0;
 
@@ -66,14 +78,15 @@ pub const REASON_ROUNDS_DONE: u8 = 1;
 /// The greatest reason of a Bye.
 pub const REASON_MOST: u8 = 5;
 
-/// How many bytes each of these takes: a kind, a tag, a flag and a reason. The number of a fault or of a figure takes as
-/// many, and so does the state of a peer. The length of a name, of a key, of an address or of a short text does too.
+/// How many bytes each of these takes: a kind, a tag, a flag, a reason and a notice. The number of a fault or of a figure
+/// takes as many, and so does the state of a peer. The length of a name, of a key, of an address or of a short text does
+/// too.
 pub const BYTE_LENGTH: u64 = 1;
 
 /// How many bytes each of these takes: a count of a list, and the length of a text.
 pub const COUNT_LENGTH: u64 = 2;
 
-/// How many bytes each of these takes: a version, a weight, the value of a figure, and the number of a round.
+/// How many bytes each of these takes: a version, a weight, the value of a figure, the number of a round, and a time.
 pub const NUMBER_LENGTH: u64 = 8;
 
 /// The most bytes that a name takes, its length included.

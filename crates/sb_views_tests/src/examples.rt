@@ -14,16 +14,16 @@ use sb_watch::{Filter, Hub, Note, Polled};
 use std::alloc::Global;
 use std::process::Abort;
 
-/// What a watch of the keys under `net/` answers behind a write of `net/b`.
+/// What a watch of the keys under `net/` answers after a write of `net/b`.
 fn watch_once(alloc: Global) -> Result<[Polled; 2], Fault> {
     let mut hub = Hub::new(alloc);
     let (owner, prefix) = (None, Prefix::read(b"net/")?);
     let id = hub.add(Filter { owner, prefix }, 2)?;
-    let (owner, key, version) = (Name::read(b"a")?, Key::read(b"net/b")?, 7);
+    let key = Some(Key::read(b"net/b")?);
     hub.push(&Note {
-        owner,
+        owner: Name::read(b"a")?,
         key,
-        version,
+        version: 7,
     });
     Ok([hub.take(id)?, hub.take(id)?])
 }
@@ -32,7 +32,7 @@ fn watch_once(alloc: Global) -> Result<[Polled; 2], Fault> {
 fn example_of_sb_watch(rt: HostRuntime) {
     let note = Note {
         owner: name(&rt, b"a"),
-        key: key(&rt, b"net/b"),
+        key: Some(key(&rt, b"net/b")),
         version: 7,
     };
     let answers = got(&rt, watch_once(rt.alloc()));

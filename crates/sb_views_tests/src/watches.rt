@@ -9,7 +9,7 @@ use std::process::Abort;
 fn note(rt: &impl Abort, owner: &[u8], text: &[u8], version: u64) -> Note {
     Note {
         owner: name(rt, owner),
-        key: key(rt, text),
+        key: Some(key(rt, text)),
         version,
     }
 }
@@ -232,4 +232,41 @@ fn example_of_watches(rt: HostRuntime) {
         matches!(answers, Ok(Polled::Note(note)) if note.version == 2),
     );
     same(&rt, &hub.take(id), &Ok(Polled::Empty));
+}
+
+/// That the table of an owner was replaced.
+fn clear(rt: &impl Abort, owner: &[u8]) -> Note {
+    Note {
+        owner: name(rt, owner),
+        key: None,
+        version: 9,
+    }
+}
+
+/// A table that was replaced is noted under every prefix, by the watches of its owner and by those of all.
+#[test]
+fn replaced_tables_are_noted(rt: HostRuntime) {
+    let mut hub = Hub::new(rt.alloc());
+    let ids = [
+        got(&rt, watch(&rt, &mut hub, b"a", b"net/", 1)),
+        got(&rt, watch(&rt, &mut hub, b"", b"w", 1)),
+        got(&rt, watch(&rt, &mut hub, b"b", b"", 1)),
+    ];
+    same(&rt, &hub.has_notes(), &false);
+    hub.push(&clear(&rt, b"a"));
+    same(&rt, &hub.has_notes(), &true);
+    let [under, of_all, of_b] = ids;
+    let found = [
+        hub.has_note(under),
+        hub.has_note(of_all),
+        hub.has_note(of_b),
+    ];
+    same(&rt, &found, &[Ok(true), Ok(true), Ok(false)]);
+    same(&rt, &hub.take(under), &Ok(Polled::Note(clear(&rt, b"a"))));
+    let found = [
+        hub.has_note(under),
+        hub.drop_watch(under).and(Ok(true)),
+        hub.has_note(under),
+    ];
+    same(&rt, &found, &[Ok(false), Ok(true), Err(Fault::NoWatch)]);
 }

@@ -8,8 +8,8 @@ use Rattle.sb_types.specs.declared.fault.Fault.TheVariants.{NoWatch}
 use Rattle.sb_watch.specs.declared.limits.TheConstants.{WATCHES_MOST}
 use Rattle.sb_watch.specs.declared.note.Note.{Note}
 use Rattle.sb_watch.specs.Records.{Watch, Hub}
-use Rattle.sb_watch.specs.Watches.{matches, with_note, watch_after_note, answer_of, watch_after_answer}
-use Rattle.sb_watch.specs.Hubs.{is_id, id_of, are_ids, IsHub, with_push, with_answer, answer_if_found, answer_at, without_watch}
+use Rattle.sb_watch.specs.Watches.{matches, with_note, watch_after_note, owes_nothing, answer_of, watch_after_answer}
+use Rattle.sb_watch.specs.Hubs.{is_id, id_of, are_ids, IsHub, with_push, with_answer, answer_if_found, answer_at, note_if_found, has_note_at, without_watch}
 use Rattle.sb_watch.proofs.Places.{change, none_placed, none_found, none_changed, none_dropped, found_at, any_at}
 
 ids_bound : (least next : ℕ) (ids : List ℕ) → are_ids least next ids ≡ true → least ≤ next
@@ -164,3 +164,9 @@ answer_found hub id i d at = ap answer_if_found (found_at (is_id id) hub.watches
 
 pub answer_of_none : (hub : Hub) (id : ℕ) → position (is_id id) hub.watches ≡ None → answer_at hub id ≡ Err NoWatch
 answer_of_none hub id at = ap answer_if_found (none_found (is_id id) hub.watches (none_placed (is_id id) hub.watches at))
+
+pub note_found : (hub : Hub) (id i : ℕ) (d : Watch) → position (is_id id) hub.watches ≡ Some i → has_note_at hub id ≡ Ok (not (owes_nothing (get_or hub.watches i d)))
+note_found hub id i d at = ap note_if_found (found_at (is_id id) hub.watches i d at)
+
+pub note_of_none : (hub : Hub) (id : ℕ) → position (is_id id) hub.watches ≡ None → has_note_at hub id ≡ Err NoWatch
+note_of_none hub id at = ap note_if_found (none_found (is_id id) hub.watches (none_placed (is_id id) hub.watches at))

@@ -9,7 +9,7 @@ use Rattle.sb_watch.specs.declared.note.Filter.{Filter}
 use Rattle.sb_watch.specs.declared.note.Note.{Note}
 use Rattle.sb_watch.specs.declared.note.Polled.{Polled}
 use Rattle.sb_watch.specs.Records.{Watch, Hub}
-use Rattle.sb_watch.specs.Watches.{new_watch, watch_after_note, answer_of, watch_after_answer}
+use Rattle.sb_watch.specs.Watches.{new_watch, watch_after_note, owes_nothing, answer_of, watch_after_answer}
 
 -- a hub that never had a watch
 abbrev pub new_hub : Hub
@@ -54,6 +54,18 @@ answer_at hub id = answer_if_found (watch_at hub id)
 -- the watch of this id has answered, and the others are as they were
 abbrev pub with_answer : Hub → ℕ → Hub
 with_answer hub id = record { watches = map (λ w. if is_id id w then watch_after_answer w else w) hub.watches; next = hub.next }
+
+abbrev pub note_if_found : Option Watch → Result Bool Fault
+note_if_found None = Err NoWatch
+note_if_found (Some w) = Ok (not (owes_nothing w))
+
+-- the watch of this id has a note, or lost one
+abbrev pub has_note_at : Hub → ℕ → Result Bool Fault
+has_note_at hub id = note_if_found (watch_at hub id)
+
+-- some watch has a note, or lost one
+abbrev pub has_notes : Hub → Bool
+has_notes hub = list_any (λ w. not (owes_nothing w)) hub.watches
 
 -- only the others
 abbrev pub without_watch : Hub → ℕ → Hub

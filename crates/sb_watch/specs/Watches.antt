@@ -14,9 +14,14 @@ abbrev pub is_wanted : Option (List ℕ) → List ℕ → Bool
 is_wanted None owner = true
 is_wanted (Some wanted) owner = pointwise nat_eq wanted owner
 
--- the note is of the filter's owner, and its key begins with the filter's prefix
+-- the key begins with the prefix; a whole table has keys under each prefix
+abbrev pub is_under : List ℕ → Option (List ℕ) → Bool
+is_under prefix None = true
+is_under prefix (Some key) = starts_with nat_eq key prefix
+
+-- the note is of the filter's owner, and of a key that begins with the filter's prefix
 abbrev pub matches : Filter → Note → Bool
-matches filter note = is_wanted filter.owner note.owner && starts_with nat_eq note.key filter.prefix
+matches filter note = is_wanted filter.owner note.owner && is_under filter.prefix note.key
 
 -- a watch that received no note yet
 abbrev pub new_watch : ℕ → Filter → ℕ → Watch
@@ -48,3 +53,7 @@ answer_of w = if w.lost == 0 then oldest_answer w.notes else answers.Lagged w.lo
 abbrev pub watch_after_answer : Watch → Watch
 watch_after_answer w =
     record { id = w.id; filter = w.filter; capacity = w.capacity; notes = if w.lost == 0 then drop 1 w.notes else w.notes; lost = 0 }
+
+-- it has no note to hand out, and lost none that it did not report
+abbrev pub owes_nothing : Watch → Bool
+owes_nothing w = w.lost == 0 && length w.notes == 0

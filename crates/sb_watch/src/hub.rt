@@ -1,6 +1,6 @@
 //! All watches of a node.
 
-ghost use Rattle.std.specs.Prelude.{◌≡◌, false, [], if◌then◌else◌, map, position, Ok, Err, IfOk, OnOk, OnErr};
+ghost use Rattle.std.specs.Prelude.{◌≡◌, ◌<◌, ◌-◌, ◌^◌, false, [], length, if◌then◌else◌, map, position, Ok, Err, IfOk, IfSome, IfNone, OnOk, OnErr};
 ghost use Rattle.sb_types.specs.Faults.{Gives};
 ghost use Rattle.sb_watch.specs.Watches.{watch_after_note};
 ghost use Rattle.sb_watch.specs.Hubs as spec;
@@ -18,7 +18,7 @@ use std::marker::Model;
 /// ```
 /// let mut hub = Hub::new(alloc);
 /// let id = hub.add(Filter { owner: None, prefix: Prefix::read(b"net/")? }, 2)?;
-/// hub.push(&Note { owner: Name::read(b"a")?, key: Key::read(b"net/b")?, version: 2 });
+/// hub.push(&Note { owner: Name::read(b"a")?, key: Some(Key::read(b"net/b")?), version: 2 });
 /// assert!(rt; matches!(hub.take(id), Ok(Polled::Note(note)) if note.version == 2));
 /// assert_eq!(rt; hub.take(id), Ok(Polled::Empty));
 /// ```
@@ -54,6 +54,22 @@ impl Hub {
         }
     }
 
+    /// Returns why no watch with this room can be added: `BadSetting` or `WatchesFull`, as `add` returns them. Returns `None`
+    /// if only memory can be missing.
+    pub fn refusal(&self, capacity: usize) -> Option<Fault>
+        ensures some { IfSome result (λ fault. spec.next_id self.now capacity ≡ Err fault) }
+        ensures none { IfNone result (spec.next_id self.now capacity ≡ Ok self.now.next) }
+        ensures room { IfNone result ((length self.now.watches < WATCHES_MOST) × (self.now.next < 2 ^ 64 - 1)) }
+    {
+        if capacity < 1 || capacity > RING_MOST {
+            return Some(Fault::BadSetting);
+        }
+        if self.watches.len() >= WATCHES_MOST || self.next == u64::MAX {
+            return Some(Fault::WatchesFull);
+        }
+        None
+    }
+
     /// Adds a watch with room for 1 to 1,024 notes, and returns its id. No other watch of this hub had this id, or will
     /// have it. Its faults, in this order. Each leaves the hub as it was:
     ///
@@ -67,11 +83,8 @@ impl Hub {
         ensures ok { OnOk result (self.new ≡ spec.with_watch self.old filter capacity) }
         ensures err { OnErr result (self.new ≡ self.old) }
     {
-        if capacity < 1 || capacity > RING_MOST {
-            return Err(Fault::BadSetting);
-        }
-        if self.watches.len() >= WATCHES_MOST || self.next == u64::MAX {
-            return Err(Fault::WatchesFull);
+        if let Some(fault) = self.refusal(capacity) {
+            return Err(fault);
         }
         let id = self.next;
         self.watches
@@ -95,6 +108,24 @@ impl Hub {
         ensures hub { spec.IsHub self.now }
     {
         place_of(&self.watches, id).is_some()
+    }
+
+    /// Returns whether a watch has a note to hand out, or lost one: then its next answer is not `Empty`. Returns `NoWatch`
+    /// if there is no watch of this id.
+    pub fn has_note(&self, id: WatchId) -> Result<bool, Fault>
+        ensures answer { result ≡ spec.has_note_at self.now id }
+    {
+        match place_of(&self.watches, id) {
+            Some(place) => Ok(self.watches[place].has_note()),
+            None => Err(Fault::NoWatch),
+        }
+    }
+
+    /// Returns whether any watch has a note to hand out, or lost one.
+    pub fn has_notes(&self) -> bool
+        ensures answer { result ≡ spec.has_notes self.now }
+    {
+        self.watches.iter().any(|watch| watch.has_note())
     }
 
     /// Returns the answer of a watch, which is the first of these that applies:

@@ -1,20 +1,20 @@
 //! Watches: the last notes of the writes that a node took, for those who ask.
 //!
 //! A watch has a filter and a ring of notes. It is polled: it wakes nobody. A watch that is polled too late reports how
-//! many notes it lost. The crate uses only `sb_types`. `sb_directory` has a hub, and gives it a note of each write.
-//! `run_node` uses no watches.
+//! many notes it lost. The crate uses only `sb_types`. `sb_directory` has a hub, and gives it a note of each write
+//! and of each owner whose table was replaced. `run_node` has a watch for each caller that waits for a change.
 //!
 //! ```rust
-//! /// What a watch of the keys under `net/` answers behind a write of `net/b`.
+//! /// What a watch of the keys under `net/` answers after a write of `net/b`.
 //! fn watch_once(alloc: Global) -> Result<[Polled; 2], Fault> {
 //!     let mut hub = Hub::new(alloc);
 //!     let (owner, prefix) = (None, Prefix::read(b"net/")?);
 //!     let id = hub.add(Filter { owner, prefix }, 2)?;
-//!     let (owner, key, version) = (Name::read(b"a")?, Key::read(b"net/b")?, 7);
+//!     let key = Some(Key::read(b"net/b")?);
 //!     hub.push(&Note {
-//!         owner,
+//!         owner: Name::read(b"a")?,
 //!         key,
-//!         version,
+//!         version: 7,
 //!     });
 //!     Ok([hub.take(id)?, hub.take(id)?])
 //! }
@@ -23,7 +23,7 @@
 //! # What no contract refuses
 //!
 //! - `Hub::add` reports `NoMemory` without need. Tests run it with ample memory, and once at full size. They compare
-//!   exact answers. `push`, `take` and `drop_watch` cannot: their results have no such case.
+//!   exact answers. `push`, `take`, `has_note` and `drop_watch` cannot: their results have no such case.
 //! - The list of watches takes more room than it needs, or a call takes longer than it should. Nothing refuses it;
 //!   `attrdir_bench` measures.
 //! - `Debug` prints another text. Nothing refuses it.

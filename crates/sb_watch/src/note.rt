@@ -6,16 +6,17 @@ ghost use Rattle.sb_watch.specs.Watches as spec;
 use sb_types::{Key, Name, Prefix};
 use std::marker::Model;
 
-/// What a watch receives of a write: the owner, the key and the version. The value is read where values are read.
+/// What a watch receives of a change: whose it is, under which key, and the version. It has no value: that is in the views.
 #[derive(Clone, Copy, Debug, PartialEq, Eq)]
 pub struct Note {
     pub owner: Name,
-    pub key: Key,
+    /// `None` if the owner's whole table was replaced: each of its keys may have changed, or be gone.
+    pub key: Option<Key>,
     pub version: u64,
 }
 
-/// Which notes a watch is for: those whose keys begin with the prefix, of this owner, or of all owners if none is
-/// named.
+/// Which notes a watch is for: those whose keys begin with the prefix, and those of whole tables. They are of this owner, or
+/// of all owners if none is named.
 #[derive(Clone, Copy, Debug)]
 pub struct Filter {
     pub owner: Option<Name>,
@@ -32,7 +33,10 @@ impl Filter {
                 return false;
             }
         }
-        note.key.bytes().starts_with(self.prefix.bytes())
+        match &note.key {
+            Some(key) => key.bytes().starts_with(self.prefix.bytes()),
+            None => true,
+        }
     }
 }
 

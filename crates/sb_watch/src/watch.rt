@@ -1,6 +1,6 @@
 //! One watch: its filter, and its ring of notes.
 
-ghost use Rattle.std.specs.Prelude.{◌≡◌, IfOk, IfErr};
+ghost use Rattle.std.specs.Prelude.{◌≡◌, not, IfOk, IfErr};
 ghost use Rattle.sb_watch.specs.Watches as spec;
 
 use crate::note::{Filter, Note, Polled};
@@ -56,12 +56,30 @@ impl Watch {
     pub(crate) fn tell(&mut self, note: &Note)
         ensures { self.new ≡ spec.watch_after_note note.now self.old }
     {
+        // A copy as a whole is not covered by the borrow checker, which then lacks the type of the key.
+        let Note {
+            owner,
+            key,
+            version,
+        } = *note;
         if !self.filter.matches(note) {
             return;
         }
-        if self.ring.push_back(*note).is_some() {
+        let copy = Note {
+            owner,
+            key,
+            version,
+        };
+        if self.ring.push_back(copy).is_some() {
             self.lost = self.lost.saturating_add(1);
         }
+    }
+
+    /// Returns whether it has a note to hand out, or lost one that it did not report yet.
+    pub(crate) fn has_note(&self) -> bool
+        ensures { result ≡ not (spec.owes_nothing self.now) }
+    {
+        self.lost > 0 || !self.ring.is_empty()
     }
 
     /// Returns how many notes were lost, if it did not report that yet; otherwise the oldest note, or that none is

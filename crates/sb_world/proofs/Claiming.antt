@@ -185,6 +185,10 @@ message_taken s core m answer t new limits takes more last rest = go m answer li
     go (messages.Refused fault) r is a node = same [] refl node
     go (messages.AskStatus after) r is a node = same [] refl node
     go (messages.NodeStatus status) r is a node = same [] refl node
+    go (messages.AskChange asked) r is a node = same [] refl node
+    go (messages.Notice notice) r is a node = same [] refl node
+    go messages.AskAges r is a node = same [] refl node
+    go (messages.Ages ages) r is a node = same [] refl node
 
 abbrev some_next : Message → Result (Option Message) Fault
 some_next m = Ok (Some m)

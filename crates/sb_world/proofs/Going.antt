@@ -77,6 +77,10 @@ module _ (old new : List ℕ → List Write) (grows : Grows old new) where
   message_on (messages.Refused fault) t = tt
   message_on (messages.AskStatus after) t = tt
   message_on (messages.NodeStatus status) t = tt
+  message_on (messages.AskChange asked) t = tt
+  message_on (messages.Notice notice) t = tt
+  message_on messages.AskAges t = tt
+  message_on (messages.Ages ages) t = tt
 
   pub frame_on : (budget : ℕ) (bytes : List ℕ) → IsTrueFrame old budget bytes → IsTrueFrame new budget bytes
   frame_on budget bytes f = record { message = f.message; limits = f.limits; laid = f.laid; honest = message_on f.message f.honest; fits = f.fits }

@@ -94,6 +94,10 @@ replies_within s core (kinds.Done version) answer t new a = absurd (up_unless (r
 replies_within s core (kinds.Refused fault) answer t new a = absurd (up_unless (refusal_of s (kinds.Refused fault)) s core (kinds.Refused fault) answer t new a)
 replies_within s core (kinds.AskStatus after) answer t new a = absurd (up_unless (refusal_of s (kinds.AskStatus after)) s core (kinds.AskStatus after) answer t new a)
 replies_within s core (kinds.NodeStatus told) answer t new a = absurd (up_unless (refusal_of s (kinds.NodeStatus told)) s core (kinds.NodeStatus told) answer t new a)
+replies_within s core (kinds.AskChange asked) answer t new a = absurd (up_unless (refusal_of s (kinds.AskChange asked)) s core (kinds.AskChange asked) answer t new a)
+replies_within s core (kinds.Notice notice) answer t new a = absurd (up_unless (refusal_of s (kinds.Notice notice)) s core (kinds.Notice notice) answer t new a)
+replies_within s core kinds.AskAges answer t new a = absurd (up_unless (refusal_of s kinds.AskAges) s core kinds.AskAges answer t new a)
+replies_within s core (kinds.Ages ages) answer t new a = absurd (up_unless (refusal_of s (kinds.Ages ages)) s core (kinds.Ages ages) answer t new a)
 
 -- ---- what is asked with
 
@@ -111,6 +115,10 @@ asked_with_within s core (kinds.Done version) t new a = absurd a
 asked_with_within s core (kinds.Refused fault) t new a = absurd a
 asked_with_within s core (kinds.AskStatus after) t new a = absurd a
 asked_with_within s core (kinds.NodeStatus told) t new a = absurd a
+asked_with_within s core (kinds.AskChange asked) t new a = absurd a
+asked_with_within s core (kinds.Notice notice) t new a = absurd a
+asked_with_within s core kinds.AskAges t new a = absurd a
+asked_with_within s core (kinds.Ages ages) t new a = absurd a
 
 asked_in_within : (phase : Phase) (s : Session) (core : Core) (m : Message) (t : Session) (new : Core) → AsksIn phase Steps s core (Ok m) t new → length (frame m) ≤ core.settings.budget
 asked_in_within phases.Waiting s core m t new a = asked_with_within s core m t new a

@@ -1,7 +1,7 @@
 use Rattle.std.proofs.Common.{refl, sym, ◌∙◌}
 use Rattle.sb_codec.specs.Spelling.{number}
 use Rattle.sb_codec.specs.Messages.{spelling}
-use Rattle.sb_codec.proofs.Sizes.{digest-spelled, delta-spelled, page-spelled, status-spelled}
+use Rattle.sb_codec.proofs.Sizes.{digest-spelled, delta-spelled, page-spelled, status-spelled, ages-spelled}
 use Rattle.sb_codec.proofs.lengths.payload_length.Goals as goal
 
 pub returns-in-Digest-clause-length : goal.returns-in-Digest-clause-length
@@ -31,3 +31,14 @@ returns-in-AskStatus-clause-length c = rw c.in-AskStatus.is refl
 
 pub returns-in-NodeStatus-clause-length : goal.returns-in-NodeStatus-clause-length
 returns-in-NodeStatus-clause-length c = rw c.in-NodeStatus.is (c.encoded_length-in-NodeStatus.ensures.length ∙ sym (status-spelled c.in-NodeStatus.status))
+
+pub returns-in-Notice-clause-length : goal.returns-in-Notice-clause-length
+unfolding spelling
+returns-in-Notice-clause-length c = rw c.in-Notice.is refl
+
+pub returns-in-AskAges-clause-length : goal.returns-in-AskAges-clause-length
+unfolding spelling
+returns-in-AskAges-clause-length c = rw c.in-AskAges.is refl
+
+pub returns-in-Ages-clause-length : goal.returns-in-Ages-clause-length
+returns-in-Ages-clause-length c = rw c.in-Ages.is (c.encoded_length-in-Ages.ensures.length ∙ sym (ages-spelled c.in-Ages.ages))

@@ -1,4 +1,4 @@
-use Rattle.sb_codec.proofs.Sizes.{digest-spelled, delta-spelled, page-spelled, status-spelled}
+use Rattle.sb_codec.proofs.Sizes.{digest-spelled, delta-spelled, page-spelled, status-spelled, ages-spelled}
 use Rattle.sb_codec.proofs.payloads.payloads_have_these_lengths.Goals as goal
 
 pub returns-clause-delta : goal.returns-clause-delta
@@ -12,3 +12,6 @@ returns-clause-page c = page-spelled
 
 pub returns-clause-status : goal.returns-clause-status
 returns-clause-status c = status-spelled
+
+pub returns-clause-ages : goal.returns-clause-ages
+returns-clause-ages c = ages-spelled

@@ -9,5 +9,5 @@ loop-owner-preserved-in-Some-table c =
     let from = c.args.hub.now in
     let all = c.args.versions.items in
     let left = subst (λ (rest : List (List ℕ × ℕ)). IsTellingAll held from all c.loop-owner.hub rest) c.in-Some.ensures.steps.0 c.loop-owner.invariant in
-    telling_all-goes_on held from all c.loop-owner.hub c.push_notes_above.new.hub (c.in-Some.owner, c.in-Some.version) (into_iter_items c.next.new.self)
-    c.in-Some-table.table.now left c.in-Some-table.ensures.found c.push_notes_above.ensures
+    telling_all-goes_on held from all c.loop-owner.hub c.push_owner.new.hub (c.in-Some.owner, c.in-Some.version) (into_iter_items c.next.new.self)
+    c.in-Some-table.table.now left c.in-Some-table.ensures.found c.push_owner.ensures

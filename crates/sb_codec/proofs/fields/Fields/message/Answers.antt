@@ -45,3 +45,15 @@ returns-in_ok-ask_status-in-21-clause-read c = rw (c.in_ok-byte.ensures, c.in-21
 pub returns-in_ok-status-in-22-clause-read : goal.returns-in_ok-status-in-22-clause-read
 unfolding message_field
 returns-in_ok-status-in-22-clause-read c = rw (c.in_ok-byte.ensures, c.in-22.is, c.in_ok-status-in-22.ensures) refl
+
+pub returns-in_ok-ask_change-in-23-clause-read : goal.returns-in_ok-ask_change-in-23-clause-read
+unfolding message_field
+returns-in_ok-ask_change-in-23-clause-read c = rw (c.in_ok-byte.ensures, c.in-23.is, c.in_ok-ask_change-in-23.ensures) refl
+
+pub returns-in_ok-notice-in-24-clause-read : goal.returns-in_ok-notice-in-24-clause-read
+unfolding message_field
+returns-in_ok-notice-in-24-clause-read c = rw (c.in_ok-byte.ensures, c.in-24.is, c.in_ok-notice-in-24.ensures) refl
+
+pub returns-in_ok-ages-in-26-clause-read : goal.returns-in_ok-ages-in-26-clause-read
+unfolding message_field
+returns-in_ok-ages-in-26-clause-read c = rw (c.in_ok-byte.ensures, c.in-26.is, c.in_ok-ages-in-26.ensures) refl

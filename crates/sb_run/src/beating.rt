@@ -1,0 +1,60 @@
+//! The beats of a node: own writes by which its peers hear that it lives.
+ghost use Rattle.std.specs.Prelude.{◌≡◌, true, false};
+
+use crate::accepting::deadline_after;
+use crate::dialer::RoundsTag;
+use crate::node::Beat;
+use crate::own_writes::OwnWrites;
+use crate::threads::NodeContext;
+use sb_directory::ReaderSeat;
+use sb_log::WriteLog;
+use sb_types::{Slot, Value};
+use std::sync::Wait;
+use std::time::{Clock, Instant};
+
+/// Which beat a node makes, and when the next one is due.
+#[derive(Clone, Copy)]
+pub(crate) struct BeatTurns {
+    beat: Option<Beat>,
+    next: Option<Instant>,
+}
+
+impl BeatTurns {
+    /// The first beat is due a millisecond from now. There is none if none is given, or if the clock can't be read.
+    pub(crate) fn new<Q: Clock>(clock: &Q, beat: Option<Beat>) -> BeatTurns {
+        let next = match beat {
+            Some(_) => deadline_after(clock, 1),
+            None => None,
+        };
+        BeatTurns { beat, next }
+    }
+
+    /// When the next beat is due; never if there is no moment.
+    pub(crate) fn next(&self) -> Option<Instant> {
+        self.next
+    }
+}
+
+impl<S: RoundsTag, H: Wait + Drop, Q: Wait + Clock> NodeContext<'_, S, H, Q> {
+    /// Makes a beat: an own write as any other. If the log or the directory refuses it, there is no beat this time. With a closed
+    /// log none is due any more.
+    pub(crate) fn make_beat<L: WriteLog>(
+        &self,
+        beats: &mut BeatTurns,
+        writes: &mut OwnWrites<L>,
+        seat: &mut ReaderSeat<S>,
+    )
+        ensures closes { (L.seen writes.old.log).is_open ≡ true → (L.seen writes.new.log).is_open ≡ false → writes.new.has_failed ≡ true }
+    {
+        let Some(beat) = beats.beat else {
+            return;
+        };
+        if writes.cause().is_some() {
+            beats.next = None;
+            return;
+        }
+        let slot = Slot::Set(Value::flag(true));
+        let _ = writes.put(self.rt, self.directory, seat, &beat.key, &slot);
+        beats.next = deadline_after(self.rt, beat.pause);
+    }
+}
