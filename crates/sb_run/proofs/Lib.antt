@@ -16,3 +16,4 @@ pub mod Deferring
 pub mod AskedDigests
 pub mod AuditedSeats
 pub mod KeptOffers
+pub mod WriteReplies

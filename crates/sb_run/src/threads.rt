@@ -13,6 +13,7 @@ use crate::dialer::{Dialing, Rounds, RoundsReceiver, RoundsSender, RoundsTag, Tu
 use crate::first_hearing::FirstHearing;
 use crate::forgetting::ForgottenOwners;
 use crate::gate::{Gate, GatePoint};
+use crate::http_writes::WriteDesk;
 use crate::log_watch::LogWatch;
 use crate::node::{OnLogFault, Pace, Runtime};
 use crate::observer::Observer;
@@ -518,6 +519,7 @@ pub(crate) struct NodeContext<'a, S: RoundsTag, H: Wait + Drop, Q> {
     pub(crate) bell: &'a Bell,
     pub(crate) counts: &'a Counts,
     pub(crate) asked: &'a Asked,
+    pub(crate) desk: &'a WriteDesk,
     pub(crate) forgotten: &'a ForgottenOwners,
     pub(crate) vain_offers: &'a VainOffers,
     /// Which peers were heard.
