@@ -2,6 +2,7 @@
 import json
 import os
 import re
+import shlex
 import shutil
 import socket
 import subprocess
@@ -13,6 +14,9 @@ from nodes import ROOT, SECONDS, Difference, connect, run, want
 
 # the fields that each answer has, in their order, before the length of its body
 FIELDS = [("connection", "close"), ("cache-control", "no-store"), ("x-content-type-options", "nosniff"), ("content-type", "application/json")]
+
+
+PARAMETERS = "the parameters are owner, prefix and after, or owner and key, or key for a write, each once"
 
 
 def free_port():
@@ -142,6 +146,88 @@ def http_owners(check):
     want("the owners", place.curl("/v1/owners")[2], b'{"owners":[{"owner":"a","rows":1,"version":3},{"owner":"b","rows":1,"version":1}]}\n')
 
 
+def put(place, key, kind, value, *words):
+    """The status and the object of the answer to a PUT."""
+    return place.json(f"/v1/keys/{key}", "-X", "PUT", "-d", json.dumps({"kind": kind, "value": value}), *words)
+
+
+def http_writes(check):
+    """At a socket a node takes a write of each kind and a removal, and answers with its version; faults have their statuses; a port takes none."""
+    if lacks_curl(check):
+        return
+    folder = check.folder()
+    node, place = node_at(check, "a", folder / "a.http", "--pause", "100", folder=folder)
+    other, at_port = node_at(check, "b", free_port(), "--pause", "100", folder=folder, peers=[node.sock])
+    values = (("web/motto", "text", 'Grüße <b>"x"</b>\n'), ("web/at", "addr", "10.0.0.1:80"), ("web/up", "flag", True), ("n", "weight", 2**63 - 1))
+    for version, (key, kind, value) in enumerate(values, 1):
+        want(f"a PUT of {kind}", put(place, key, kind, value), (200, {"version": version}))
+    want("the rows of these writes", place.rows(), [json.loads(it) for it in node.get("--format", "json")])
+    want("what they hold", {(it["key"], it["kind"], it["value"]) for it in place.rows()}, set(values))
+    other.awaits("these rows", lambda rows: len(rows) == 4)
+    want("a PUT by its parameter", place.json("/v1/keys?key=a/../b", "-X", "PUT", "-d", '{"value":1,"kind":"weight"}'), (200, {"version": 5}))
+    want("a PUT with an escape", put(place, "web%2Fat", "weight", 0), (200, {"version": 6}))
+    want("a DELETE", place.json("/v1/keys/web/at", "-X", "DELETE"), (200, {"version": 7}))
+    run_out = run(check.program, "del", "--control", str(node.control), "web/at")[2].splitlines()[1]
+    refused(place, "/v1/keys/web/at", 404, run_out, 9, "-X", "DELETE")
+    other.awaits("the removal", lambda rows: len(rows) == 4 and not any(" web/at " in it for it in rows))
+    for words in (("-X", "PUT", "-d", '{"kind":"weight","value":5}'), ("-X", "DELETE")):
+        refused(at_port, "/v1/keys/k", 403, "writes are taken at a Unix socket only", None, *words)
+    for method in ("GET", "POST"):
+        status, fields, body = place.curl("/v1/keys/k", "-X", method)
+        want(f"{method} of a key", (status, dict(fields)["allow"], json.loads(body)), (405, "put, delete", {"error": "this path is only written"}))
+    form = 'the body is JSON of this form: {"kind":"weight","value":5}'
+    for body in ("", "5", "{}", '{"kind":"weight"}', '{"kind":"weight","value":5,"x":1}', '{"kind":"weight","value":5', "\x00"):
+        refused(place, "/v1/keys/k", 400, form, None, "-X", "PUT", "-d", body)
+    value = run(check.program, "set", "--control", str(node.control), "k", "flag", "x")[2].splitlines()[1]
+    for kind, word in (("x", 5), (5, 5), ("weight", "5"), ("weight", -1), ("weight", 2**63), ("weight", 1.5), ("flag", "true"), ("addr", "a b"), ("text", ""), ("text", 513 * "x"), ("text", None)):
+        status, found = put(place, "k", kind, word)
+        want(f"the value {word!r} of {kind}", (status, found), (400, {"error": value, "fault": 4}))
+    want("the longest text", put(place, "k", "text", 512 * "x"), (200, {"version": 8}))
+    key = run(check.program, "get", "--control", str(node.control), "--prefix", "A")[2].splitlines()[1]
+    for path in ("/v1/keys/K", "/v1/keys/", f"/v1/keys/{65 * 'k'}", "/v1/keys?key=K"):
+        refused(place, path, 400, key, 3, "-X", "DELETE")
+    refused(place, "/v1/keys?key=k&owner=a", 400, PARAMETERS, None, "-X", "DELETE")
+    many = [threading.Thread(target=lambda count=count: [put(place, f"many/{count}", "weight", it) for it in range(10)]) for count in range(7)]
+    for it in many:
+        it.start()
+    for it in many:
+        it.join()
+    want("the version after writes at once", put(place, "k", "weight", 5), (200, {"version": 79}))
+    node.log.unlink()
+    status, found = put(place, "k", "weight", 6)
+    want("a PUT once the log is lost", (status, found["fault"]), (503, 15))
+
+
+def http_first_writes(check):
+    """A PUT waits for the peers as `set` does, seven at once at most, and others are answered meanwhile; it is answered too if its node ends."""
+    if lacks_curl(check):
+        return
+    folder = check.folder()
+    with socket.socket(socket.AF_UNIX) as listener:
+        listener.bind(str(folder / "b.sock"))
+        listener.listen()
+        node, place = node_at(check, "a", folder / "a.http", "--dial-idle", "60000", "--pause", "200", folder=folder, peers=[folder / "b.sock"])
+        began, answers = time.monotonic(), []
+        callers = [threading.Thread(target=lambda count=count: answers.append((put(place, f"k{count}", "weight", count), time.monotonic() - began))) for count in range(9)]
+        for it in callers:
+            it.start()
+        time.sleep(0.8)
+        want("who was turned away at once", sorted((status, found["fault"]) for (status, found), took in answers), [(503, 29), (503, 29)])
+        want("an answer beside those that wait", place.curl("/v1/owners")[0], 200)
+        for it in callers:
+            it.join()
+        late = [it for it in answers if it[0][0] == 200]
+        want("the writes that waited", (sorted(it[0][1]["version"] for it in late), all(1 < it[1] < 8 for it in late)), (list(range(1, 8)), True))
+        node, place = node_at(check, "c", folder / "c.http", "--dial-idle", "60000", "--pause", "200", "--rounds", "1", folder=folder, peers=[folder / "b.sock"])
+        answers.clear()
+        caller = threading.Thread(target=lambda: answers.append(put(place, "k", "weight", 1)))
+        caller.start()
+        time.sleep(0.3)
+    caller.join()
+    want("a PUT at the end of its node", (answers[0][0], answers[0][1].get("fault", 15)) in ((503, 15), (200, 15)), True)
+    want("the end of that node", node.ended()[0], 0)
+
+
 def http_health(check):
     """A node answers 200 once it is ready, and 503 before, and says why."""
     if lacks_curl(check):
@@ -200,8 +286,7 @@ def http_refusals(check):
     at_port = node_at(check, "b", free_port(), folder=folder)[1]
     name, key = run(check.program, "get", "--control", str(node.control), "--owner", "A")[2], run(check.program, "get", "--control", str(node.control), "--prefix", "A")[2]
     name, key = name.splitlines()[1], key.splitlines()[1]
-    parameters = "the parameters are owner, prefix and after, or owner and key, each once"
-    for path in ("/", "/v1", "/v1/row", "/v1/rows.json", "/healthz/", "/v1/keys/k"):
+    for path in ("/", "/v1", "/v1/row", "/v1/rows.json", "/healthz/", "/v1/key"):
         refused(place, path, 404, "there is no such path")
         refused(place, path, 404, "there is no such path", None, "-X", "PUT")
     for path in ("/v1/rows", "/v1/rows/a/k", "/v1/owners", "/healthz", "/metrics"):
@@ -215,7 +300,7 @@ def http_refusals(check):
     for path, text, fault in (("/v1/rows/A/k", name, 2), ("/v1/rows/a", key, 3), ("/v1/rows/a/", key, 3), ("/v1/rows/a/K", key, 3)):
         refused(place, path, 400, text, fault)
     for query in ("x=1", "owner", "wait=1s", "owner=a&owner=a", "prefix=&prefix=", "key=k", "owner=a&key=k&prefix=k", "owner=a&key=k&after=a/k", "Owner=a"):
-        refused(place, f"/v1/rows?{query}", 400, parameters)
+        refused(place, f"/v1/rows?{query}", 400, PARAMETERS)
     for query in ("", "&", "owner=a&", "&&prefix="):
         want(f"rows by {query!r}", place.json(f"/v1/rows?{query}")[0], 200)
     for host in ("evil.example", "localhost.evil.example", "127.0.0.1.evil.example", "127.0.0.1:x", "[::2]"):
@@ -355,20 +440,26 @@ def http_places(check):
 
 
 def http_examples(check):
-    """Each example of docs/FORMATS.md, `curl` and the answer below it, is what a node answers that has these rows."""
+    """Each example of docs/FORMATS.md, `curl` and the answer below it, is what a node answers that has these rows, at a port and at a socket."""
     if lacks_curl(check):
         return
     section = (ROOT / "docs/FORMATS.md").read_text().split("\n## HTTP\n")[1].split("\n## ")[0]
-    examples = re.findall(r"^    \$ curl -s (\S+)\n    (.*)$", section, re.MULTILINE)
-    want("whether there are examples", len(examples) >= 6, True)
-    port = free_port()
-    node, place = node_at(check, "a", port, "--pause", "100")
-    for words in (("web/motto", "text", "well met"), ("web/port", "weight", "8080")):
-        want(f"set {words}", node.command("set", *words)[0], 0)
-    want("its exit status", node.command("status", "--wait", "10000")[0], 0)
-    for address, wanted in examples:
-        path = address.strip("'").split("127.0.0.1:8080")[1]
-        want(f"the example {path}", place.curl(path)[2].decode(), wanted + "\n")
+    examples = re.findall(r"^    \$ curl (.*)\n    (.*)$", section, re.MULTILINE)
+    want("whether there are examples", len(examples) >= 12, True)
+    folder, places = check.folder(), {}
+    for name, place in (("port", free_port()), ("socket", folder / "a.http")):
+        node, places[name] = node_at(check, "a", place, "--pause", "100", folder=check.folder())
+        for words in (("web/motto", "text", "well met"), ("web/port", "weight", "8080")):
+            want(f"set {words}", node.command("set", *words)[0], 0)
+        want("its exit status", node.command("status", "--wait", "10000")[0], 0)
+    for line, wanted in examples:
+        *words, address = shlex.split(line)
+        place = places["socket" if "--unix-socket" in words else "port"]
+        if "--unix-socket" in words:
+            at = words.index("--unix-socket")
+            words = words[:at] + words[at + 2 :]
+        path = address.split("://")[1].partition("/")[2]
+        want(f"the example {line}", place.curl(f"/{path}", *[it for it in words if it != "-s"])[2].decode(), wanted + "\n")
 
 
-PARTS = (http_rows, http_owners, http_health, http_metrics, http_refusals, http_bounds, http_silence, http_crowd, http_places, http_examples)
+PARTS = (http_rows, http_owners, http_writes, http_first_writes, http_health, http_metrics, http_refusals, http_bounds, http_silence, http_crowd, http_places, http_examples)

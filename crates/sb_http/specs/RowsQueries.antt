@@ -1,4 +1,4 @@
--- What the parameters of a query for rows ask for.
+-- What the parameters of a query, or a place in a path, ask for.
 use Rattle.std.specs.Prelude.{ℕ, Bool, true, false, ◌||◌, ◌==◌, if◌then◌else◌, List, [], ◌∷◌, length, codes, Option, Some, None, is_some, unwrap_or, Result, Ok, Err}
 use Rattle.std.specs.Str.{bytes_eq}
 use Rattle.percent_encoding.specs.Percent.{percent_decode}
@@ -95,6 +95,22 @@ asked_with q = asked_by_key q q.key
 
 abbrev pub query_asked : List ℕ → Result Asked Unasked
 query_asked query = then_read (with_query no_parameters query) asked_with
+
+-- a key alone
+abbrev pub key_unless : Option (List ℕ) → Bool → Result (List ℕ) Unasked
+key_unless (Some key) false = Ok key
+key_unless key others = Err BadParameters
+
+abbrev pub only_key : RowsQuery → Result (List ℕ) Unasked
+only_key q = key_unless q.key (is_some q.owner || is_some q.prefix || is_some q.after)
+
+-- the key that a query names
+abbrev pub key_asked_by : List ℕ → Result (List ℕ) Unasked
+key_asked_by query = then_read (with_query no_parameters query) only_key
+
+-- the key that is the end of a path, which may have escapes
+abbrev pub key_at : List ℕ → Result (List ℕ) Unasked
+key_at place = key_in (percent_decode place)
 
 -- the place may have escapes
 abbrev pub row_asked : List ℕ → Result Asked Unasked

@@ -40,6 +40,10 @@ abbrev pub health_data : List Figure → Data
 health_data figures =
     health_object (figure_of CaughtUp figures == 1) (figure_of Conflict figures) (figure_of LogFault figures) (is_ready figures)
 
+-- the version under which the log took a write
+unfoldable pub version_data : ℕ → Data
+version_data version = object (member (codes "version") (number (unsigned version)) no_members)
+
 -- a text about what went wrong
 unfoldable pub error_data : List ℕ → Data
 error_data text = object (member (codes "error") (string text) no_members)

@@ -5,11 +5,12 @@ ghost use Rattle.sb_http.specs.Asking.{GivesUnless};
 ghost use Rattle.sb_http.specs.Requests as spec;
 
 use crate::host::names_local_host;
-use crate::rows_query::{query_asked, row_asked};
+use crate::rows_query::{key_asked_by, key_at, query_asked, row_asked};
+use crate::write_body::value_in;
 use bytes::Bytes;
 use http::Request;
 use sb_codec::Ask;
-use sb_types::{Fault, Key, Name};
+use sb_types::{Fault, Key, Name, Slot, Write};
 use std::alloc::Global;
 
 /// The kind of place at which a request came in.
@@ -22,7 +23,7 @@ pub enum Door {
 }
 
 /// What a request asks for.
-#[derive(Clone, Copy, Debug)]
+#[derive(Debug, Drop)]
 pub enum Asked {
     /// Whether the node is ready.
     Health,
@@ -34,6 +35,8 @@ pub enum Asked {
     Rows(Ask),
     /// The row that an owner has under a key.
     Row(Name, Key),
+    /// A write that the node is to make its own.
+    Put(Write),
 }
 
 /// Why a request asks for nothing that is here.
@@ -45,10 +48,16 @@ pub enum Unasked {
     NotFound,
     /// The path is only read.
     NotAllowed,
-    /// A word is not an owner or not a key, as this fault says.
+    /// The path is only written.
+    OnlyWritten,
+    /// It would write, and came in at a port.
+    NotByPort,
+    /// A word is not an owner, not a key or not a value, as this fault says.
     Bad(Fault),
-    /// A parameter is not one of those of rows, or they do not go together.
+    /// A parameter is not one of those of its path, or they do not go together.
     BadParameters,
+    /// The body of a PUT is not JSON, or not an object with a kind and a value.
+    BadBody,
     /// There was no memory to read the request.
     NoMemory,
 }
@@ -58,6 +67,13 @@ fn is_reading(method: &str) -> bool
     ensures { result ≡ spec.is_reading method.now }
 {
     method == "GET" || method == "HEAD"
+}
+
+/// Whether a method writes.
+fn is_writing(method: &str) -> bool
+    ensures { result ≡ spec.is_writing method.now }
+{
+    method == "PUT" || method == "DELETE"
 }
 
 /// What is asked for, if the method reads.
@@ -71,17 +87,116 @@ fn reading(method: &str, asked: Asked) -> Result<Asked, Unasked>
     }
 }
 
-/// What a method asks of the path of a row or of an unknown path. `NoMemory`.
-fn asked_at_place(alloc: Global, method: &str, path: &str) -> Result<Asked, Unasked>
-    ensures { GivesUnless result (spec.asked_at_place method.now path.now) }
+/// What a method asks of the path of a row, by the part `OWNER/KEY` of it. `NoMemory`.
+fn asked_of_row(alloc: Global, method: &str, place: &[u8]) -> Result<Asked, Unasked>
+    ensures { GivesUnless result (spec.reading method.now (spec.row_asked place.now)) }
 {
-    let Some(place) = path.as_bytes().strip_prefix(b"/v1/rows/") else {
-        return Err(Unasked::NotFound);
-    };
     if is_reading(method) {
         row_asked(alloc, place)
     } else {
         Err(Unasked::NotAllowed)
+    }
+}
+
+/// Why this method does not write here; none if it does.
+fn write_refusal(door: Door, method: &str) -> Option<Unasked>
+    ensures { result ≡ spec.write_refusal door method.now }
+{
+    if is_writing(method) {
+        match door {
+            Door::Socket => None,
+            Door::Port => Some(Unasked::NotByPort),
+        }
+    } else {
+        Some(Unasked::OnlyWritten)
+    }
+}
+
+/// What a method that writes puts under a key. `NoMemory`.
+fn slot_by(alloc: Global, method: &str, body: &[u8]) -> Result<Slot, Unasked>
+    ensures { GivesUnless result (spec.slot_by method.now body.now) }
+{
+    if method == "PUT" {
+        match value_in(alloc, body) {
+            Ok(value) => Ok(Slot::Set(value)),
+            Err(why) => Err(why),
+        }
+    } else {
+        Ok(Slot::Removed)
+    }
+}
+
+/// The write of what a method puts under a key. `NoMemory`.
+fn written_as(alloc: Global, method: &str, body: &[u8], key: Key) -> Result<Asked, Unasked>
+    ensures { GivesUnless result (spec.written_as key (spec.slot_by method.now body.now)) }
+{
+    match slot_by(alloc, method, body) {
+        Ok(slot) => Ok(Asked::Put(Write { key, slot })),
+        Err(why) => Err(why),
+    }
+}
+
+/// What a method asks of the path of a key. `NoMemory`.
+fn asked_of_key(
+    alloc: Global,
+    door: Door,
+    method: &str,
+    place: &[u8],
+    body: &[u8],
+) -> Result<Asked, Unasked>
+    ensures { GivesUnless result (spec.writing door method.now body.now (spec.key_at place.now)) }
+{
+    if let Some(why) = write_refusal(door, method) {
+        return Err(why);
+    }
+    match key_at(alloc, place) {
+        Ok(key) => written_as(alloc, method, body, key),
+        Err(why) => Err(why),
+    }
+}
+
+/// What a method asks of the path of keys, by its query. `NoMemory`.
+fn asked_of_keys(
+    alloc: Global,
+    door: Door,
+    method: &str,
+    query: &str,
+    body: &[u8],
+) -> Result<Asked, Unasked>
+    ensures { GivesUnless result (spec.writing door method.now body.now (spec.key_asked_by query.now)) }
+{
+    if let Some(why) = write_refusal(door, method) {
+        return Err(why);
+    }
+    match key_asked_by(alloc, query.as_bytes()) {
+        Ok(key) => written_as(alloc, method, body, key),
+        Err(why) => Err(why),
+    }
+}
+
+/// The path without this beginning; none if it begins otherwise.
+fn after_start<'a>(path: &'a str, start: &str) -> Option<&'a [u8]>
+    ensures { option_copied result ≡ spec.after_start start.now path.now }
+{
+    path.as_bytes().strip_prefix(start.as_bytes())
+}
+
+/// What a method asks of the path of a row, of that of a key, or of an unknown path. `NoMemory`.
+fn asked_at_place(
+    alloc: Global,
+    door: Door,
+    method: &str,
+    path: &str,
+    body: &[u8],
+) -> Result<Asked, Unasked>
+    ensures { GivesUnless result (spec.asked_at_place door method.now path.now body.now) }
+{
+    if let Some(place) = after_start(path, "/v1/rows/") {
+        return asked_of_row(alloc, method, place);
+    }
+    match after_start(path, "/v1/keys/") {
+        Some(place) => asked_of_key(alloc, door, method, place, body),
+        None => Err(Unasked::NotFound),
     }
 }
 
@@ -96,9 +211,16 @@ fn asked_of_rows(alloc: Global, method: &str, query: &str) -> Result<Asked, Unas
     }
 }
 
-/// What a method asks of a path, with this query. `NoMemory`.
-fn asked_at(alloc: Global, method: &str, path: &str, query: &str) -> Result<Asked, Unasked>
-    ensures { GivesUnless result (spec.asked_at method.now path.now query.now) }
+/// What a method asks of a path, with this query and this body. `NoMemory`.
+fn asked_at(
+    alloc: Global,
+    door: Door,
+    method: &str,
+    path: &str,
+    query: &str,
+    body: &[u8],
+) -> Result<Asked, Unasked>
+    ensures { GivesUnless result (spec.asked_at door method.now path.now query.now body.now) }
 {
     if path == "/v1/rows" {
         asked_of_rows(alloc, method, query)
@@ -108,8 +230,10 @@ fn asked_at(alloc: Global, method: &str, path: &str, query: &str) -> Result<Aske
         reading(method, Asked::Health)
     } else if path == "/metrics" {
         reading(method, Asked::Metrics)
+    } else if path == "/v1/keys" {
+        asked_of_keys(alloc, door, method, query, body)
     } else {
-        asked_at_place(alloc, method, path)
+        asked_at_place(alloc, door, method, path, body)
     }
 }
 
@@ -127,8 +251,11 @@ fn query_of(request: &Request<Bytes>) -> &str
 ///
 /// - `OtherHost` at a port, if the request names another host than this machine.
 /// - `NotFound` for another path.
-/// - `NotAllowed` for another method than `GET` and `HEAD`.
-/// - `Bad` and `BadParameters` for the first part of the query, or of the path of a row, that is not what it should be.
+/// - `NotAllowed` for another method than `GET` and `HEAD`, and `OnlyWritten` for another than `PUT` and `DELETE` at the path of a
+///   key.
+/// - `NotByPort` if it would write, and came in at a port.
+/// - `Bad` and `BadParameters` for the first part of the query, or of the path, that is not what it should be.
+/// - `BadBody`, and `Bad` with `BadValue`, for the body of a `PUT`.
 ///
 /// `NoMemory` may come instead.
 pub fn asked_by(alloc: Global, door: Door, request: &Request<Bytes>) -> Result<Asked, Unasked>
@@ -141,9 +268,11 @@ pub fn asked_by(alloc: Global, door: Door, request: &Request<Bytes>) -> Result<A
     if is_open {
         asked_at(
             alloc,
+            door,
             request.method().as_str(),
             request.uri().path(),
             query_of(request),
+            request.body().as_slice(),
         )
     } else {
         Err(Unasked::OtherHost)

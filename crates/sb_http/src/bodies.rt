@@ -147,6 +147,23 @@ pub(crate) fn health_line(alloc: Global, status: &NodeStatus) -> Result<Vec<u8>,
     Ok(line_of_value(alloc, &object)?)
 }
 
+/// The object of the version of a write.
+#[tactic(auto, unfolding(crate::specs::Texts::version_data))]
+fn version_object(alloc: Global, version: u64) -> Result<Value, AllocError>
+    ensures object { IfOk result (λ json. view json ≡ spec.version_data version) }
+    ensures plain { IfOk result (λ json. has_float (view json) ≡ false) }
+{
+    json!(in alloc; {"version": version})
+}
+
+/// The line of the version under which a write was made.
+pub(crate) fn version_line(alloc: Global, version: u64) -> Result<Vec<u8>, AllocError>
+    ensures { IfOk result (λ line. line.items ≡ line_of (spec.version_data version)) }
+{
+    let object = version_object(alloc, version)?;
+    line_of_value(alloc, &object)
+}
+
 /// The line of a text about what went wrong.
 pub(crate) fn error_line(alloc: Global, text: &str) -> Result<Vec<u8>, AllocError>
     ensures { IfOk result (λ line. line.items ≡ line_of (spec.error_data text.now)) }

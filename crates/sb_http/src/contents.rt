@@ -2,15 +2,17 @@
 ghost use Rattle.std.specs.Prelude.{◌≡◌, if◌then◌else◌, Ok, IfOk};
 ghost use Rattle.sb_query.specs.Statuses.{is_ready};
 ghost use Rattle.sb_http.specs.Acts.{Act};
-ghost use Rattle.sb_http.specs.Answers.{IsCallFor, Says, IsFault, IsNone, IsPage, IsRow, IsHealth};
+ghost use Rattle.sb_http.specs.Answers.{IsCallFor, Says, IsFault, IsNone, IsPage, IsRow, IsHealth, IsWritten, put_status};
 
 use crate::asked::Asked;
 use crate::backend::Backend;
-use crate::bodies::{error_line, fault_line, health_line, owners_line, page_line, row_line};
+use crate::bodies::{
+    error_line, fault_line, health_line, owners_line, page_line, row_line, version_line,
+};
 use http::StatusCode;
 use sb_codec::{Ask, AskStatus, Message, NodeStatus, Rows};
-use sb_query::{NoAnswer, first_at, is_ready, page_in, status_in};
-use sb_types::{Fault, Key, Name, Prefix};
+use sb_query::{NoAnswer, first_at, is_ready, page_in, status_in, version_in};
+use sb_types::{Fault, Key, Name, Prefix, Write};
 use std::alloc::Global;
 
 /// The status and the body of a response.
@@ -28,17 +30,44 @@ fn none_content(alloc: Global, reason: NoAnswer) -> Result<Content, Fault>
         NoAnswer::Refused(fault) => fault,
         NoAnswer::OtherKind(kind) => Fault::UnknownKind(kind),
     };
-    fault_content(alloc, fault)
+    fault_content(alloc, StatusCode::SERVICE_UNAVAILABLE, fault)
 }
 
 /// Names a fault of the node. `NoMemory`.
-fn fault_content(alloc: Global, fault: Fault) -> Result<Content, Fault>
-    ensures { IfOk result (λ content. IsFault 503 fault (content.status, content.body.items)) }
+fn fault_content(alloc: Global, status: StatusCode, fault: Fault) -> Result<Content, Fault>
+    ensures { IfOk result (λ content. IsFault status fault (content.status, content.body.items)) }
 {
     Ok(Content {
-        status: StatusCode::SERVICE_UNAVAILABLE,
+        status,
         body: fault_line(alloc, fault)?,
     })
+}
+
+/// The status of a write that was refused for this fault.
+fn put_status(fault: &Fault) -> StatusCode
+    ensures { result ≡ put_status fault.now }
+{
+    match fault {
+        Fault::NothingThere => StatusCode::NOT_FOUND,
+        Fault::OwnerConflict(_) => StatusCode::CONFLICT,
+        Fault::TableFull => StatusCode::INSUFFICIENT_STORAGE,
+        Fault::VersionsSpent => StatusCode::INSUFFICIENT_STORAGE,
+        _ => StatusCode::SERVICE_UNAVAILABLE,
+    }
+}
+
+/// Names the version of a write, or why it was not made. `NoMemory`.
+fn put_content(alloc: Global, version: Result<u64, NoAnswer>) -> Result<Content, Fault>
+    ensures { IfOk result (λ content. IsWritten version (content.status, content.body.items)) }
+{
+    match version {
+        Ok(version) => Ok(Content {
+            status: StatusCode::OK,
+            body: version_line(alloc, version)?,
+        }),
+        Err(NoAnswer::Refused(fault)) => fault_content(alloc, put_status(&fault), fault),
+        Err(other) => none_content(alloc, other),
+    }
 }
 
 /// Has a page. `NoMemory`.
@@ -153,6 +182,14 @@ fn answer_health<B: Backend>(alloc: Global, backend: &mut B) -> Result<Content, 
     health_content(alloc, &status)
 }
 
+/// Asks for a write to be made. `NoMemory`, after it was asked for.
+fn answer_put<B: Backend>(alloc: Global, backend: &mut B, write: Write) -> Result<Content, Fault>
+    ensures { (act : Act) × B.step backend.old act backend.new × IsCallFor (Asked.Put write) act × IfOk result (λ content. Says (Asked.Put write) act (content.status, content.body.items)) }
+{
+    let version = version_in(&backend.ask(&Message::Put(write)));
+    put_content(alloc, version)
+}
+
 /// Asks for the owners. `NoMemory`.
 fn answer_owners<B: Backend>(alloc: Global, backend: &mut B) -> Result<Content, Fault>
     ensures { (act : Act) × B.step backend.old act backend.new × IsCallFor Asked.Owners act × IfOk result (λ content. Says Asked.Owners act (content.status, content.body.items)) }
@@ -162,7 +199,7 @@ fn answer_owners<B: Backend>(alloc: Global, backend: &mut B) -> Result<Content, 
             status: StatusCode::OK,
             body: owners_line(alloc, &owners)?,
         }),
-        Err(fault) => fault_content(alloc, fault),
+        Err(fault) => fault_content(alloc, StatusCode::SERVICE_UNAVAILABLE, fault),
     }
 }
 
@@ -186,13 +223,14 @@ fn answer_metrics<B: Backend>(alloc: Global, backend: &mut B) -> Content
 pub(crate) fn answer<B: Backend>(
     alloc: Global,
     backend: &mut B,
-    asked: &Asked,
+    asked: Asked,
 ) -> Result<Content, Fault>
-    ensures { (act : Act) × B.step backend.old act backend.new × IsCallFor asked.now act × IfOk result (λ content. Says asked.now act (content.status, content.body.items)) }
+    ensures { (act : Act) × B.step backend.old act backend.new × IsCallFor asked act × IfOk result (λ content. Says asked act (content.status, content.body.items)) }
 {
     match asked {
-        Asked::Rows(ask) => answer_rows(alloc, backend, *ask),
-        Asked::Row(owner, key) => answer_row(alloc, backend, *owner, *key),
+        Asked::Rows(ask) => answer_rows(alloc, backend, ask),
+        Asked::Row(owner, key) => answer_row(alloc, backend, owner, key),
+        Asked::Put(write) => answer_put(alloc, backend, write),
         Asked::Health => answer_health(alloc, backend),
         Asked::Owners => answer_owners(alloc, backend),
         Asked::Metrics => Ok(answer_metrics(alloc, backend)),

@@ -2,7 +2,7 @@
 //! no lock. A `Backend` says what the node answers, and `serve_connection` answers over any reader and writer.
 //!
 //! What a request asks for is a function of it and of the door where it came in (`asked_by`). What the response contains
-//! is a function of that and of what the backend answered. A backend is asked only what reads.
+//! is a function of that and of what the backend answered. A backend is asked once for a request, and at a port only what reads.
 //!
 //! ```rust
 //! /// The status of the response to a request.
@@ -36,9 +36,10 @@ mod parts;
 mod rows_query;
 mod service;
 mod serving;
+mod write_body;
 
 pub use asked::{Asked, Door, Unasked, asked_by};
 pub use backend::{Backend, HeldOwner};
-pub use laws::{ports_take_local_hosts, requests_only_read};
+pub use laws::{other_methods_only_read, ports_only_read, ports_take_local_hosts};
 pub use service::HttpService;
 pub use serving::serve_connection;

@@ -1,4 +1,4 @@
-//! The parameters of a query for rows.
+//! The parameters of a query, and the places in a path.
 ghost use Rattle.std.specs.Prelude.{◌≡◌, []};
 ghost use Rattle.sb_http.specs.RowsQueries as spec;
 ghost use Rattle.sb_http.specs.Asking.{GivesUnless};
@@ -207,6 +207,19 @@ impl RowsQuery {
     }
 }
 
+impl RowsQuery {
+    /// The key of these parameters, if they have nothing else.
+    fn only_key(self) -> Result<Key, Unasked>
+        ensures { result ≡ spec.only_key self }
+    {
+        let has_others = self.owner.is_some() || self.prefix.is_some() || self.after.is_some();
+        match self.key {
+            Some(key) if !has_others => Ok(key),
+            _ => Err(Unasked::BadParameters),
+        }
+    }
+}
+
 /// Rows are asked for. Without a prefix, those of all keys.
 fn rows_asked(
     owner: Option<Name>,
@@ -243,6 +256,26 @@ pub(crate) fn query_asked(alloc: Global, query: &[u8]) -> Result<Asked, Unasked>
     match RowsQuery::new().with_query(alloc, query) {
         Ok(taken) => taken.asked(),
         Err(why) => Err(why),
+    }
+}
+
+/// The key that a query names, and nothing else. `NoMemory`.
+pub(crate) fn key_asked_by(alloc: Global, query: &[u8]) -> Result<Key, Unasked>
+    ensures { GivesUnless result (spec.key_asked_by query.now) }
+{
+    match RowsQuery::new().with_query(alloc, query) {
+        Ok(taken) => taken.only_key(),
+        Err(why) => Err(why),
+    }
+}
+
+/// The key that is the end of a path. `NoMemory`.
+pub(crate) fn key_at(alloc: Global, place: &[u8]) -> Result<Key, Unasked>
+    ensures { GivesUnless result (spec.key_at place.now) }
+{
+    match plain(alloc, place) {
+        Ok(key) => key_in(&key),
+        Err(_) => Err(Unasked::NoMemory),
     }
 }
 

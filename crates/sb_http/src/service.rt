@@ -83,7 +83,7 @@ fn refuse_by(alloc: Global, response: &mut Response, fault: Fault) -> Result<(),
     fill(response, StatusCode::BAD_REQUEST, fault_line(alloc, fault)?)
 }
 
-/// Refuses a method, and names those that the path has.
+/// Refuses a method, and names those that a path has that is only read.
 fn refuse_method(alloc: Global, response: &mut Response) -> Result<(), AllocError>
     requires { IsBlank response.old }
     ensures { OnOk result (Refuses Unasked.NotAllowed response.new) }
@@ -91,6 +91,17 @@ fn refuse_method(alloc: Global, response: &mut Response) -> Result<(), AllocErro
     add_fields(response, json_type())?;
     response.add_header(header::ALLOW, HeaderValue::from_static("GET, HEAD"))?;
     let body = error_line(alloc, "this path is only read")?;
+    fill(response, StatusCode::METHOD_NOT_ALLOWED, body)
+}
+
+/// Refuses a method, and names those that a path has that is only written.
+fn refuse_reading(alloc: Global, response: &mut Response) -> Result<(), AllocError>
+    requires { IsBlank response.old }
+    ensures { OnOk result (Refuses Unasked.OnlyWritten response.new) }
+{
+    add_fields(response, json_type())?;
+    response.add_header(header::ALLOW, HeaderValue::from_static("PUT, DELETE"))?;
+    let body = error_line(alloc, "this path is only written")?;
     fill(response, StatusCode::METHOD_NOT_ALLOWED, body)
 }
 
@@ -109,9 +120,18 @@ fn refuse(alloc: Global, response: &mut Response, why: &Unasked) -> Result<(), A
             refuse_with(alloc, response, StatusCode::NOT_FOUND, text)
         }
         Unasked::NotAllowed => refuse_method(alloc, response),
+        Unasked::OnlyWritten => refuse_reading(alloc, response),
+        Unasked::NotByPort => {
+            let text = "writes are taken at a Unix socket only";
+            refuse_with(alloc, response, StatusCode::FORBIDDEN, text)
+        }
         Unasked::Bad(fault) => refuse_by(alloc, response, *fault),
         Unasked::BadParameters => {
-            let text = "the parameters are owner, prefix and after, or owner and key, each once";
+            let text = "the parameters are owner, prefix and after, or owner and key, or key for a write, each once";
+            refuse_with(alloc, response, StatusCode::BAD_REQUEST, text)
+        }
+        Unasked::BadBody => {
+            let text = "the body is JSON of this form: {\"kind\":\"weight\",\"value\":5}";
             refuse_with(alloc, response, StatusCode::BAD_REQUEST, text)
         }
         Unasked::NoMemory => Err(AllocError),
@@ -142,9 +162,9 @@ fn fill_or_shorten(response: &mut Response, content: Result<Content, Fault>)
 
 impl<B: Backend> HttpService<B> {
     /// Asks the backend once, and fills a response that has its fields.
-    fn answer_asked(&mut self, asked: &Asked, response: &mut Response)
-        requires { IsResponse 200 (fields_for (kind_of asked.now)) [] response.old }
-        ensures answers { AnswersAsked B.step asked.now self.old.backend response.new self.new.backend }
+    fn answer_asked(&mut self, asked: Asked, response: &mut Response)
+        requires { IsResponse 200 (fields_for (kind_of asked)) [] response.old }
+        ensures answers { AnswersAsked B.step asked self.old.backend response.new self.new.backend }
         ensures door { self.new.door ≡ self.old.door }
     {
         let content = answer(self.alloc, &mut self.backend, asked);
@@ -166,7 +186,7 @@ impl<B: Backend> Service for HttpService<B> {
         match asked_by(self.alloc, self.door, request) {
             Ok(asked) => {
                 add_fields(response, type_of(&asked))?;
-                self.answer_asked(&asked, response);
+                self.answer_asked(asked, response);
                 Ok(())
             }
             Err(why) => refuse(self.alloc, response, &why),

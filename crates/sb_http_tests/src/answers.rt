@@ -1,28 +1,12 @@
 //! The answers to requests, byte by byte.
 
 use crate::fixed::{answer, answer_at};
+use crate::parts::{body, status};
 use crate::same;
 use sb_http::Door;
 use std::alloc::Global;
 use std::process::Abort;
 use std::random::RandomSource;
-
-/// The three digits of the status of an answer.
-fn status(text: &[u8]) -> &str {
-    match text.get(9..12) {
-        Some(digits) => str::from_utf8(digits).unwrap_or(""),
-        None => "",
-    }
-}
-
-/// The body of an answer.
-fn body(text: &[u8]) -> &str {
-    let all = str::from_utf8(text).unwrap_or("");
-    match all.split_once("\r\n\r\n") {
-        Some((_, body)) => body,
-        None => "",
-    }
-}
 
 /// Compares the status and the body of the answer to a target.
 fn case<R: Abort + RandomSource>(rt: &R, alloc: Global, target: &str, wanted: &str, content: &str) {
@@ -83,7 +67,7 @@ fn what_asks_for_nothing_is_refused(rt: HostRuntime) {
         "{\"error\":\"there is no such path\"}\n",
     );
     let parameters =
-        "{\"error\":\"the parameters are owner, prefix and after, or owner and key, each once\"}\n";
+        "{\"error\":\"the parameters are owner, prefix and after, or owner and key, or key for a write, each once\"}\n";
     case(&rt, rt.alloc(), "/v1/rows?x=1", "400", parameters);
     case(&rt, rt.alloc(), "/v1/rows?key=k", "400", parameters);
     case(

@@ -14,3 +14,4 @@ pub mod StatusAnswers
 pub mod LeavingOut
 pub mod AskedDigests
 pub mod AuditedSeats
+pub mod WriteReplies

@@ -23,7 +23,26 @@ held_owner p = record { owner = p.0; version = p.1.upto; rows = length (entries 
 abbrev pub IsListed : NodeView → List HeldOwner → Type 0
 IsListed view owners = owners ≡ map held_owner (entries view)
 
--- a question for rows is answered by a page, and one how the node is by its status; any other message is none
+-- the message names the version of a write, or a fault
+abbrev pub IsWriteReply : Message → Type 0
+IsWriteReply (kinds.Done version) = Unit {0}
+IsWriteReply (kinds.Refused number) = Unit {0}
+IsWriteReply (kinds.Ask x) = ⊥
+IsWriteReply (kinds.AskStatus x) = ⊥
+IsWriteReply (kinds.Hello x) = ⊥
+IsWriteReply (kinds.Digest x) = ⊥
+IsWriteReply (kinds.Delta x) = ⊥
+IsWriteReply (kinds.Bye x) = ⊥
+IsWriteReply (kinds.Put x) = ⊥
+IsWriteReply (kinds.Rows x) = ⊥
+IsWriteReply (kinds.NodeStatus x) = ⊥
+IsWriteReply (kinds.AskChange x) = ⊥
+IsWriteReply (kinds.Notice x) = ⊥
+IsWriteReply kinds.AskAges = ⊥
+IsWriteReply (kinds.Ages x) = ⊥
+
+-- a question for rows is answered by a page, and one how the node is by its status; a write by what the calling thread answers,
+-- and the seat stays as it was; any other message is none
 abbrev pub AnswersQuestion : Node → Settings → Seat → Message → Seat → Message → Type 0
 AnswersQuestion opening settings before (kinds.Ask ask) after reply = IsPageReply opening settings.budget before ask after reply
 AnswersQuestion opening settings before (kinds.AskStatus asked) after reply = IsStatusReply opening settings before asked after reply
@@ -31,7 +50,7 @@ AnswersQuestion opening settings before (kinds.Hello x) after reply = (after ≡
 AnswersQuestion opening settings before (kinds.Digest x) after reply = (after ≡ before) × IsUnknown reply
 AnswersQuestion opening settings before (kinds.Delta x) after reply = (after ≡ before) × IsUnknown reply
 AnswersQuestion opening settings before (kinds.Bye x) after reply = (after ≡ before) × IsUnknown reply
-AnswersQuestion opening settings before (kinds.Put x) after reply = (after ≡ before) × IsUnknown reply
+AnswersQuestion opening settings before (kinds.Put x) after reply = (after ≡ before) × IsWriteReply reply
 AnswersQuestion opening settings before (kinds.Rows x) after reply = (after ≡ before) × IsUnknown reply
 AnswersQuestion opening settings before (kinds.Done x) after reply = (after ≡ before) × IsUnknown reply
 AnswersQuestion opening settings before (kinds.Refused x) after reply = (after ≡ before) × IsUnknown reply
@@ -45,7 +64,7 @@ AnswersQuestion opening settings before (kinds.Ages x) after reply = (after ≡ 
 abbrev pub AreOwnersAfter : Node → List Event → List HeldOwner → Type 0
 AreOwnersAfter opening seen owners = (view : NodeView) × IsView (node_after opening seen) view × IsListed view owners
 
--- what a call over HTTP reads, and what the seat has seen then
+-- what a call over HTTP reads or is answered, and what the seat has seen then
 abbrev pub Reads : Node → Settings → Seat → Act → Seat → Type 0
 Reads opening settings before (asks request reply) after = AnswersQuestion opening settings before request after reply
 Reads opening settings before (lists owners) after = IsLater before after × AreOwnersAfter opening after.seen owners

@@ -12,6 +12,7 @@ use crate::counts::Counts;
 use crate::dialer::{Dialing, Rounds, RoundsReceiver, RoundsSender, RoundsTag, Turns};
 use crate::first_hearing::FirstHearing;
 use crate::heard::HeardTimes;
+use crate::http_writes::WriteDesk;
 use crate::log_watch::LogWatch;
 use crate::node::{OnLogFault, Pace, Runtime};
 use crate::observer::Observer;
@@ -538,6 +539,7 @@ pub(crate) struct NodeContext<'a, S: RoundsTag, H: Wait + Drop, Q> {
     pub(crate) bell: &'a Bell,
     pub(crate) counts: &'a Counts,
     pub(crate) asked: &'a Asked,
+    pub(crate) desk: &'a WriteDesk,
     pub(crate) forgotten: &'a ForgottenOwners,
     pub(crate) vain_offers: &'a VainOffers,
     /// Which peers were heard.
