@@ -31,7 +31,7 @@ use std::{io, thread};
 /// How many connections a node answers over HTTP at once, if it has seats for so many.
 pub const HTTP_WORKERS: u64 = 8;
 
-/// The longest body of a request. None needs one.
+/// The longest body of a request. That of the longest value is far shorter.
 const BODY_MOST: usize = 8_192;
 
 /// How many bytes a caller may still send after its answer, before the connection is closed.

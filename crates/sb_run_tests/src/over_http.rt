@@ -55,7 +55,10 @@ fn answer_on(rt: &impl Abort, alloc: Global, stream: UnixStream) -> String {
         Some(parts) => parts,
         None => ("HTTP/1.1 000", ""),
     };
-    let status = &head[9..12];
+    let status = match head.get(9..12) {
+        Some(digits) => digits,
+        None => "",
+    };
     got(rt, format!(in alloc; "{status} {body}"))
 }
 
