@@ -5,12 +5,12 @@ use Rattle.http.specs.declared.request.Request.{Request}
 use Rattle.http.specs.Request.{head_of, body_of}
 use Rattle.http_uri.specs.Uri.{uri_path}
 use Rattle.sb_types.specs.declared.entry.Slot.{Slot}
-use Rattle.sb_http.specs.declared.asked.Asked.{Asked}
-use Rattle.sb_http.specs.declared.asked.Asked.TheVariants.{Health, Metrics, Owners, Rows, Row, Put}
-use Rattle.sb_http.specs.declared.asked.Door.{Door}
-use Rattle.sb_http.specs.declared.asked.Door.TheVariants.{Socket, Port}
-use Rattle.sb_http.specs.declared.asked.Unasked.{Unasked}
-use Rattle.sb_http.specs.declared.asked.Unasked.TheVariants.{NotByPort, OnlyWritten}
+use Rattle.sb_http.specs.declared.operation.Operation.{Operation}
+use Rattle.sb_http.specs.declared.operation.Operation.TheVariants.{Health, Metrics, Owners, Rows, Row, Put}
+use Rattle.sb_http.specs.declared.operation.Door.{Door}
+use Rattle.sb_http.specs.declared.operation.Door.TheVariants.{Socket, Port}
+use Rattle.sb_http.specs.declared.operation.Refusal.{Refusal}
+use Rattle.sb_http.specs.declared.operation.Refusal.TheVariants.{NotByPort, OnlyWritten}
 use Rattle.sb_http.specs.declared.rows_query.RowsQuery.{RowsQuery}
 use Rattle.sb_http.specs.RowsQueries.{then_read, asked_by_key, asked_with, key_asked, rows_asked, query_asked, with_query, no_parameters, row_asked, place_in}
 use Rattle.sb_http.specs.Requests.{is_open, is_reading, is_writing, reading, writing, write_refusal, port_refusal, unless_refused, written_as, slot_by, asked_for_key, asked_for_row, asked_at_place, asked_at, asked_by, after_start, query_of, key_asked_by, key_at}
@@ -18,7 +18,7 @@ use Rattle.sb_http.specs.Acts.{Act, asks, lists, measures, fails, IsQuestion, On
 use Rattle.sb_http.specs.Answers.{IsCallFor}
 
 -- what is asked for is no write
-abbrev IsRead : Asked → Type 0
+abbrev IsRead : Operation → Type 0
 IsRead (Put write) = ⊥
 IsRead Health = Unit {0}
 IsRead Metrics = Unit {0}
@@ -26,15 +26,15 @@ IsRead Owners = Unit {0}
 IsRead (Rows ask) = Unit {0}
 IsRead (Row owner key) = Unit {0}
 
-abbrev OnlyAsks : Result Asked Unasked → Type 0
+abbrev OnlyAsks : Result Operation Refusal → Type 0
 OnlyAsks (Ok asked) = IsRead asked
 OnlyAsks (Err why) = Unit {0}
 
-chosen : (b : Bool) (x y : Result Asked Unasked) → OnlyAsks x → OnlyAsks y → OnlyAsks (if b then x else y)
+chosen : (b : Bool) (x y : Result Operation Refusal) → OnlyAsks x → OnlyAsks y → OnlyAsks (if b then x else y)
 chosen true x y this that = this
 chosen false x y this that = that
 
-then_asks : {X : Type 0} (x : Result X Unasked) (next : X → Result Asked Unasked) → ((it : X) → OnlyAsks (next it)) → OnlyAsks (then_read x next)
+then_asks : {X : Type 0} (x : Result X Refusal) (next : X → Result Operation Refusal) → ((it : X) → OnlyAsks (next it)) → OnlyAsks (then_read x next)
 then_asks (Ok it) next each = each it
 then_asks (Err why) next each = tt
 
@@ -53,7 +53,7 @@ query_reads query = then_asks (with_query no_parameters query) asked_with (λ q.
 row_reads : (place : List ℕ) → OnlyAsks (row_asked place)
 row_reads place = then_asks _ _ (λ found. tt)
 
-refused_asks : (why : Option Unasked) (asked : Result Asked Unasked) → is_some why ≡ true → OnlyAsks (unless_refused why asked)
+refused_asks : (why : Option Refusal) (asked : Result Operation Refusal) → is_some why ≡ true → OnlyAsks (unless_refused why asked)
 refused_asks (Some why) asked is = tt
 refused_asks None asked is = absurd cc
 
@@ -61,7 +61,7 @@ for_key_asks : (door : Door) (method body : List ℕ) (place : Option (List ℕ)
 for_key_asks door method body None is = tt
 for_key_asks door method body (Some place) is = refused_asks (write_refusal door method) _ is
 
-for_row_asks : (method : List ℕ) (place : Option (List ℕ)) (others : Result Asked Unasked) → OnlyAsks others → OnlyAsks (asked_for_row method place others)
+for_row_asks : (method : List ℕ) (place : Option (List ℕ)) (others : Result Operation Refusal) → OnlyAsks others → OnlyAsks (asked_for_row method place others)
 for_row_asks method None others asks = asks
 for_row_asks method (Some place) others asks = chosen (is_reading method) _ _ (row_reads place) tt
 
@@ -81,7 +81,7 @@ port_refused : (b : Bool) → is_some (if b then Some NotByPort else Some OnlyWr
 port_refused true = refl
 port_refused false = refl
 
-only_reads : (asked : Asked) (act : Act) → IsRead asked → IsCallFor asked act → OnlyReads act
+only_reads : (asked : Operation) (act : Act) → IsRead asked → IsCallFor asked act → OnlyReads act
 only_reads asked (lists owners) read call = tt
 only_reads asked (measures text) read call = tt
 only_reads asked (fails fault) read call = tt
@@ -92,11 +92,11 @@ only_reads Owners (asks request reply) read call = absurd call
 only_reads Metrics (asks request reply) read call = absurd call
 only_reads (Put write) (asks request reply) read call = absurd read
 
-pub at_ports : (request : Request (List ℕ)) (asked : Asked) (act : Act) → asked_by Port request ≡ Ok asked → IsCallFor asked act → OnlyReads act
+pub at_ports : (request : Request (List ℕ)) (asked : Operation) (act : Act) → asked_by Port request ≡ Ok asked → IsCallFor asked act → OnlyReads act
 at_ports request asked act is call = only_reads asked act (subst OnlyAsks is (by_asks Port request (port_refused (is_writing (head_of request).method)))) call
 
 unwritten : (door : Door) (method : List ℕ) → is_writing method ≡ false → is_some (write_refusal door method) ≡ true
 unwritten door method not = subst (λ (b : Bool). is_some (if b then port_refusal door else Some OnlyWritten) ≡ true) (sym not) refl
 
-pub by_others : (door : Door) (request : Request (List ℕ)) (asked : Asked) (act : Act) → is_writing (head_of request).method ≡ false → asked_by door request ≡ Ok asked → IsCallFor asked act → OnlyReads act
+pub by_others : (door : Door) (request : Request (List ℕ)) (asked : Operation) (act : Act) → is_writing (head_of request).method ≡ false → asked_by door request ≡ Ok asked → IsCallFor asked act → OnlyReads act
 by_others door request asked act not is call = only_reads asked act (subst OnlyAsks is (by_asks door request (unwritten door (head_of request).method not))) call

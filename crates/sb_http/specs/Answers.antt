@@ -17,11 +17,11 @@ use Rattle.sb_query.specs.Answers.{TellsPage, TellsStatus, TellsVersion}
 use Rattle.sb_query.specs.Statuses.{is_ready}
 use Rattle.sb_query.specs.Pages.{first_at}
 use Rattle.sb_listing.specs.Json.{row_data}
-use Rattle.sb_http.specs.declared.asked.Asked.{Asked}
-use Rattle.sb_http.specs.declared.asked.Asked.TheVariants.{Health, Metrics, Owners, Rows, Row, Put}
-use Rattle.sb_http.specs.declared.asked.Door.{Door}
-use Rattle.sb_http.specs.declared.asked.Unasked.{Unasked}
-use Rattle.sb_http.specs.declared.asked.Unasked.TheVariants.{OtherHost, NotFound, NotAllowed, OnlyWritten, NotByPort, Bad, BadParameters, BadBody, NoMemory}
+use Rattle.sb_http.specs.declared.operation.Operation.{Operation}
+use Rattle.sb_http.specs.declared.operation.Operation.TheVariants.{Health, Metrics, Owners, Rows, Row, Put}
+use Rattle.sb_http.specs.declared.operation.Door.{Door}
+use Rattle.sb_http.specs.declared.operation.Refusal.{Refusal}
+use Rattle.sb_http.specs.declared.operation.Refusal.TheVariants.{OtherHost, NotFound, NotAllowed, OnlyWritten, NotByPort, Bad, BadParameters, BadBody, NoMemory}
 use Rattle.sb_http.specs.declared.contents.Content as rust
 use Rattle.sb_http.specs.Acts.{Act, asks, lists, measures, fails}
 use Rattle.sb_http.specs.Requests.{asked_by}
@@ -35,7 +35,7 @@ abbrev pub json_kind : List ℕ
 json_kind = codes "application/json"
 
 -- the kind of the body
-abbrev pub kind_of : Asked → List ℕ
+abbrev pub kind_of : Operation → List ℕ
 kind_of Metrics = codes "text/plain; version=0.0.4"
 kind_of asked = json_kind
 
@@ -95,7 +95,7 @@ abbrev pub row_question : List ℕ → List ℕ → asking.Ask
 row_question owner key = record { owner = Some owner; prefix = key; after = None }
 
 -- the call of the backend asks it for what was asked for, and for nothing else
-abbrev pub IsCallFor : Asked → Act → Type 0
+abbrev pub IsCallFor : Operation → Act → Type 0
 IsCallFor (Rows ask) (asks request reply) = request ≡ kinds.Ask ask
 IsCallFor (Row owner key) (asks request reply) = request ≡ kinds.Ask (row_question owner key)
 IsCallFor Health (asks request reply) = request ≡ kinds.AskStatus 0
@@ -107,7 +107,7 @@ IsCallFor Metrics (fails fault) = Unit {0}
 IsCallFor asked act = ⊥
 
 -- the content that says what was asked for, by what a call of the backend answered
-abbrev pub Says : Asked → Act → Content → Type 0
+abbrev pub Says : Operation → Act → Content → Type 0
 Says (Rows ask) (asks request reply) content = (page : Result records.Rows NoAnswer) × TellsPage reply page × IsPage page content
 Says (Row owner key) (asks request reply) content =
     (page : Result records.Rows NoAnswer) × TellsPage reply page × IsRow owner key page content
@@ -133,14 +133,14 @@ abbrev pub FillsOrShortens : Response → Result rust.Content Fault → Response
 FillsOrShortens old content new = HasContent (fields_of old) content new ⊎ Has (fields_of old) (503, []) new
 
 -- the backend was called once, for this, and the response says what came of it; or there was no memory for that
-abbrev pub AnswersAsked : {B : Type 0} → (B → Act → B → Type 0) → Asked → B → Response → B → Type 0
+abbrev pub AnswersAsked : {B : Type 0} → (B → Act → B → Type 0) → Operation → B → Response → B → Type 0
 AnswersAsked step asked old response new =
     (act : Act) × step old act new × IsCallFor asked act
     × (((content : Content) × Says asked act content × Has (fields_for (kind_of asked)) content response)
     ⊎ Has (fields_for (kind_of asked)) (503, []) response)
 
 -- why nothing is asked for
-abbrev pub Refuses : Unasked → Response → Type 0
+abbrev pub Refuses : Refusal → Response → Type 0
 Refuses OtherHost response = Has (fields_for json_kind) (is_error 421 (codes "the host is not this machine")) response
 Refuses NotFound response = Has (fields_for json_kind) (is_error 404 (codes "there is no such path")) response
 Refuses NotAllowed response =
@@ -155,7 +155,7 @@ Refuses BadBody response =
     Has (fields_for json_kind) (is_error 400 (codes "the body is JSON of this form: {\"kind\":\"weight\",\"value\":5}")) response
 Refuses NoMemory response = ⊥
 
-abbrev pub AnswersWhat : {B : Type 0} → (B → Act → B → Type 0) → Result Asked Unasked → B → Response → B → Type 0
+abbrev pub AnswersWhat : {B : Type 0} → (B → Act → B → Type 0) → Result Operation Refusal → B → Response → B → Type 0
 AnswersWhat step (Ok asked) old response new = AnswersAsked step asked old response new
 AnswersWhat step (Err why) old response new = Refuses why response × (new ≡ old)
 

@@ -12,8 +12,8 @@ use Rattle.sb_types.specs.declared.kind.Form.TheVariants as forms
 use Rattle.sb_types.specs.declared.kind.Kind.{Kind}
 use Rattle.sb_types.specs.Kinds.{Content, Word, Text, Number, Truth, all_kinds, word_of, form_of, value_of}
 use Rattle.sb_types.specs.Value.{Value}
-use Rattle.sb_http.specs.declared.asked.Unasked.{Unasked}
-use Rattle.sb_http.specs.declared.asked.Unasked.TheVariants.{Bad, BadBody}
+use Rattle.sb_http.specs.declared.operation.Refusal.{Refusal}
+use Rattle.sb_http.specs.declared.operation.Refusal.TheVariants.{Bad, BadBody}
 
 -- what a member holds, if JSON spells such contents so
 abbrev pub content_in : Form → Data → Option Content
@@ -25,15 +25,15 @@ content_in forms.Truth json = option_map Truth (as_bool json)
 abbrev pub kind_of_word : List ℕ → Option Kind
 kind_of_word word = find (λ kind. bytes_eq (word_of kind) word) all_kinds
 
-abbrev pub or_bad : Result Value Fault → Result Value Unasked
+abbrev pub or_bad : Result Value Fault → Result Value Refusal
 or_bad (Ok value) = Ok value
 or_bad (Err fault) = Err (Bad fault)
 
-abbrev pub value_with : Kind → Option Content → Result Value Unasked
+abbrev pub value_with : Kind → Option Content → Result Value Refusal
 value_with kind None = Err (Bad BadValue)
 value_with kind (Some content) = or_bad (value_of kind content)
 
-abbrev pub value_of_kind : Option Kind → Data → Result Value Unasked
+abbrev pub value_of_kind : Option Kind → Data → Result Value Refusal
 value_of_kind None json = Err (Bad BadValue)
 value_of_kind (Some kind) json = value_with kind (content_in (form_of kind) json)
 
@@ -44,13 +44,13 @@ count_members (member name json others) = suc (count_members others)
 abbrev pub has_two_members : Data → Bool
 has_two_members json = unwrap_or (option_map (λ members. count_members members == 2) (as_object json)) false
 
-abbrev pub value_of_members : Option Data → Option Data → Result Value Unasked
+abbrev pub value_of_members : Option Data → Option Data → Result Value Refusal
 value_of_members (Some kind) (Some value) = value_of_kind (option_and_then kind_of_word (as_str kind)) value
 value_of_members kind value = Err BadBody
 
-abbrev pub value_of_json : Option Data → Result Value Unasked
+abbrev pub value_of_json : Option Data → Result Value Refusal
 value_of_json None = Err BadBody
 value_of_json (Some json) = if has_two_members json then value_of_members (get (codes "kind") json) (get (codes "value") json) else Err BadBody
 
-abbrev pub value_in : List ℕ → Result Value Unasked
+abbrev pub value_in : List ℕ → Result Value Refusal
 value_in body = value_of_json (if is_utf8 body then read body else None)

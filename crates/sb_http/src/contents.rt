@@ -4,11 +4,11 @@ ghost use Rattle.sb_query.specs.Statuses.{is_ready};
 ghost use Rattle.sb_http.specs.Acts.{Act};
 ghost use Rattle.sb_http.specs.Answers.{IsCallFor, Says, IsFault, IsNone, IsPage, IsRow, IsHealth, IsWritten, put_status};
 
-use crate::asked::Asked;
 use crate::backend::Backend;
 use crate::bodies::{
     error_line, fault_line, health_line, owners_line, page_line, row_line, version_line,
 };
+use crate::operation::Operation;
 use http::StatusCode;
 use sb_codec::{Ask, AskStatus, Message, NodeStatus, Rows};
 use sb_query::{NoAnswer, first_at, is_ready, page_in, status_in, version_in};
@@ -150,7 +150,7 @@ fn prefix_of(key: &Key) -> Prefix
 
 /// Asks for a page of rows. `NoMemory`.
 fn answer_rows<B: Backend>(alloc: Global, backend: &mut B, ask: Ask) -> Result<Content, Fault>
-    ensures { (act : Act) × B.step backend.old act backend.new × IsCallFor (Asked.Rows ask) act × IfOk result (λ content. Says (Asked.Rows ask) act (content.status, content.body.items)) }
+    ensures { (act : Act) × B.step backend.old act backend.new × IsCallFor (Operation.Rows ask) act × IfOk result (λ content. Says (Operation.Rows ask) act (content.status, content.body.items)) }
 {
     let page = page_in(backend.ask(&Message::Ask(ask)));
     page_content(alloc, &page)
@@ -163,7 +163,7 @@ fn answer_row<B: Backend>(
     owner: Name,
     key: Key,
 ) -> Result<Content, Fault>
-    ensures { (act : Act) × B.step backend.old act backend.new × IsCallFor (Asked.Row owner key) act × IfOk result (λ content. Says (Asked.Row owner key) act (content.status, content.body.items)) }
+    ensures { (act : Act) × B.step backend.old act backend.new × IsCallFor (Operation.Row owner key) act × IfOk result (λ content. Says (Operation.Row owner key) act (content.status, content.body.items)) }
 {
     let ask = Ask {
         owner: Some(owner),
@@ -176,7 +176,7 @@ fn answer_row<B: Backend>(
 
 /// Asks whether the node is ready. `NoMemory`.
 fn answer_health<B: Backend>(alloc: Global, backend: &mut B) -> Result<Content, Fault>
-    ensures { (act : Act) × B.step backend.old act backend.new × IsCallFor Asked.Health act × IfOk result (λ content. Says Asked.Health act (content.status, content.body.items)) }
+    ensures { (act : Act) × B.step backend.old act backend.new × IsCallFor Operation.Health act × IfOk result (λ content. Says Operation.Health act (content.status, content.body.items)) }
 {
     let status = status_in(backend.ask(&Message::AskStatus(AskStatus::new(0))));
     health_content(alloc, &status)
@@ -184,7 +184,7 @@ fn answer_health<B: Backend>(alloc: Global, backend: &mut B) -> Result<Content, 
 
 /// Asks for a write to be made. `NoMemory`, after it was asked for.
 fn answer_put<B: Backend>(alloc: Global, backend: &mut B, write: Write) -> Result<Content, Fault>
-    ensures { (act : Act) × B.step backend.old act backend.new × IsCallFor (Asked.Put write) act × IfOk result (λ content. Says (Asked.Put write) act (content.status, content.body.items)) }
+    ensures { (act : Act) × B.step backend.old act backend.new × IsCallFor (Operation.Put write) act × IfOk result (λ content. Says (Operation.Put write) act (content.status, content.body.items)) }
 {
     let version = version_in(&backend.ask(&Message::Put(write)));
     put_content(alloc, version)
@@ -192,7 +192,7 @@ fn answer_put<B: Backend>(alloc: Global, backend: &mut B, write: Write) -> Resul
 
 /// Asks for the owners. `NoMemory`.
 fn answer_owners<B: Backend>(alloc: Global, backend: &mut B) -> Result<Content, Fault>
-    ensures { (act : Act) × B.step backend.old act backend.new × IsCallFor Asked.Owners act × IfOk result (λ content. Says Asked.Owners act (content.status, content.body.items)) }
+    ensures { (act : Act) × B.step backend.old act backend.new × IsCallFor Operation.Owners act × IfOk result (λ content. Says Operation.Owners act (content.status, content.body.items)) }
 {
     match backend.owners() {
         Ok(owners) => Ok(Content {
@@ -205,7 +205,7 @@ fn answer_owners<B: Backend>(alloc: Global, backend: &mut B) -> Result<Content, 
 
 /// Asks for the metrics.
 fn answer_metrics<B: Backend>(alloc: Global, backend: &mut B) -> Content
-    ensures { (act : Act) × B.step backend.old act backend.new × IsCallFor Asked.Metrics act × Says Asked.Metrics act (result.status, result.body.items) }
+    ensures { (act : Act) × B.step backend.old act backend.new × IsCallFor Operation.Metrics act × Says Operation.Metrics act (result.status, result.body.items) }
 {
     match backend.metrics() {
         Ok(body) => Content {
@@ -223,16 +223,16 @@ fn answer_metrics<B: Backend>(alloc: Global, backend: &mut B) -> Content
 pub(crate) fn answer<B: Backend>(
     alloc: Global,
     backend: &mut B,
-    asked: Asked,
+    asked: Operation,
 ) -> Result<Content, Fault>
     ensures { (act : Act) × B.step backend.old act backend.new × IsCallFor asked act × IfOk result (λ content. Says asked act (content.status, content.body.items)) }
 {
     match asked {
-        Asked::Rows(ask) => answer_rows(alloc, backend, ask),
-        Asked::Row(owner, key) => answer_row(alloc, backend, owner, key),
-        Asked::Put(write) => answer_put(alloc, backend, write),
-        Asked::Health => answer_health(alloc, backend),
-        Asked::Owners => answer_owners(alloc, backend),
-        Asked::Metrics => Ok(answer_metrics(alloc, backend)),
+        Operation::Rows(ask) => answer_rows(alloc, backend, ask),
+        Operation::Row(owner, key) => answer_row(alloc, backend, owner, key),
+        Operation::Put(write) => answer_put(alloc, backend, write),
+        Operation::Health => answer_health(alloc, backend),
+        Operation::Owners => answer_owners(alloc, backend),
+        Operation::Metrics => Ok(answer_metrics(alloc, backend)),
     }
 }

@@ -26,20 +26,20 @@
 //! - `serve_connection` reads on before it has written `100 Continue`. `tools/check-node` refuses it.
 #![tactic(auto)]
 
-mod asked;
 mod backend;
 mod bodies;
 mod contents;
 mod host;
 mod laws;
+mod operation;
 mod parts;
 mod rows_query;
 mod service;
 mod serving;
 mod write_body;
 
-pub use asked::{Asked, Door, Unasked, asked_by};
 pub use backend::{Backend, HeldOwner};
 pub use laws::{other_methods_only_read, ports_only_read, ports_take_local_hosts};
+pub use operation::{Door, Operation, Refusal, asked_by};
 pub use service::HttpService;
 pub use serving::serve_connection;

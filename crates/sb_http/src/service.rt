@@ -3,10 +3,10 @@ ghost use Rattle.std.specs.Prelude.{◌≡◌, ◌++◌, ◌∷◌, [], OnOk};
 ghost use Rattle.http_server.specs.Response.{IsBlank, IsResponse, fields_of};
 ghost use Rattle.sb_http.specs.Answers.{AnswersAsked, AnswersRequest, Refuses, Has, FillsOrShortens, is_error, fields_for, json_kind, kind_of};
 
-use crate::asked::{Asked, Door, Unasked, asked_by};
 use crate::backend::Backend;
 use crate::bodies::{error_line, fault_line};
 use crate::contents::{Content, answer};
+use crate::operation::{Door, Operation, Refusal, asked_by};
 use bytes::Bytes;
 use http::{HeaderValue, Request, StatusCode, header};
 use http_server::{Response, Service};
@@ -29,11 +29,11 @@ fn json_type() -> HeaderValue
 }
 
 /// The type of what is answered.
-fn type_of(asked: &Asked) -> HeaderValue
+fn type_of(asked: &Operation) -> HeaderValue
     ensures { result.bytes ≡ kind_of asked.now }
 {
     match asked {
-        Asked::Metrics => HeaderValue::from_static("text/plain; version=0.0.4"),
+        Operation::Metrics => HeaderValue::from_static("text/plain; version=0.0.4"),
         _ => json_type(),
     }
 }
@@ -77,7 +77,7 @@ fn refuse_with(
 /// Refuses a request with a fault.
 fn refuse_by(alloc: Global, response: &mut Response, fault: Fault) -> Result<(), AllocError>
     requires { IsBlank response.old }
-    ensures { OnOk result (Refuses (Unasked.Bad fault) response.new) }
+    ensures { OnOk result (Refuses (Refusal.Bad fault) response.new) }
 {
     add_fields(response, json_type())?;
     fill(response, StatusCode::BAD_REQUEST, fault_line(alloc, fault)?)
@@ -86,7 +86,7 @@ fn refuse_by(alloc: Global, response: &mut Response, fault: Fault) -> Result<(),
 /// Refuses a method, and names those that a path has that is only read.
 fn refuse_method(alloc: Global, response: &mut Response) -> Result<(), AllocError>
     requires { IsBlank response.old }
-    ensures { OnOk result (Refuses Unasked.NotAllowed response.new) }
+    ensures { OnOk result (Refuses Refusal.NotAllowed response.new) }
 {
     add_fields(response, json_type())?;
     response.add_header(header::ALLOW, HeaderValue::from_static("GET, HEAD"))?;
@@ -97,7 +97,7 @@ fn refuse_method(alloc: Global, response: &mut Response) -> Result<(), AllocErro
 /// Refuses a method, and names those that a path has that is only written.
 fn refuse_reading(alloc: Global, response: &mut Response) -> Result<(), AllocError>
     requires { IsBlank response.old }
-    ensures { OnOk result (Refuses Unasked.OnlyWritten response.new) }
+    ensures { OnOk result (Refuses Refusal.OnlyWritten response.new) }
 {
     add_fields(response, json_type())?;
     response.add_header(header::ALLOW, HeaderValue::from_static("PUT, DELETE"))?;
@@ -106,35 +106,36 @@ fn refuse_reading(alloc: Global, response: &mut Response) -> Result<(), AllocErr
 }
 
 /// Says why nothing is asked for.
-fn refuse(alloc: Global, response: &mut Response, why: &Unasked) -> Result<(), AllocError>
+fn refuse(alloc: Global, response: &mut Response, why: &Refusal) -> Result<(), AllocError>
     requires { IsBlank response.old }
     ensures { OnOk result (Refuses why.now response.new) }
 {
     match why {
-        Unasked::OtherHost => {
+        Refusal::OtherHost => {
             let text = "the host is not this machine";
             refuse_with(alloc, response, StatusCode::MISDIRECTED_REQUEST, text)
         }
-        Unasked::NotFound => {
+        Refusal::NotFound => {
             let text = "there is no such path";
             refuse_with(alloc, response, StatusCode::NOT_FOUND, text)
         }
-        Unasked::NotAllowed => refuse_method(alloc, response),
-        Unasked::OnlyWritten => refuse_reading(alloc, response),
-        Unasked::NotByPort => {
+        Refusal::NotAllowed => refuse_method(alloc, response),
+        Refusal::OnlyWritten => refuse_reading(alloc, response),
+        Refusal::NotByPort => {
             let text = "writes are taken at a Unix socket only";
             refuse_with(alloc, response, StatusCode::FORBIDDEN, text)
         }
-        Unasked::Bad(fault) => refuse_by(alloc, response, *fault),
-        Unasked::BadParameters => {
-            let text = "the parameters are owner, prefix and after, or owner and key, or key for a write, each once";
+        Refusal::Bad(fault) => refuse_by(alloc, response, *fault),
+        Refusal::BadParameters => {
+            let text =
+                "the parameters are owner, prefix and after, or owner and key, or key for a write, each once";
             refuse_with(alloc, response, StatusCode::BAD_REQUEST, text)
         }
-        Unasked::BadBody => {
+        Refusal::BadBody => {
             let text = "the body is JSON of this form: {\"kind\":\"weight\",\"value\":5}";
             refuse_with(alloc, response, StatusCode::BAD_REQUEST, text)
         }
-        Unasked::NoMemory => Err(AllocError),
+        Refusal::NoMemory => Err(AllocError),
     }
 }
 
@@ -162,7 +163,7 @@ fn fill_or_shorten(response: &mut Response, content: Result<Content, Fault>)
 
 impl<B: Backend> HttpService<B> {
     /// Asks the backend once, and fills a response that has its fields.
-    fn answer_asked(&mut self, asked: Asked, response: &mut Response)
+    fn answer_asked(&mut self, asked: Operation, response: &mut Response)
         requires { IsResponse 200 (fields_for (kind_of asked)) [] response.old }
         ensures answers { AnswersAsked B.step asked self.old.backend response.new self.new.backend }
         ensures door { self.new.door ≡ self.old.door }

@@ -7,7 +7,7 @@ ghost use Rattle.sb_types.specs.Kinds.{shown};
 ghost use Rattle.sb_http.specs.Asking.{GivesUnless};
 ghost use Rattle.sb_http.specs.WriteBodies as spec;
 
-use crate::asked::Unasked;
+use crate::operation::Refusal;
 use sb_types::{ContentRef, Fault, Form, Kind, Value};
 use serde_json::Value as JsonValue;
 use std::alloc::Global;
@@ -83,34 +83,26 @@ fn kind_of_word(word: &[u8]) -> Option<Kind>
 }
 
 /// The value of a kind with this content. `NoMemory`.
-fn value_with(
-    alloc: Global,
-    kind: Kind,
-    content: Option<ContentRef<'_>>,
-) -> Result<Value, Unasked>
+fn value_with(alloc: Global, kind: Kind, content: Option<ContentRef<'_>>) -> Result<Value, Refusal>
     ensures { GivesUnless result (spec.value_with kind (option_map shown content.entry)) }
 {
     let Some(content) = content else {
-        return Err(Unasked::Bad(Fault::BadValue));
+        return Err(Refusal::Bad(Fault::BadValue));
     };
     match Value::from_content(alloc, kind, content) {
         Ok(value) => Ok(value),
-        Err(Fault::NoMemory) => Err(Unasked::NoMemory),
-        Err(fault) => Err(Unasked::Bad(fault)),
+        Err(Fault::NoMemory) => Err(Refusal::NoMemory),
+        Err(fault) => Err(Refusal::Bad(fault)),
     }
 }
 
 /// The value of a kind that a member holds. `NoMemory`.
-fn value_of_kind(
-    alloc: Global,
-    kind: Option<Kind>,
-    json: &JsonValue,
-) -> Result<Value, Unasked>
+fn value_of_kind(alloc: Global, kind: Option<Kind>, json: &JsonValue) -> Result<Value, Refusal>
     ensures { GivesUnless result (spec.value_of_kind kind (view json.now)) }
 {
     match kind {
         Some(kind) => value_with(alloc, kind, content_in(kind.form(), json)),
-        None => Err(Unasked::Bad(Fault::BadValue)),
+        None => Err(Refusal::Bad(Fault::BadValue)),
     }
 }
 
@@ -126,39 +118,39 @@ fn has_two_members(json: &JsonValue) -> bool
 }
 
 /// The value of an object with a kind and a value, and nothing else. `NoMemory`.
-fn value_of_json(alloc: Global, json: &JsonValue) -> Result<Value, Unasked>
+fn value_of_json(alloc: Global, json: &JsonValue) -> Result<Value, Refusal>
     ensures { GivesUnless result (spec.value_of_json (Some (view json.now))) }
 {
     if !has_two_members(json) {
-        return Err(Unasked::BadBody);
+        return Err(Refusal::BadBody);
     }
     let Some(kind) = json.get("kind") else {
-        return Err(Unasked::BadBody);
+        return Err(Refusal::BadBody);
     };
     let Some(value) = json.get("value") else {
-        return Err(Unasked::BadBody);
+        return Err(Refusal::BadBody);
     };
     value_of_kind(alloc, kind_in(kind), value)
 }
 
 /// Reads JSON. `NoMemory`.
-fn json_in(alloc: Global, text: &str) -> Result<JsonValue, Unasked>
+fn json_in(alloc: Global, text: &str) -> Result<JsonValue, Refusal>
     ensures ok { IfOk result (λ json. read text.now ≡ Some (view json)) }
-    ensures err { IfErr result (λ why. why ≢ Unasked.NoMemory → (why ≡ Unasked.BadBody) × (read text.now ≡ None)) }
+    ensures err { IfErr result (λ why. why ≢ Refusal.NoMemory → (why ≡ Refusal.BadBody) × (read text.now ≡ None)) }
 {
     match JsonValue::from_str(alloc, text) {
         Ok(json) => Ok(json),
-        Err(error) if error.is_memory() => Err(Unasked::NoMemory),
-        Err(_) => Err(Unasked::BadBody),
+        Err(error) if error.is_memory() => Err(Refusal::NoMemory),
+        Err(_) => Err(Refusal::BadBody),
     }
 }
 
 /// The value in the body of a PUT. `NoMemory`.
-pub(crate) fn value_in(alloc: Global, body: &[u8]) -> Result<Value, Unasked>
+pub(crate) fn value_in(alloc: Global, body: &[u8]) -> Result<Value, Refusal>
     ensures { GivesUnless result (spec.value_in body.now) }
 {
     let Ok(text) = str::from_utf8(body) else {
-        return Err(Unasked::BadBody);
+        return Err(Refusal::BadBody);
     };
     match json_in(alloc, text) {
         Ok(json) => value_of_json(alloc, &json),

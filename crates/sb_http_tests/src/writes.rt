@@ -32,9 +32,30 @@ fn each_kind_is_written(rt: HostRuntime) {
     let alloc = rt.alloc();
     let one = "{\"version\":1}\n";
     let weight = "{\"kind\":\"weight\",\"value\":5}";
-    case(&rt, alloc, "PUT /v1/keys/web/k", weight, "200", "{\"version\":5}\n");
-    case(&rt, alloc, "PUT /v1/keys/web%2Fk", weight, "200", "{\"version\":5}\n");
-    case(&rt, alloc, "PUT /v1/keys?key=web/k", weight, "200", "{\"version\":5}\n");
+    case(
+        &rt,
+        alloc,
+        "PUT /v1/keys/web/k",
+        weight,
+        "200",
+        "{\"version\":5}\n",
+    );
+    case(
+        &rt,
+        alloc,
+        "PUT /v1/keys/web%2Fk",
+        weight,
+        "200",
+        "{\"version\":5}\n",
+    );
+    case(
+        &rt,
+        alloc,
+        "PUT /v1/keys?key=web/k",
+        weight,
+        "200",
+        "{\"version\":5}\n",
+    );
     let flag = " {\"value\" : true, \"kind\" : \"flag\"}\n";
     case(&rt, alloc, "PUT /v1/keys/k", flag, "200", one);
     let addr = "{\"kind\":\"addr\",\"value\":\"10.0.0.1:80\"}";
@@ -46,7 +67,8 @@ fn each_kind_is_written(rt: HostRuntime) {
 #[test]
 fn a_body_that_is_no_value_is_refused(rt: HostRuntime) {
     let alloc = rt.alloc();
-    let form = "{\"error\":\"the body is JSON of this form: {\\\"kind\\\":\\\"weight\\\",\\\"value\\\":5}\"}\n";
+    let form =
+        "{\"error\":\"the body is JSON of this form: {\\\"kind\\\":\\\"weight\\\",\\\"value\\\":5}\"}\n";
     for sent in [
         "",
         "5",
@@ -83,15 +105,45 @@ fn a_fault_of_a_write_has_its_status(rt: HostRuntime) {
     let gone = "{\"error\":\"there is nothing to remove under this key\",\"fault\":9}\n";
     case(&rt, alloc, "DELETE /v1/keys/k", "", "404", gone);
     case(&rt, alloc, "DELETE /v1/keys?key=k", "5", "404", gone);
-    let full = "{\"error\":\"the owner has 4,096 keys, removed ones counted; write under a key that it has\",\"fault\":6}\n";
-    case(&rt, alloc, "PUT /v1/keys/k", "{\"kind\":\"text\",\"value\":\"fault 6\"}", "507", full);
-    let spent = "{\"error\":\"the owner has used every version that the settings allow\",\"fault\":8}\n";
-    case(&rt, alloc, "PUT /v1/keys/k", "{\"kind\":\"text\",\"value\":\"fault 8\"}", "507", spent);
+    let full =
+        "{\"error\":\"the owner has 4,096 keys, removed ones counted; write under a key that it has\",\"fault\":6}\n";
+    case(
+        &rt,
+        alloc,
+        "PUT /v1/keys/k",
+        "{\"kind\":\"text\",\"value\":\"fault 6\"}",
+        "507",
+        full,
+    );
+    let spent =
+        "{\"error\":\"the owner has used every version that the settings allow\",\"fault\":8}\n";
+    case(
+        &rt,
+        alloc,
+        "PUT /v1/keys/k",
+        "{\"kind\":\"text\",\"value\":\"fault 8\"}",
+        "507",
+        spent,
+    );
     let conflict =
         "{\"error\":\"another node writes under this name: its version 0 was seen; give each node a name of its own\",\"fault\":21}\n";
-    case(&rt, alloc, "PUT /v1/keys/k", "{\"kind\":\"text\",\"value\":\"fault 21\"}", "409", conflict);
+    case(
+        &rt,
+        alloc,
+        "PUT /v1/keys/k",
+        "{\"kind\":\"text\",\"value\":\"fault 21\"}",
+        "409",
+        conflict,
+    );
     let closed = "{\"error\":\"this is closed; open it again\",\"fault\":15}\n";
-    case(&rt, alloc, "PUT /v1/keys/k", "{\"kind\":\"text\",\"value\":\"fault 15\"}", "503", closed);
+    case(
+        &rt,
+        alloc,
+        "PUT /v1/keys/k",
+        "{\"kind\":\"text\",\"value\":\"fault 15\"}",
+        "503",
+        closed,
+    );
 }
 
 #[test]
@@ -104,7 +156,14 @@ fn a_write_has_a_key_and_a_method(rt: HostRuntime) {
     let parameters =
         "{\"error\":\"the parameters are owner, prefix and after, or owner and key, or key for a write, each once\"}\n";
     case(&rt, alloc, "PUT /v1/keys", "", "400", parameters);
-    case(&rt, alloc, "PUT /v1/keys?key=k&owner=a", "", "400", parameters);
+    case(
+        &rt,
+        alloc,
+        "PUT /v1/keys?key=k&owner=a",
+        "",
+        "400",
+        parameters,
+    );
     let method = "{\"error\":\"this path is only written\"}\n";
     case(&rt, alloc, "GET /v1/keys/k", "", "405", method);
     case(&rt, alloc, "POST /v1/keys", "", "405", method);

@@ -122,9 +122,7 @@ pub(crate) struct Requests {
 
 /// The ways from the thread that accepts to the workers and to the calling thread, and that of writes over HTTP to the latter.
 /// `NoMemory`.
-pub(crate) fn new_handover(
-    alloc: Global,
-) -> Result<(Handover, Jobs, Requests, WriteSender), Fault>
+pub(crate) fn new_handover(alloc: Global) -> Result<(Handover, Jobs, Requests, WriteSender), Fault>
     ensures { IfErr result (λ fault. fault ≡ Fault.NoMemory) }
 {
     let (to_workers, from_workers) = bounded::<Job, Global>(alloc, HANDED_MOST)?;
@@ -138,12 +136,7 @@ pub(crate) fn new_handover(
         to_owner: accepted,
         handed: 0,
     };
-    Ok((
-        handover,
-        Jobs { from: from_workers },
-        requests,
-        over_http,
-    ))
+    Ok((handover, Jobs { from: from_workers }, requests, over_http))
 }
 
 /// The ways to the calling thread. `NoMemory`.

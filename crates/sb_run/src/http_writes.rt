@@ -81,11 +81,7 @@ pub(crate) struct WriteDesk {
 }
 
 /// Waits for an answer. `Closed` if the node ends before it comes.
-fn await_answer<R: Wait + Clock>(
-    rt: &R,
-    ending: &EndFlag,
-    from: &Receiver<WriteAnswer>,
-) -> Message
+fn await_answer<R: Wait + Clock>(rt: &R, ending: &EndFlag, from: &Receiver<WriteAnswer>) -> Message
     ensures { IsWriteReply result }
 {
     for _ in rt.forever() {

@@ -24,7 +24,7 @@ pub enum Door {
 
 /// What a request asks for.
 #[derive(Debug, Drop)]
-pub enum Asked {
+pub enum Operation {
     /// Whether the node is ready.
     Health,
     /// The metrics of the node.
@@ -41,7 +41,7 @@ pub enum Asked {
 
 /// Why a request asks for nothing that is here.
 #[derive(Clone, Copy, Debug)]
-pub enum Unasked {
+pub enum Refusal {
     /// It came in at a port, and names another host than this machine.
     OtherHost,
     /// There is no such path.
@@ -77,43 +77,43 @@ fn is_writing(method: &str) -> bool
 }
 
 /// What is asked for, if the method reads.
-fn reading(method: &str, asked: Asked) -> Result<Asked, Unasked>
+fn reading(method: &str, asked: Operation) -> Result<Operation, Refusal>
     ensures { result ≡ spec.reading method.now (Ok asked) }
 {
     if is_reading(method) {
         Ok(asked)
     } else {
-        Err(Unasked::NotAllowed)
+        Err(Refusal::NotAllowed)
     }
 }
 
 /// What a method asks of the path of a row, by the part `OWNER/KEY` of it. `NoMemory`.
-fn asked_of_row(alloc: Global, method: &str, place: &[u8]) -> Result<Asked, Unasked>
+fn asked_of_row(alloc: Global, method: &str, place: &[u8]) -> Result<Operation, Refusal>
     ensures { GivesUnless result (spec.reading method.now (spec.row_asked place.now)) }
 {
     if is_reading(method) {
         row_asked(alloc, place)
     } else {
-        Err(Unasked::NotAllowed)
+        Err(Refusal::NotAllowed)
     }
 }
 
 /// Why this method does not write here; none if it does.
-fn write_refusal(door: Door, method: &str) -> Option<Unasked>
+fn write_refusal(door: Door, method: &str) -> Option<Refusal>
     ensures { result ≡ spec.write_refusal door method.now }
 {
     if is_writing(method) {
         match door {
             Door::Socket => None,
-            Door::Port => Some(Unasked::NotByPort),
+            Door::Port => Some(Refusal::NotByPort),
         }
     } else {
-        Some(Unasked::OnlyWritten)
+        Some(Refusal::OnlyWritten)
     }
 }
 
 /// What a method that writes puts under a key. `NoMemory`.
-fn slot_by(alloc: Global, method: &str, body: &[u8]) -> Result<Slot, Unasked>
+fn slot_by(alloc: Global, method: &str, body: &[u8]) -> Result<Slot, Refusal>
     ensures { GivesUnless result (spec.slot_by method.now body.now) }
 {
     if method == "PUT" {
@@ -127,11 +127,11 @@ fn slot_by(alloc: Global, method: &str, body: &[u8]) -> Result<Slot, Unasked>
 }
 
 /// The write of what a method puts under a key. `NoMemory`.
-fn written_as(alloc: Global, method: &str, body: &[u8], key: Key) -> Result<Asked, Unasked>
+fn written_as(alloc: Global, method: &str, body: &[u8], key: Key) -> Result<Operation, Refusal>
     ensures { GivesUnless result (spec.written_as key (spec.slot_by method.now body.now)) }
 {
     match slot_by(alloc, method, body) {
-        Ok(slot) => Ok(Asked::Put(Write { key, slot })),
+        Ok(slot) => Ok(Operation::Put(Write { key, slot })),
         Err(why) => Err(why),
     }
 }
@@ -143,7 +143,7 @@ fn asked_of_key(
     method: &str,
     place: &[u8],
     body: &[u8],
-) -> Result<Asked, Unasked>
+) -> Result<Operation, Refusal>
     ensures { GivesUnless result (spec.writing door method.now body.now (spec.key_at place.now)) }
 {
     if let Some(why) = write_refusal(door, method) {
@@ -162,7 +162,7 @@ fn asked_of_keys(
     method: &str,
     query: &str,
     body: &[u8],
-) -> Result<Asked, Unasked>
+) -> Result<Operation, Refusal>
     ensures { GivesUnless result (spec.writing door method.now body.now (spec.key_asked_by query.now)) }
 {
     if let Some(why) = write_refusal(door, method) {
@@ -188,7 +188,7 @@ fn asked_at_place(
     method: &str,
     path: &str,
     body: &[u8],
-) -> Result<Asked, Unasked>
+) -> Result<Operation, Refusal>
     ensures { GivesUnless result (spec.asked_at_place door method.now path.now body.now) }
 {
     if let Some(place) = after_start(path, "/v1/rows/") {
@@ -196,18 +196,18 @@ fn asked_at_place(
     }
     match after_start(path, "/v1/keys/") {
         Some(place) => asked_of_key(alloc, door, method, place, body),
-        None => Err(Unasked::NotFound),
+        None => Err(Refusal::NotFound),
     }
 }
 
 /// What a method asks of the path of rows. `NoMemory`.
-fn asked_of_rows(alloc: Global, method: &str, query: &str) -> Result<Asked, Unasked>
+fn asked_of_rows(alloc: Global, method: &str, query: &str) -> Result<Operation, Refusal>
     ensures { GivesUnless result (spec.reading method.now (spec.query_asked query.now)) }
 {
     if is_reading(method) {
         query_asked(alloc, query.as_bytes())
     } else {
-        Err(Unasked::NotAllowed)
+        Err(Refusal::NotAllowed)
     }
 }
 
@@ -219,17 +219,17 @@ fn asked_at(
     path: &str,
     query: &str,
     body: &[u8],
-) -> Result<Asked, Unasked>
+) -> Result<Operation, Refusal>
     ensures { GivesUnless result (spec.asked_at door method.now path.now query.now body.now) }
 {
     if path == "/v1/rows" {
         asked_of_rows(alloc, method, query)
     } else if path == "/v1/owners" {
-        reading(method, Asked::Owners)
+        reading(method, Operation::Owners)
     } else if path == "/healthz" {
-        reading(method, Asked::Health)
+        reading(method, Operation::Health)
     } else if path == "/metrics" {
-        reading(method, Asked::Metrics)
+        reading(method, Operation::Metrics)
     } else if path == "/v1/keys" {
         asked_of_keys(alloc, door, method, query, body)
     } else {
@@ -258,7 +258,7 @@ fn query_of(request: &Request<Bytes>) -> &str
 /// - `BadBody`, and `Bad` with `BadValue`, for the body of a `PUT`.
 ///
 /// `NoMemory` may come instead.
-pub fn asked_by(alloc: Global, door: Door, request: &Request<Bytes>) -> Result<Asked, Unasked>
+pub fn asked_by(alloc: Global, door: Door, request: &Request<Bytes>) -> Result<Operation, Refusal>
     ensures { GivesUnless result (spec.asked_by door request.now) }
 {
     let is_open = match door {
@@ -275,6 +275,6 @@ pub fn asked_by(alloc: Global, door: Door, request: &Request<Bytes>) -> Result<A
             request.body().as_slice(),
         )
     } else {
-        Err(Unasked::OtherHost)
+        Err(Refusal::OtherHost)
     }
 }
