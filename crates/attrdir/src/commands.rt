@@ -149,8 +149,8 @@ pub(crate) const WAIT: Part = Part {
     help: "For how many milliseconds it asks again until the node is ready",
 };
 
-/// It waits for a change after that. With `--count` it does not, and asks each so many milliseconds. It does that too if the
-/// node tells it nothing: if 64 others wait there, or if the node is of an older release.
+/// It waits for a change after that. With `--count` it does not, and asks each so many milliseconds. It also does that if
+/// the node reports no changes: if 64 others wait there, or if the node is of an older release.
 /// Greater: Changes are printed later, and more of them at once.
 /// Smaller: If much changes, it asks more often.
 pub(crate) const EVERY: Part = Part {

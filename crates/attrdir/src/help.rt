@@ -402,7 +402,7 @@ Example:
   b 1";
 
 pub(crate) const WATCH: &str =
-    "It asks for all rows as `attrdir get` does, waits until the node tells of a change, and asks again. Each time it prints what changed since the
+    "It asks for all rows as `attrdir get` does, waits until the node reports a change, and asks again. Each time it prints what changed since the
 asking before. The first time it prints each row. Lines are in ascending owner and then key:
   set OWNER KEY VERSION KIND VALUE   the row is new, or has another version or value
   gone OWNER KEY                     the row is gone
@@ -410,8 +410,8 @@ A script that enters each `set` line and takes out each `gone` line has the rows
 its last state is printed. All lines of one asking are written at once; if nothing changed there are none. With --mark a line `asked` follows each
 asking, also if nothing changed.
 
-It has the node note the next change before it asks, so it misses none. With --count it does not wait for changes, and asks each --every. It does
-that too if the node tells it nothing: if 64 others wait for changes there, or if the node is of an older release.
+It has the node note the next change before it asks, so it misses none. With --count it does not wait for changes, and asks each --every. It also
+does that if the node reports none: if 64 others wait for changes there, or if the node is of an older release.
 
 A fault ends the command, at the first asking or later: those of `attrdir get`. It prints nothing of the asking that had the fault. If standard
 output is closed, the command ends before it asks again.

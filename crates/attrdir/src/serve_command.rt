@@ -231,7 +231,7 @@ const NO_WAIT: Part = Part {
     help: "Takes writes at once, before the node has heard its peers",
 };
 
-/// Each beat is an own write: the flag true. With it the version of a node that lives rises, so that [ages](#ages) tell who
+/// Each beat is an own write: the flag true. With it the version of a node that lives rises, so that [ages](#ages) show who
 /// lives. The first is made at once. With a closed log, or while another node writes under its name, there is none.
 /// Greater: A node that has ended shows later.
 /// Smaller: It shows sooner. Each beat goes to all nodes.

@@ -113,12 +113,13 @@ impl<'r, 'a> ChangeSource<'r, 'a> {
         }
     }
 
-    /// Waits as long as if the node reported no changes, or until it says something.
+    /// Waits for what is left of the pause that it would make if the node reported no changes, or until the node says something.
     fn wait_shortly(&mut self, told: &Told) -> Result<(), Fault> {
         if !self.pauses.listen_to(&told.stream) {
             return Ok(());
         }
-        match self.pauses.listen(self.rt, self.pace.untold) {
+        let rest = self.pace.untold.saturating_sub(self.pace.every);
+        match self.pauses.listen(self.rt, rest) {
             Wake::OutputClosed => Err(Fault::WriteFailed(0)),
             Wake::Told | Wake::Silent => Ok(()),
         }

@@ -2,7 +2,6 @@
 ghost use Rattle.std.specs.Prelude.{◌≡◌, IfErr};
 
 use crossbeam_utils::sync::{Parker, Unparker};
-use sb_handlers::{Gate, GatePoint};
 use sb_types::{Delta, Fault};
 use std::alloc::Global;
 use std::sync::atomic::{AtomicBool, Ordering};

@@ -108,8 +108,14 @@
 //!   first rounds are not made at once. The tests of `sb_run` and `tools/check-node` refuse it.
 //! - A caller that waits for a change never hears of one, hears of one that did not come, or hears too late. Or a watch for
 //!   it stays after it left. The tests of `sb_run` and `tools/check-node` refuse it.
-//! - An owner has a wrong age, or a beat is missing or comes too often. No proof is about ages. The tests of `sb_run` and
+//! - An owner has a wrong age or none: no clause is about when an owner was heard. The tests of `sb_run` and
 //!   `tools/check-node` refuse it.
+//! - A beat is missing, comes too often, or is another write than its key and true. The tests of `sb_run` and
+//!   `tools/check-node` refuse it.
+//! - The calling thread takes a request and does not answer it, or makes beats alone. The tests of `sb_run` and
+//!   `tools/check-node` refuse it.
+//! - The gate of a dialed session, or that of the node, tells nobody what was entered, heard or missed. The tests of
+//!   `sb_run` and `tools/check-node` refuse it.
 //! - A peer that dials counts as one that is not known, although its Hello has its name. `tools/check-node` refuses it.
 //! - A node answers nobody over HTTP, or each question by the number of `Closed`. `tools/check-node` refuses it.
 //! - Over HTTP the owners or the metrics are a fault each time, or the metrics are others. `tools/check-node` refuses it.

@@ -1,4 +1,4 @@
-ghost use Rattle.std.specs.Prelude.{◌≡◌, true, Err, OnErr, IfErr};
+ghost use Rattle.std.specs.Prelude.{◌≡◌, true, Err, OnErr, IfErr, IfSome};
 ghost use Rattle.sb_session.specs.declared.session.Phase.TheVariants as phases;
 ghost use Rattle.sb_session.specs.Sessions.{new_session, hello_of, in_phase, greeting_refusal};
 ghost use Rattle.sb_session.specs.Taking.{is_session_fault, Takes, Asks, Greets, AnswersDigest};
@@ -148,7 +148,8 @@ impl Session {
 
     /// Why the first Hello is refused, if it is.
     fn greeting_fault(&self, hello: &Hello) -> Option<Fault>
-        ensures { result ≡ greeting_refusal self.now hello.now }
+        ensures answer { result ≡ greeting_refusal self.now hello.now }
+        ensures fault { IfSome result (λ fault. is_session_fault fault ≡ true) }
     {
         if hello.cluster != self.cluster {
             return Some(Fault::WrongCluster);
@@ -161,7 +162,8 @@ impl Session {
 
     /// Why a message is refused where nothing but a Hello may come.
     fn first_fault(&self, message: &Message) -> Option<Fault>
-        ensures { result ≡ first_refusal self.now message.now }
+        ensures answer { result ≡ first_refusal self.now message.now }
+        ensures fault { IfSome result (λ fault. is_session_fault fault ≡ true) }
     {
         match (self.phase, message) {
             (Phase::Closed, _) => Some(Fault::Closed),
