@@ -1,5 +1,5 @@
 -- What a seat answers over HTTP.
-use Rattle.std.specs.Prelude.{◌≡◌, ℕ, List, length, map}
+use Rattle.std.specs.Prelude.{◌≡◌, ℕ, Bool, true, false, List, length, map}
 use Rattle.std.specs.FinMap.{entries}
 use Rattle.sb_types.specs.Records.{Settings}
 use Rattle.sb_holdings.specs.Nodes.{Node}
@@ -24,22 +24,13 @@ abbrev pub IsListed : NodeView → List HeldOwner → Type 0
 IsListed view owners = owners ≡ map held_owner (entries view)
 
 -- the message names the version of a write, or a fault
+abbrev pub is_write_reply : Message → Bool
+is_write_reply (kinds.Done version) = true
+is_write_reply (kinds.Refused number) = true
+is_write_reply other = false
+
 abbrev pub IsWriteReply : Message → Type 0
-IsWriteReply (kinds.Done version) = Unit {0}
-IsWriteReply (kinds.Refused number) = Unit {0}
-IsWriteReply (kinds.Ask x) = ⊥
-IsWriteReply (kinds.AskStatus x) = ⊥
-IsWriteReply (kinds.Hello x) = ⊥
-IsWriteReply (kinds.Digest x) = ⊥
-IsWriteReply (kinds.Delta x) = ⊥
-IsWriteReply (kinds.Bye x) = ⊥
-IsWriteReply (kinds.Put x) = ⊥
-IsWriteReply (kinds.Rows x) = ⊥
-IsWriteReply (kinds.NodeStatus x) = ⊥
-IsWriteReply (kinds.AskChange x) = ⊥
-IsWriteReply (kinds.Notice x) = ⊥
-IsWriteReply kinds.AskAges = ⊥
-IsWriteReply (kinds.Ages x) = ⊥
+IsWriteReply message = is_write_reply message ≡ true
 
 -- a question for rows is answered by a page, and one how the node is by its status; a write by what the calling thread answers,
 -- and the seat stays as it was; any other message is none
