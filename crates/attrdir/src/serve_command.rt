@@ -388,7 +388,6 @@ fn pace_of(given: &ArgMatches<'_>) -> Pace {
         } else {
             HEARING_MOST
         },
-        beat: None,
     }
 }
 

@@ -37,7 +37,6 @@ pub(crate) struct ServeArguments<'a> {
     pub(crate) peers: Vec<&'a str>,
     /// The names of the owners that the node forgets.
     pub(crate) forgotten: Vec<&'a str>,
-    /// Without a beat.
     pub(crate) pace: Pace,
     /// After how many seconds the node beats again; 0 for never.
     pub(crate) beat: u64,
@@ -313,8 +312,6 @@ fn run<'a, L: WriteLog + Drop, R: Runtime + Net<Listener = TcpListener, Stream =
     log: L,
 ) -> Result<(), Failure<'a>> {
     let mut log = log;
-    let mut pace = given.pace;
-    pace.beat = checked.beat;
     let paths = Paths {
         sock: given.sock,
         control: given.control,
@@ -326,7 +323,8 @@ fn run<'a, L: WriteLog + Drop, R: Runtime + Net<Listener = TcpListener, Stream =
     let config = NodeConfig {
         settings: checked.settings,
         paths,
-        pace,
+        pace: given.pace,
+        beat: checked.beat,
         forgotten: checked.forgotten.as_slice(),
     };
     let ran = match left {

@@ -38,7 +38,7 @@ impl BeatTurns {
 impl<S: RoundsTag, H: Wait + Drop, Q: Wait + Clock> NodeContext<'_, S, H, Q> {
     /// Makes a beat: an own write as any other. If the log or the directory refuses it, there is no beat this time. With a closed
     /// log none is due any more.
-    pub(crate) fn beat<L: WriteLog>(
+    pub(crate) fn make_beat<L: WriteLog>(
         &self,
         beats: &mut BeatTurns,
         writes: &mut OwnWrites<L>,

@@ -246,7 +246,7 @@ impl<S: RoundsTag, H: Wait + Drop, Q: Wait + Clock> NodeContext<'_, S, H, Q> {
             Work::Request(request) => self.answer_one(dialing, writes, request, seat),
             Work::Beat => {
                 let mut seat = seat;
-                self.beat(beats, writes, &mut seat);
+                self.make_beat(beats, writes, &mut seat);
                 (seat, false)
             }
         }
@@ -276,7 +276,7 @@ impl<S: RoundsTag, H: Wait + Drop, Q: Wait + Clock> NodeContext<'_, S, H, Q> {
             };
         }
         let mut turns = PurgeTurns::new(self.pace.purge_removals);
-        let mut beats = BeatTurns::new(self.rt, self.pace.beat);
+        let mut beats = BeatTurns::new(self.rt, self.beat);
         for _ in self.rt.forever() {
             let Some(work) = requests.next(self.rt, self.ending, self.hearing, beats.next()) else {
                 // A thread that dials ends the node too if it finds the log lost.

@@ -20,6 +20,7 @@
 //!         settings,
 //!         paths: *paths,
 //!         pace,
+//!         beat: None,
 //!         forgotten: &[],
 //!     };
 //!     run_node(rt, alloc, config, log, &Nobody)

@@ -87,8 +87,6 @@ pub struct Pace {
     pub audit: u64,
     /// For how many milliseconds after its start its first own write waits, at most, until each peer was heard; 0 for none.
     pub hearing: u64,
-    /// How it shows that it lives, while nobody else writes; none if it does not.
-    pub beat: Option<Beat>,
 }
 
 /// A write that a node makes of itself again and again, so that its peers hear of it: true, under a key of its own.
@@ -99,12 +97,14 @@ pub struct Beat {
     pub key: Key,
 }
 
-/// What a node is to do: its settings, its sockets and its pace, and which owners it forgets.
+/// What a node is to do: its settings, its sockets, its pace and its beat, and which owners it forgets.
 #[derive(Clone, Copy, Debug)]
 pub struct NodeConfig<'a> {
     pub settings: Settings,
     pub paths: Paths<'a>,
     pub pace: Pace,
+    /// How it shows that it lives, while nobody else writes; none if it does not.
+    pub beat: Option<Beat>,
     /// The owners whose rows it does not take from its peers, as if it had no room for them. Its own name does not count.
     pub forgotten: &'a [Name],
 }
@@ -228,6 +228,7 @@ pub fn run_node<
         settings,
         paths,
         pace,
+        beat,
         forgotten,
     } = config;
     if let Some(fault) = start_refusal(&settings, paths.http, &log) {
@@ -237,6 +238,7 @@ pub fn run_node<
         settings,
         paths,
         pace,
+        beat,
         forgotten,
     };
     let mut log = log;
@@ -275,12 +277,14 @@ pub fn run_closed_node<
         settings,
         paths,
         pace,
+        beat,
         forgotten,
     } = config;
     let config = NodeConfig {
         settings,
         paths,
         pace,
+        beat,
         forgotten,
     };
     if log.cause().is_none() {
@@ -313,6 +317,7 @@ fn run_with_table<
         settings,
         paths,
         pace,
+        beat,
         forgotten,
     } = config;
     if let Some(fault) = start_refusal(&settings, paths.http, &log) {
@@ -322,6 +327,7 @@ fn run_with_table<
         settings,
         paths,
         pace,
+        beat,
         forgotten,
     };
     run_opened(
@@ -358,6 +364,7 @@ fn run_opened<
         settings,
         paths,
         pace,
+        beat,
         forgotten,
     } = config;
     let forgotten = ForgottenOwners::new(alloc, forgotten, writes.owner())?;
@@ -370,6 +377,7 @@ fn run_opened<
     let start = NodeStart {
         directory,
         forgotten,
+        beat,
         writes,
     };
     run_tagged::<Brand, L, R, O>(rt, alloc, start, &paths, pace, observer)
@@ -398,6 +406,8 @@ pub(crate) struct NodeStart<L: WriteLog> {
     pub(crate) directory: DirectoryStart,
     /// The owners that it forgets.
     pub(crate) forgotten: ForgottenOwners,
+    /// How it shows that it lives, if it does.
+    pub(crate) beat: Option<Beat>,
     /// Its log, and the write in it that is still to be handed to the directory.
     pub(crate) writes: OwnWrites<ClosableLog<L>>,
 }
@@ -507,6 +517,7 @@ pub(crate) fn run_tagged<
         watchers: &watchers,
         heard: &heard,
         pace,
+        beat: start.beat,
     };
     let finished = dialing.run_threads(&node, start.writes, thread_seats, links);
     sockets.remove(rt);

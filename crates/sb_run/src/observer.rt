@@ -40,6 +40,7 @@ use std::fmt;
 ///         settings,
 ///         paths: *paths,
 ///         pace,
+///         beat: None,
 ///         forgotten: &[],
 ///     };
 ///     match run_node(rt, alloc, config, log, &observer) {

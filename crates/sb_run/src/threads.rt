@@ -14,7 +14,7 @@ use crate::first_hearing::FirstHearing;
 use crate::heard::HeardTimes;
 use crate::http_writes::WriteDesk;
 use crate::log_watch::LogWatch;
-use crate::node::{OnLogFault, Pace, Runtime};
+use crate::node::{Beat, OnLogFault, Pace, Runtime};
 use crate::observer::Observer;
 use crate::own_writes::{ClosableLog, OwnWrites};
 use crate::pool::{Pooled, Serving};
@@ -62,9 +62,7 @@ impl<'a, S: RoundsTag> Links<'a, S> {
         requests: Requests,
         turns: Turns<'a>,
         rounds: (RoundsSender<S>, RoundsReceiver<S>),
-    ) -> Links<'a, S>
-        ensures { result.turns ≡ turns }
-    {
+    ) -> Links<'a, S> {
         let (rounds_sender, rounds_receiver) = rounds;
         Links {
             acceptor,
@@ -547,6 +545,8 @@ pub(crate) struct NodeContext<'a, S: RoundsTag, H: Wait + Drop, Q> {
     pub(crate) watchers: &'a WatcherCount,
     pub(crate) heard: &'a HeardTimes,
     pub(crate) pace: Pace,
+    /// How the node shows that it lives, if it does.
+    pub(crate) beat: Option<Beat>,
     ghost paced: { pace.rounds ≡ S.rounds },
 }
 

@@ -97,6 +97,7 @@ fn run_auditing<R: Runtime + Abort + Net<Listener = TcpListener, Stream = TcpStr
             audit,
             ..pace(1, 0)
         },
+        beat: None,
         forgotten: &[],
     };
     run_node(rt, alloc, config, log_of(rt, alloc, weights), auditor)

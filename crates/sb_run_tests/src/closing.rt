@@ -126,6 +126,7 @@ fn run_full_disk<R: Host + Net<Listener = TcpListener, Stream = TcpStream>>(
         settings: settings(rt, 3),
         paths: *paths,
         pace,
+        beat: None,
         forgotten: &[],
     };
     run_closed_node(rt, alloc, config, log, table, witness)
@@ -143,6 +144,7 @@ fn run_two<R: Host + Net<Listener = TcpListener, Stream = TcpStream>>(
         settings: settings(rt, 3),
         paths: *paths,
         pace,
+        beat: None,
         forgotten: &[],
     };
     run_node(rt, alloc, config, log_of_two(rt, alloc), witness)
@@ -242,6 +244,7 @@ fn an_open_log_is_no_closed_one(rt: HostRuntime) {
         settings: settings(&rt, 3),
         paths,
         pace: pace(1, 0),
+        beat: None,
         forgotten: &[],
     };
     let log = new_log(&rt, alloc, b"a");

@@ -33,6 +33,7 @@ fn run_in_memory<R: Runtime + Net<Listener = TcpListener, Stream = TcpStream>>(
         settings,
         paths: *paths,
         pace,
+        beat: None,
         forgotten: &[],
     };
     run_node(rt, alloc, config, log, &Nobody)
@@ -85,6 +86,7 @@ fn run_and_note<R: Runtime + Net<Listener = TcpListener, Stream = TcpStream>, L:
         settings,
         paths: *paths,
         pace,
+        beat: None,
         forgotten: &[],
     };
     match run_node(rt, alloc, config, log, &observer) {

@@ -74,6 +74,7 @@ fn run_forgetting<R: Runtime + Abort + Net<Listener = TcpListener, Stream = TcpS
         settings: settings(rt, 3),
         paths: *paths,
         pace: pace(3, 0),
+        beat: None,
         forgotten: &forgotten,
     };
     run_node(rt, alloc, config, new_log(rt, alloc, b"a"), noter)

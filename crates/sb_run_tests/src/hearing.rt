@@ -142,6 +142,7 @@ fn run_wide<R: Host + Net<Listener = TcpListener, Stream = TcpStream>>(
         settings: settings_with(rt, BUDGET_LEAST, 5, 1),
         paths: *paths,
         pace,
+        beat: None,
         forgotten: &[],
     };
     run_node(rt, alloc, config, new_log(rt, alloc, b"a"), &Nobody)

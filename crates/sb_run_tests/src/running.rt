@@ -51,7 +51,6 @@ pub(crate) fn pace(rounds: u64, idle: u64) -> Pace {
         purge_removals: 0,
         audit: 0,
         hearing: 0,
-        beat: None,
     }
 }
 
@@ -108,6 +107,7 @@ pub(crate) fn run_observed<
         settings: settings(rt, 3),
         paths: *paths,
         pace,
+        beat: None,
         forgotten: &[],
     };
     run_node(rt, alloc, config, log, observer)
@@ -126,6 +126,7 @@ pub(crate) fn run_log<R: Host + Net<Listener = TcpListener, Stream = TcpStream>>
         settings,
         paths: *paths,
         pace,
+        beat: None,
         forgotten: &[],
     };
     run_node(rt, alloc, config, log, &Nobody)

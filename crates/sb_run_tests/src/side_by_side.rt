@@ -29,6 +29,7 @@ fn run_side_by_side<R: Host + Net<Listener = TcpListener, Stream = TcpStream>, O
         settings: settings_with(rt, BUDGET_LEAST, 6, 1),
         paths: *paths,
         pace,
+        beat: None,
         forgotten: &[],
     };
     run_node(rt, alloc, config, new_log(rt, alloc, b"a"), observer)

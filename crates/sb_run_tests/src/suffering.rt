@@ -92,6 +92,7 @@ fn run_once<R: Host + Net<Listener = TcpListener, Stream = TcpStream>>(
         settings: settings(rt, 3),
         paths: *paths,
         pace: pace(1, 0),
+        beat: None,
         forgotten: &[],
     };
     run_node(rt, alloc, config, log, nurse)

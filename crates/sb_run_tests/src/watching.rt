@@ -1,20 +1,20 @@
 //! Callers that wait for a change at a running node, ages of owners, and beats.
 ghost use Rattle.std.specs.Prelude.{◌≡◌, ◌<◌};
 
-use crate::making::{key, name};
+use crate::making::{key, name, new_log, settings};
 use crate::peers::{next_of, node_with, put_is_done, reach, talk};
-use crate::running::{pace, paths_of, run_a};
+use crate::running::{Host, pace, paths_of, run_a};
 use crate::{got, holds, same};
 use sb_codec::{Ages, Message};
 use sb_control::ask_control;
 use sb_frames::{Connection, Steps};
 use sb_query::ages_in;
-use sb_run::{Beat, Pace, Paths};
+use sb_run::{Beat, Nobody, NodeConfig, Paths, Ran, run_node};
 use sb_types::Fault;
 use std::alloc::Global;
 use std::io::{Read, Write};
 use std::marker::Brand;
-use std::net::Net;
+use std::net::{Net, TcpListener, TcpStream};
 use std::os::unix::net::{UnixListener, UnixStream};
 use std::process::Abort;
 use std::sync::ledger::{Blank, Ledger};
@@ -132,19 +132,34 @@ fn serve_after_a_beat<R: Net + Abort>(
     found
 }
 
+/// Runs the node a, which beats each millisecond.
+fn run_beating<R: Host + Net<Listener = TcpListener, Stream = TcpStream>>(
+    rt: &R,
+    alloc: Global,
+    paths: &Paths,
+) -> Result<Ran, Fault> {
+    let beat = Beat {
+        pause: 1,
+        key: key(rt, b"beat"),
+    };
+    let config = NodeConfig {
+        settings: settings(rt, 3),
+        paths: *paths,
+        pace: pace(1, 0),
+        beat: Some(beat),
+        forgotten: &[],
+    };
+    run_node(rt, alloc, config, new_log(rt, alloc, b"a"), &Nobody)
+}
+
 #[test]
 fn a_node_beats(rt: HostRuntime) {
     let paths = paths_of("beat.sock", "beat.control", &["beat.b"]);
     let alloc = rt.alloc();
     let listener = got(&rt, UnixListener::bind(&rt, "beat.b"));
-    let mut beating: Pace = pace(1, 0);
-    beating.beat = Some(Beat {
-        pause: 1,
-        key: key(&rt, b"beat"),
-    });
     let (ran, found) = thread::join(
         &rt,
-        || run_a(&rt, alloc, &paths, beating),
+        || run_beating(&rt, alloc, &paths),
         || serve_after_a_beat(&rt, alloc, &listener, &paths),
     );
     got(&rt, fs::remove_file(&rt, "beat.b"));

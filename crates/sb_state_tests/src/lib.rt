@@ -6,6 +6,7 @@ ghost use Rattle.std.specs.Prelude.{◌≤◌};
 
 #[cfg(test)]
 mod ages;
+#[cfg(test)]
 mod codec;
 #[cfg(test)]
 mod digest;
