@@ -4,6 +4,7 @@ use Rattle.std.specs.Str.{bytes_eq}
 use Rattle.http.specs.declared.request.Request.{Request}
 use Rattle.http.specs.Request.{head_of, body_of}
 use Rattle.http_uri.specs.Uri.{uri_path}
+use Rattle.percent_encoding.specs.Percent.{percent_decode}
 use Rattle.sb_types.specs.declared.entry.Slot.{Slot}
 use Rattle.sb_http.specs.declared.operation.Operation.{Operation}
 use Rattle.sb_http.specs.declared.operation.Operation.TheVariants.{Health, Metrics, Owners, Rows, Row, Put}
@@ -51,7 +52,7 @@ query_reads : (query : List ℕ) → OnlyAsks (query_asked query)
 query_reads query = then_asks (with_query no_parameters query) asked_with (λ q. by_key_reads q q.key)
 
 row_reads : (place : List ℕ) → OnlyAsks (row_asked place)
-row_reads place = then_asks _ _ (λ found. tt)
+row_reads place = then_asks {X = List ℕ × List ℕ} (place_in (percent_decode place)) (λ found. Ok (Row found.0 found.1)) (λ found. tt)
 
 refused_asks : (why : Option Refusal) (asked : Result Operation Refusal) → is_some why ≡ true → OnlyAsks (unless_refused why asked)
 refused_asks (Some why) asked is = tt
@@ -62,8 +63,8 @@ for_key_asks door method body None is = tt
 for_key_asks door method body (Some place) is = refused_asks (write_refusal door method) _ is
 
 for_row_asks : (method : List ℕ) (place : Option (List ℕ)) (others : Result Operation Refusal) → OnlyAsks others → OnlyAsks (asked_for_row method place others)
-for_row_asks method None others asks = asks
-for_row_asks method (Some place) others asks = chosen (is_reading method) _ _ (row_reads place) tt
+for_row_asks method None others only = only
+for_row_asks method (Some place) others only = chosen (is_reading method) _ _ (row_reads place) tt
 
 at_asks : (door : Door) (method path query body : List ℕ) → is_some (write_refusal door method) ≡ true → OnlyAsks (asked_at door method path query body)
 at_asks door method path query body is =
@@ -72,10 +73,11 @@ at_asks door method path query body is =
     (chosen (bytes_eq path (codes "/healthz")) _ _ (chosen (is_reading method) _ _ tt tt)
     (chosen (bytes_eq path (codes "/metrics")) _ _ (chosen (is_reading method) _ _ tt tt)
     (chosen (bytes_eq path (codes "/v1/keys")) _ _ (refused_asks (write_refusal door method) _ is)
-    (for_row_asks method _ _ (for_key_asks door method body _ is))))))
+    (for_row_asks method (after_start (codes "/v1/rows/") path) (asked_for_key door method body (after_start (codes "/v1/keys/") path))
+    (for_key_asks door method body (after_start (codes "/v1/keys/") path) is))))))
 
 by_asks : (door : Door) (request : Request (List ℕ)) → is_some (write_refusal door (head_of request).method) ≡ true → OnlyAsks (asked_by door request)
-by_asks door request is = chosen (is_open door request) _ _ (at_asks door (head_of request).method _ (query_of request) (body_of request) is) tt
+by_asks door request is = chosen (is_open door request) _ _ (at_asks door (head_of request).method (uri_path (head_of request).uri) (query_of request) (body_of request) is) tt
 
 port_refused : (b : Bool) → is_some (if b then Some NotByPort else Some OnlyWritten) ≡ true
 port_refused true = refl

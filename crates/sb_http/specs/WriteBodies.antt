@@ -52,5 +52,9 @@ abbrev pub value_of_json : Option Data → Result Value Refusal
 value_of_json None = Err BadBody
 value_of_json (Some json) = if has_two_members json then value_of_members (get (codes "kind") json) (get (codes "value") json) else Err BadBody
 
+-- the JSON that a body is
+abbrev pub json_in : List ℕ → Option Data
+json_in body = if is_utf8 body then read body else None
+
 abbrev pub value_in : List ℕ → Result Value Refusal
-value_in body = value_of_json (if is_utf8 body then read body else None)
+value_in body = value_of_json (json_in body)

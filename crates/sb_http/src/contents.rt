@@ -1,5 +1,6 @@
 //! The status and the body of a response, from what a backend answers.
 ghost use Rattle.std.specs.Prelude.{◌≡◌, if◌then◌else◌, Ok, IfOk};
+ghost use Rattle.sb_query.specs.Answers.{TellsVersion};
 ghost use Rattle.sb_query.specs.Statuses.{is_ready};
 ghost use Rattle.sb_http.specs.Acts.{Act};
 ghost use Rattle.sb_http.specs.Answers.{IsCallFor, Says, IsFault, IsNone, IsPage, IsRow, IsHealth, IsWritten, put_status};
@@ -182,11 +183,18 @@ fn answer_health<B: Backend>(alloc: Global, backend: &mut B) -> Result<Content, 
     health_content(alloc, &status)
 }
 
+/// The version of a write, from the answer to it.
+fn version_of(reply: Message) -> Result<u64, NoAnswer>
+    ensures { TellsVersion reply result }
+{
+    version_in(&reply)
+}
+
 /// Asks for a write to be made. `NoMemory`, after it was asked for.
 fn answer_put<B: Backend>(alloc: Global, backend: &mut B, write: Write) -> Result<Content, Fault>
     ensures { (act : Act) × B.step backend.old act backend.new × IsCallFor (Operation.Put write) act × IfOk result (λ content. Says (Operation.Put write) act (content.status, content.body.items)) }
 {
-    let version = version_in(&backend.ask(&Message::Put(write)));
+    let version = version_of(backend.ask(&Message::Put(write)));
     put_content(alloc, version)
 }
 

@@ -1,7 +1,6 @@
 //! The value in the body of a PUT.
 ghost use Rattle.std.specs.Prelude.{◌≡◌, ◌≢◌, Some, None, IfOk, IfErr, option_map, option_and_then};
 ghost use Rattle.serde_json.specs.Find.{as_str};
-ghost use Rattle.serde_json.specs.Read.{read};
 ghost use Rattle.serde_json.specs.View.{view};
 ghost use Rattle.sb_types.specs.Kinds.{shown};
 ghost use Rattle.sb_http.specs.Asking.{GivesUnless};
@@ -75,7 +74,6 @@ fn kind_in(json: &JsonValue) -> Option<Kind>
 }
 
 /// The kind of a word.
-#[tactic(auto, using(crate::proofs::WriteBodies::found))]
 fn kind_of_word(word: &[u8]) -> Option<Kind>
     ensures { result ≡ spec.kind_of_word word.now }
 {
@@ -133,12 +131,13 @@ fn value_of_json(alloc: Global, json: &JsonValue) -> Result<Value, Refusal>
     value_of_kind(alloc, kind_in(kind), value)
 }
 
-/// Reads JSON. `NoMemory`.
-fn json_in(alloc: Global, text: &str) -> Result<JsonValue, Refusal>
-    ensures ok { IfOk result (λ json. read text.now ≡ Some (view json)) }
-    ensures err { IfErr result (λ why. why ≢ Refusal.NoMemory → (why ≡ Refusal.BadBody) × (read text.now ≡ None)) }
+/// The JSON that a body is. `NoMemory`.
+#[tactic(auto, using(crate::proofs::WriteBodies::read_so, crate::proofs::WriteBodies::not_read))]
+fn json_in(alloc: Global, body: &[u8]) -> Result<JsonValue, Refusal>
+    ensures ok { IfOk result (λ json. spec.json_in body.now ≡ Some (view json)) }
+    ensures err { IfErr result (λ why. why ≢ Refusal.NoMemory → (why ≡ Refusal.BadBody) × (spec.json_in body.now ≡ None)) }
 {
-    match JsonValue::from_str(alloc, text) {
+    match JsonValue::from_slice(alloc, body) {
         Ok(json) => Ok(json),
         Err(error) if error.is_memory() => Err(Refusal::NoMemory),
         Err(_) => Err(Refusal::BadBody),
@@ -149,10 +148,7 @@ fn json_in(alloc: Global, text: &str) -> Result<JsonValue, Refusal>
 pub(crate) fn value_in(alloc: Global, body: &[u8]) -> Result<Value, Refusal>
     ensures { GivesUnless result (spec.value_in body.now) }
 {
-    let Ok(text) = str::from_utf8(body) else {
-        return Err(Refusal::BadBody);
-    };
-    match json_in(alloc, text) {
+    match json_in(alloc, body) {
         Ok(json) => value_of_json(alloc, &json),
         Err(why) => Err(why),
     }
