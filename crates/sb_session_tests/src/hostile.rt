@@ -238,7 +238,7 @@ fn wanted(place: usize, value: u8) -> Option<Answer> {
         (5, 0) => Some(Answer::Faulty(Fault::BadLength)),
         (5, 1..=0x31) => Some(Answer::Faulty(Fault::Malformed(3))),
         (5, _) => Some(Answer::Waiting),
-        (6, 1 | 2 | 4 | 0x10..=0x16) => Some(Answer::Faulty(Fault::Malformed(value))),
+        (6, 1 | 2 | 4 | 0x10..=0x1a) => Some(Answer::Faulty(Fault::Malformed(value))),
         (6, _) => Some(Answer::Faulty(Fault::UnknownKind(value))),
         _ => None,
     }
@@ -365,7 +365,7 @@ fn push_bytes(rt: &impl Abort, random: &mut Pcg32, stream: &mut Vec<u8>) {
 /// Puts up to three frames at the end of a stream, and changes up to three bytes.
 fn push_frames(rt: &impl Abort, random: &mut Pcg32, stream: &mut Vec<u8>) {
     for _ in 0..=below(random, 3) {
-        add(rt, stream, FRAMES[below(random, 11)]);
+        add(rt, stream, FRAMES[below(random, 15)]);
     }
     for _ in 0..below(random, 4) {
         change(random, stream);
