@@ -32,14 +32,15 @@ mod contents;
 mod host;
 mod laws;
 mod operation;
+mod page;
 mod parts;
 mod rows_query;
 mod service;
 mod serving;
 mod write_body;
 
-pub use backend::{Backend, HeldOwner};
+pub use backend::{Backend, HeldOwner, MarkedReply};
 pub use laws::{other_methods_only_read, ports_only_read, ports_take_local_hosts};
-pub use operation::{Door, Operation, Refusal, asked_by};
+pub use operation::{Door, Operation, Patience, Refusal, asked_by};
 pub use service::HttpService;
 pub use serving::serve_connection;
