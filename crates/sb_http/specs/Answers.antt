@@ -23,6 +23,7 @@ use Rattle.sb_http.specs.declared.operation.Door.{Door}
 use Rattle.sb_http.specs.declared.operation.Refusal.{Refusal}
 use Rattle.sb_http.specs.declared.operation.Refusal.TheVariants.{OtherHost, NotFound, NotAllowed, OnlyWritten, NotByPort, Bad, BadParameters, BadBody, NoMemory}
 use Rattle.sb_http.specs.declared.contents.Content as rust
+use Rattle.sb_http.specs.declared.page.TheConstants.{PAGE, POLICY}
 use Rattle.sb_http.specs.Acts.{Act, asks, polls, lists, measures, fails}
 use Rattle.sb_http.specs.Requests.{asked_by}
 use Rattle.sb_http.specs.Texts.{line_of, page_data, marked_page_data, owners_data, health_data, version_data, error_data, fault_data}
@@ -164,10 +165,9 @@ Refuses BadBody response =
     Has (fields_for json_kind) (is_error 400 (codes "the body is JSON of this form: {\"kind\":\"weight\",\"value\":5}")) response
 Refuses NoMemory response = ⊥
 
--- the response has a page for browsers, with a policy that lets it run its own script and ask its own node, and no more
+-- the response has the page for browsers, with its policy
 abbrev pub HasPage : Response → Type 0
-HasPage response =
-    (policy page : List ℕ) × Has (fields_for (codes "text/html; charset=utf-8") ++ (codes "content-security-policy", policy) ∷ []) (200, page) response
+HasPage response = Has (fields_for (codes "text/html; charset=utf-8") ++ (codes "content-security-policy", POLICY.now) ∷ []) (200, PAGE.now) response
 
 -- the page is there without the backend, and all else comes of one call of it
 abbrev pub AnswersOne : {B : Type 0} → (B → Act → B → Type 0) → Operation → B → Response → B → Type 0
