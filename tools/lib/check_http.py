@@ -1,4 +1,6 @@
 """The parts of tools/check-node that ask nodes over HTTP: by curl at a Unix socket and at a port, and by bytes that are made by hand."""
+import base64
+import hashlib
 import json
 import os
 import re
@@ -16,7 +18,7 @@ from nodes import ROOT, SECONDS, Difference, connect, run, want
 FIELDS = [("connection", "close"), ("cache-control", "no-store"), ("x-content-type-options", "nosniff"), ("content-type", "application/json")]
 
 
-PARAMETERS = "the parameters are owner, prefix and after, or owner and key, or key for a write, each once"
+PARAMETERS = "the parameters are owner, prefix, after, wait and seen, or owner and key, or key for a write, each once"
 
 
 def free_port():
@@ -277,6 +279,84 @@ def http_metrics(check):
     want("metrics without a file", b'attrdir_rounds_total{node="c"}' in at_alone.curl("/metrics")[2], True)
 
 
+def http_polls(check):
+    """A poll waits for rows that are asked for, answers soon after one came, changed or went, and not for others; four wait at once, and not after a restart."""
+    if lacks_curl(check):
+        return
+    folder = check.folder()
+    node, place = node_at(check, "a", folder / "a.http", "--pause", "100", folder=folder)
+    other = check.node("b", "--pause", "100", folder=folder, peers=[node.sock]).start()
+    node.put("web/k", 5), other.put("web/k", 6)
+    node.awaits("both rows", lambda rows: len(rows) == 2)
+    first = place.json("/v1/rows?prefix=web/&wait=0s")[1]
+    want("a poll without a mark", list(first), ["more", "rows", "seen"])
+    want("the same without a wait", place.json("/v1/rows?prefix=web/")[1], {it: first[it] for it in ("more", "rows")})
+    want("its mark again", place.json("/v1/rows?prefix=web/&wait=0s")[1], first)
+    want("the mark does not depend on the place", place.json("/v1/rows?prefix=web/&after=a/web/k&wait=0s")[1]["seen"], first["seen"])
+
+    def poll(mark, seconds=30):
+        began = time.monotonic()
+        found = place.json(f"/v1/rows?prefix=web/&wait={seconds}s&seen={mark}")
+        return found, time.monotonic() - began
+
+    def answered(what, write):
+        """What a poll answers that waits when something is written, and how long after that."""
+        found = []
+        caller = threading.Thread(target=lambda: found.append((poll(first["seen"]), time.monotonic())))
+        caller.start()
+        time.sleep(0.3)
+        want(f"whether a poll waits before {what}", caller.is_alive(), True)
+        write()
+        written = time.monotonic()
+        caller.join()
+        (status, page), _ = found[0][0]
+        want(f"the status after {what}", status, 200)
+        if found[0][1] - written > 1:
+            raise Difference(f"a poll was answered {found[0][1] - written:.2f} s after {what}")
+        return page
+
+    for what, write, count in (("a write", lambda: node.put("web/l", 1), 3), ("a change", lambda: node.put("web/l", 2), 3), ("a write at a peer", lambda: other.put("web/m", 1), 4), ("a removal", lambda: node.command("del", "web/l"), 3)):
+        page = answered(what, write)
+        want(f"the rows after {what}", (len(page["rows"]), page["seen"] != first["seen"]), (count, True))
+        first = page
+    (status, page), took = poll("0")
+    want("a poll with another mark", (status, page, took < 1), (200, first, True))
+    writer = threading.Timer(0.3, lambda: node.put("other/k", 1))
+    writer.start()
+    (status, page), took = poll(first["seen"], 2)
+    want("a poll beside another write", (status, page, 1.9 < took < 4), (200, first, True))
+    found = []
+    callers = [threading.Thread(target=lambda: found.append(poll(first["seen"], 3))) for _ in range(6)]
+    for it in callers:
+        it.start()
+    time.sleep(0.8)
+    want("who was turned away at once", [(it[0][0], it[0][1]["fault"]) for it in found], [(503, 29), (503, 29)])
+    want("an answer beside four polls", place.curl("/v1/owners")[0], 200)
+    want("a write beside four polls", put(place, "other/k", "weight", 2)[0], 200)
+    for it in callers:
+        it.join()
+    want("the polls that waited", sorted(it[0][0] for it in found), [200, 200, 200, 200, 503, 503])
+    node.kill()
+    node.start()
+    (status, page), took = poll(first["seen"])
+    want("a poll after a restart", (status, took < 1), (200, True))
+
+
+def http_page(check):
+    """The page of a node has its own script and style alone, whose hashes are those of its policy, and no address of elsewhere."""
+    if lacks_curl(check):
+        return
+    status, fields, body = node_at(check, "a", free_port())[1].curl("/")
+    fields, text = dict(fields), body.decode()
+    want("the page", (status, fields["content-type"], text.count("<script"), text.count("<style")), (200, "text/html; charset=utf-8", 1, 1))
+    for name in ("script", "style"):
+        content = re.search(f"<{name}>(.*?)</{name}>", text, re.DOTALL).group(1)
+        wanted = base64.b64encode(hashlib.sha256(content.encode()).digest()).decode()
+        want(f"the hash of the {name}", f"{name}-src 'sha256-{wanted}'".lower() in fields["content-security-policy"], True)
+    want("what the policy lets pass", ("unsafe" in fields["content-security-policy"], "http" in fields["content-security-policy"]), (False, False))
+    want("what the page has of elsewhere", re.findall(r"https?://|innerHTML|outerHTML|insertAdjacentHTML|document\.write|eval\(", text), [])
+
+
 def http_refusals(check):
     """What asks for nothing that is there is refused, each by the first reason; a node goes on after it."""
     if lacks_curl(check):
@@ -286,10 +366,10 @@ def http_refusals(check):
     at_port = node_at(check, "b", free_port(), folder=folder)[1]
     name, key = run(check.program, "get", "--control", str(node.control), "--owner", "A")[2], run(check.program, "get", "--control", str(node.control), "--prefix", "A")[2]
     name, key = name.splitlines()[1], key.splitlines()[1]
-    for path in ("/", "/v1", "/v1/row", "/v1/rows.json", "/healthz/", "/v1/key"):
+    for path in ("/v1", "/v1/row", "/v1/rows.json", "/healthz/", "/v1/key"):
         refused(place, path, 404, "there is no such path")
         refused(place, path, 404, "there is no such path", None, "-X", "PUT")
-    for path in ("/v1/rows", "/v1/rows/a/k", "/v1/owners", "/healthz", "/metrics"):
+    for path in ("/", "/v1/rows", "/v1/rows/a/k", "/v1/owners", "/healthz", "/metrics"):
         for method in ("PUT", "POST", "DELETE", "PATCH", "OPTIONS"):
             status, fields, body = place.curl(path, "-X", method)
             want(f"{method} {path}", (status, dict(fields)["allow"], json.loads(body)), (405, "get, head", {"error": "this path is only read"}))
@@ -299,7 +379,7 @@ def http_refusals(check):
         refused(place, f"/v1/rows?{query}", 400, key, 3)
     for path, text, fault in (("/v1/rows/A/k", name, 2), ("/v1/rows/a", key, 3), ("/v1/rows/a/", key, 3), ("/v1/rows/a/K", key, 3)):
         refused(place, path, 400, text, fault)
-    for query in ("x=1", "owner", "wait=1s", "owner=a&owner=a", "prefix=&prefix=", "key=k", "owner=a&key=k&prefix=k", "owner=a&key=k&after=a/k", "Owner=a"):
+    for query in ("x=1", "owner", "wait=61s", "seen=x", "wait=1", "wait=1s&seen=A", "owner=a&owner=a", "prefix=&prefix=", "key=k", "owner=a&key=k&prefix=k", "owner=a&key=k&after=a/k", "Owner=a"):
         refused(place, f"/v1/rows?{query}", 400, PARAMETERS)
     for query in ("", "&", "owner=a&", "&&prefix="):
         want(f"rows by {query!r}", place.json(f"/v1/rows?{query}")[0], 200)
@@ -462,4 +542,4 @@ def http_examples(check):
         want(f"the example {line}", place.curl(f"/{path}", *[it for it in words if it != "-s"])[2].decode(), wanted + "\n")
 
 
-PARTS = (http_rows, http_owners, http_writes, http_first_writes, http_health, http_metrics, http_refusals, http_bounds, http_silence, http_crowd, http_places, http_examples)
+PARTS = (http_rows, http_owners, http_writes, http_first_writes, http_health, http_metrics, http_polls, http_page, http_refusals, http_bounds, http_silence, http_crowd, http_places, http_examples)

@@ -6,16 +6,17 @@ use Rattle.http.specs.Request.{head_of, body_of}
 use Rattle.http_uri.specs.Uri.{uri_path}
 use Rattle.percent_encoding.specs.Percent.{percent_decode}
 use Rattle.sb_types.specs.declared.entry.Slot.{Slot}
+use Rattle.sb_codec.specs.declared.message.ask.Ask as asking
 use Rattle.sb_http.specs.declared.operation.Operation.{Operation}
-use Rattle.sb_http.specs.declared.operation.Operation.TheVariants.{Health, Metrics, Owners, Rows, Row, Put}
+use Rattle.sb_http.specs.declared.operation.Operation.TheVariants.{Health, Metrics, Owners, Page, Rows, Row, Poll, Put}
 use Rattle.sb_http.specs.declared.operation.Door.{Door}
 use Rattle.sb_http.specs.declared.operation.Door.TheVariants.{Socket, Port}
 use Rattle.sb_http.specs.declared.operation.Refusal.{Refusal}
 use Rattle.sb_http.specs.declared.operation.Refusal.TheVariants.{NotByPort, OnlyWritten}
 use Rattle.sb_http.specs.declared.rows_query.RowsQuery.{RowsQuery}
-use Rattle.sb_http.specs.RowsQueries.{then_read, asked_by_key, asked_with, key_asked, rows_asked, query_asked, with_query, no_parameters, row_asked, place_in}
+use Rattle.sb_http.specs.RowsQueries.{polled, then_read, asked_by_key, asked_with, key_asked, rows_asked, query_asked, with_query, no_parameters, row_asked, place_in}
 use Rattle.sb_http.specs.Requests.{is_open, is_reading, is_writing, reading, writing, write_refusal, port_refusal, unless_refused, written_as, slot_by, asked_for_key, asked_for_row, asked_at_place, asked_at, asked_by, after_start, query_of, key_asked_by, key_at}
-use Rattle.sb_http.specs.Acts.{Act, asks, lists, measures, fails, IsQuestion, OnlyReads}
+use Rattle.sb_http.specs.Acts.{Act, asks, polls, lists, measures, fails, IsQuestion, OnlyReads}
 use Rattle.sb_http.specs.Answers.{IsCallFor}
 
 -- what is asked for is no write
@@ -24,8 +25,10 @@ IsRead (Put write) = ⊥
 IsRead Health = Unit {0}
 IsRead Metrics = Unit {0}
 IsRead Owners = Unit {0}
+IsRead Page = Unit {0}
 IsRead (Rows ask) = Unit {0}
 IsRead (Row owner key) = Unit {0}
+IsRead (Poll ask patience) = Unit {0}
 
 abbrev OnlyAsks : Result Operation Refusal → Type 0
 OnlyAsks (Ok asked) = IsRead asked
@@ -44,8 +47,13 @@ key_reads (Some owner) key false = tt
 key_reads (Some owner) key true = tt
 key_reads None key others = tt
 
+polled_reads : (ask : asking.Ask) (wait : Option ℕ) (seen : Option (List ℕ)) → OnlyAsks (polled ask wait seen)
+polled_reads ask (Some seconds) seen = tt
+polled_reads ask None (Some seen) = tt
+polled_reads ask None None = tt
+
 by_key_reads : (q : RowsQuery) (key : Option (List ℕ)) → OnlyAsks (asked_by_key q key)
-by_key_reads q None = tt
+by_key_reads q None = polled_reads _ q.wait q.seen
 by_key_reads q (Some key) = key_reads q.owner key _
 
 query_reads : (query : List ℕ) → OnlyAsks (query_asked query)
@@ -72,9 +80,10 @@ at_asks door method path query body is =
     (chosen (bytes_eq path (codes "/v1/owners")) _ _ (chosen (is_reading method) _ _ tt tt)
     (chosen (bytes_eq path (codes "/healthz")) _ _ (chosen (is_reading method) _ _ tt tt)
     (chosen (bytes_eq path (codes "/metrics")) _ _ (chosen (is_reading method) _ _ tt tt)
+    (chosen (bytes_eq path (codes "/")) _ _ (chosen (is_reading method) _ _ tt tt)
     (chosen (bytes_eq path (codes "/v1/keys")) _ _ (refused_asks (write_refusal door method) _ is)
     (for_row_asks method (after_start (codes "/v1/rows/") path) (asked_for_key door method body (after_start (codes "/v1/keys/") path))
-    (for_key_asks door method body (after_start (codes "/v1/keys/") path) is))))))
+    (for_key_asks door method body (after_start (codes "/v1/keys/") path) is)))))))
 
 by_asks : (door : Door) (request : Request (List ℕ)) → is_some (write_refusal door (head_of request).method) ≡ true → OnlyAsks (asked_by door request)
 by_asks door request is = chosen (is_open door request) _ _ (at_asks door (head_of request).method (uri_path (head_of request).uri) (query_of request) (body_of request) is) tt
@@ -84,6 +93,7 @@ port_refused true = refl
 port_refused false = refl
 
 only_reads : (asked : Operation) (act : Act) → IsRead asked → IsCallFor asked act → OnlyReads act
+only_reads asked (polls ask patience reply mark) read call = tt
 only_reads asked (lists owners) read call = tt
 only_reads asked (measures text) read call = tt
 only_reads asked (fails fault) read call = tt
@@ -91,6 +101,8 @@ only_reads (Rows ask) (asks request reply) read call = subst IsQuestion (sym cal
 only_reads (Row owner key) (asks request reply) read call = subst IsQuestion (sym call) tt
 only_reads Health (asks request reply) read call = subst IsQuestion (sym call) tt
 only_reads Owners (asks request reply) read call = absurd call
+only_reads (Poll ask patience) (asks request reply) read call = absurd call
+only_reads Page (asks request reply) read call = absurd call
 only_reads Metrics (asks request reply) read call = absurd call
 only_reads (Put write) (asks request reply) read call = absurd read
 

@@ -18,14 +18,15 @@ use Rattle.sb_query.specs.Statuses.{is_ready}
 use Rattle.sb_query.specs.Pages.{first_at}
 use Rattle.sb_listing.specs.Json.{row_data}
 use Rattle.sb_http.specs.declared.operation.Operation.{Operation}
-use Rattle.sb_http.specs.declared.operation.Operation.TheVariants.{Health, Metrics, Owners, Rows, Row, Put}
+use Rattle.sb_http.specs.declared.operation.Operation.TheVariants.{Health, Metrics, Owners, Page, Rows, Row, Poll, Put}
 use Rattle.sb_http.specs.declared.operation.Door.{Door}
 use Rattle.sb_http.specs.declared.operation.Refusal.{Refusal}
 use Rattle.sb_http.specs.declared.operation.Refusal.TheVariants.{OtherHost, NotFound, NotAllowed, OnlyWritten, NotByPort, Bad, BadParameters, BadBody, NoMemory}
 use Rattle.sb_http.specs.declared.contents.Content as rust
-use Rattle.sb_http.specs.Acts.{Act, asks, lists, measures, fails}
+use Rattle.sb_http.specs.declared.page.TheConstants.{PAGE, POLICY}
+use Rattle.sb_http.specs.Acts.{Act, asks, polls, lists, measures, fails}
 use Rattle.sb_http.specs.Requests.{asked_by}
-use Rattle.sb_http.specs.Texts.{line_of, page_data, owners_data, health_data, version_data, error_data, fault_data}
+use Rattle.sb_http.specs.Texts.{line_of, page_data, marked_page_data, owners_data, health_data, version_data, error_data, fault_data}
 
 -- a status and a body
 abbrev pub Content : Type 0
@@ -60,6 +61,10 @@ IsNone (reasons.OtherKind kind) content = IsFault 503 (UnknownKind kind) content
 abbrev pub IsPage : Result records.Rows NoAnswer → Content → Type 0
 IsPage (Ok page) content = content ≡ (200, line_of (page_data page))
 IsPage (Err reason) content = IsNone reason content
+
+abbrev pub IsMarkedPage : List ℕ → Result records.Rows NoAnswer → Content → Type 0
+IsMarkedPage mark (Ok page) content = content ≡ (200, line_of (marked_page_data mark page))
+IsMarkedPage mark (Err reason) content = IsNone reason content
 
 abbrev pub row_content : Option records.Row → Content
 row_content None = is_error 404 (codes "there is no such row")
@@ -100,6 +105,8 @@ IsCallFor (Rows ask) (asks request reply) = request ≡ kinds.Ask ask
 IsCallFor (Row owner key) (asks request reply) = request ≡ kinds.Ask (row_question owner key)
 IsCallFor Health (asks request reply) = request ≡ kinds.AskStatus 0
 IsCallFor (Put write) (asks request reply) = request ≡ kinds.Put write
+IsCallFor (Poll ask patience) (polls asked given reply mark) = (asked ≡ ask) × (given ≡ patience)
+IsCallFor (Poll ask patience) (fails fault) = Unit {0}
 IsCallFor Owners (lists owners) = Unit {0}
 IsCallFor Owners (fails fault) = Unit {0}
 IsCallFor Metrics (measures text) = Unit {0}
@@ -113,6 +120,9 @@ Says (Row owner key) (asks request reply) content =
     (page : Result records.Rows NoAnswer) × TellsPage reply page × IsRow owner key page content
 Says Health (asks request reply) content =
     (status : Result records.NodeStatus NoAnswer) × TellsStatus reply status × IsHealth status content
+Says (Poll ask patience) (polls asked given reply mark) content =
+    (page : Result records.Rows NoAnswer) × TellsPage reply page × IsMarkedPage mark page content
+Says (Poll ask patience) (fails fault) content = IsFault 503 fault content
 Says (Put write) (asks request reply) content = (version : Result ℕ NoAnswer) × TellsVersion reply version × IsWritten version content
 Says Owners (lists owners) content = content ≡ (200, line_of (owners_data owners))
 Says Owners (fails fault) content = IsFault 503 fault content
@@ -150,13 +160,22 @@ Refuses OnlyWritten response =
 Refuses NotByPort response = Has (fields_for json_kind) (is_error 403 (codes "writes are taken at a Unix socket only")) response
 Refuses (Bad fault) response = (content : Content) × IsFault 400 fault content × Has (fields_for json_kind) content response
 Refuses BadParameters response =
-    Has (fields_for json_kind) (is_error 400 (codes "the parameters are owner, prefix and after, or owner and key, or key for a write, each once")) response
+    Has (fields_for json_kind) (is_error 400 (codes "the parameters are owner, prefix, after, wait and seen, or owner and key, or key for a write, each once")) response
 Refuses BadBody response =
     Has (fields_for json_kind) (is_error 400 (codes "the body is JSON of this form: {\"kind\":\"weight\",\"value\":5}")) response
 Refuses NoMemory response = ⊥
 
+-- the response has the page for browsers, with its policy
+abbrev pub HasPage : Response → Type 0
+HasPage response = Has (fields_for (codes "text/html; charset=utf-8") ++ (codes "content-security-policy", POLICY.now) ∷ []) (200, PAGE.now) response
+
+-- the page is there without the backend, and all else comes of one call of it
+abbrev pub AnswersOne : {B : Type 0} → (B → Act → B → Type 0) → Operation → B → Response → B → Type 0
+AnswersOne step asked old response new =
+    ((asked ≡ Page) × HasPage response × (new ≡ old)) ⊎ AnswersAsked step asked old response new
+
 abbrev pub AnswersWhat : {B : Type 0} → (B → Act → B → Type 0) → Result Operation Refusal → B → Response → B → Type 0
-AnswersWhat step (Ok asked) old response new = AnswersAsked step asked old response new
+AnswersWhat step (Ok asked) old response new = AnswersOne step asked old response new
 AnswersWhat step (Err why) old response new = Refuses why response × (new ≡ old)
 
 -- the response to a request that came in at this door

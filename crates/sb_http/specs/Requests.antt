@@ -8,7 +8,7 @@ use Rattle.http_uri.specs.Uri.{uri_path, uri_query}
 use Rattle.sb_types.specs.declared.entry.Slot.{Slot}
 use Rattle.sb_types.specs.declared.entry.Slot.TheVariants.{Set, Removed}
 use Rattle.sb_http.specs.declared.operation.Operation.{Operation}
-use Rattle.sb_http.specs.declared.operation.Operation.TheVariants.{Health, Metrics, Owners, Put}
+use Rattle.sb_http.specs.declared.operation.Operation.TheVariants.{Health, Metrics, Owners, Page, Put}
 use Rattle.sb_http.specs.declared.operation.Door.{Door}
 use Rattle.sb_http.specs.declared.operation.Door.TheVariants.{Socket, Port}
 use Rattle.sb_http.specs.declared.operation.Refusal.{Refusal}
@@ -74,6 +74,7 @@ asked_at door method path query body =
     else if bytes_eq path (codes "/v1/owners") then reading method (Ok Owners)
     else if bytes_eq path (codes "/healthz") then reading method (Ok Health)
     else if bytes_eq path (codes "/metrics") then reading method (Ok Metrics)
+    else if bytes_eq path (codes "/") then reading method (Ok Page)
     else if bytes_eq path (codes "/v1/keys") then writing door method body (key_asked_by query)
     else asked_at_place door method path body
 

@@ -18,6 +18,11 @@ line_of json = compact_text json ++ 10 ∷ []
 unfoldable pub page_data : Rows → Data
 page_data page = object (member (codes "more") (boolean page.more) (member (codes "rows") (rows_data page.rows) no_members))
 
+-- the same, with the mark of all rows that are asked for
+unfoldable pub marked_page_data : List ℕ → Rows → Data
+marked_page_data mark page =
+    object (member (codes "more") (boolean page.more) (member (codes "rows") (rows_data page.rows) (member (codes "seen") (string mark) no_members)))
+
 -- the members are in the order of their names
 unfoldable pub owner_data : HeldOwner → Data
 owner_data held =

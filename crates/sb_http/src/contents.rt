@@ -1,15 +1,16 @@
 //! The status and the body of a response, from what a backend answers.
-ghost use Rattle.std.specs.Prelude.{◌≡◌, if◌then◌else◌, Ok, IfOk};
+ghost use Rattle.std.specs.Prelude.{◌≡◌, ◌≢◌, if◌then◌else◌, Ok, IfOk};
 ghost use Rattle.sb_query.specs.Answers.{TellsVersion};
 ghost use Rattle.sb_query.specs.Statuses.{is_ready};
 ghost use Rattle.sb_http.specs.Acts.{Act};
-ghost use Rattle.sb_http.specs.Answers.{IsCallFor, Says, IsFault, IsNone, IsPage, IsRow, IsHealth, IsWritten, put_status};
+ghost use Rattle.sb_http.specs.Answers.{IsCallFor, Says, IsFault, IsNone, IsPage, IsMarkedPage, IsRow, IsHealth, IsWritten, put_status};
 
-use crate::backend::Backend;
+use crate::backend::{Backend, MarkedReply};
 use crate::bodies::{
-    error_line, fault_line, health_line, owners_line, page_line, row_line, version_line,
+    error_line, fault_line, health_line, marked_page_line, owners_line, page_line, row_line,
+    version_line,
 };
-use crate::operation::Operation;
+use crate::operation::{Operation, Patience};
 use http::StatusCode;
 use sb_codec::{Ask, AskStatus, Message, NodeStatus, Rows};
 use sb_query::{NoAnswer, first_at, is_ready, page_in, status_in, version_in};
@@ -79,6 +80,23 @@ fn page_content(alloc: Global, page: &Result<Rows, NoAnswer>) -> Result<Content,
         Ok(page) => Ok(Content {
             status: StatusCode::OK,
             body: page_line(alloc, page)?,
+        }),
+        Err(reason) => none_content(alloc, *reason),
+    }
+}
+
+/// Has a page with a mark. `NoMemory`.
+fn marked_content(
+    alloc: Global,
+    page: &Result<Rows, NoAnswer>,
+    mark: &Key,
+) -> Result<Content, Fault>
+    ensures { IfOk result (λ content. IsMarkedPage mark.now page.now (content.status, content.body.items)) }
+{
+    match page {
+        Ok(page) => Ok(Content {
+            status: StatusCode::OK,
+            body: marked_page_line(alloc, page, mark)?,
         }),
         Err(reason) => none_content(alloc, *reason),
     }
@@ -183,6 +201,24 @@ fn answer_health<B: Backend>(alloc: Global, backend: &mut B) -> Result<Content, 
     health_content(alloc, &status)
 }
 
+/// Asks for a page of rows once they are others than those that were seen. `NoMemory`.
+fn answer_poll<B: Backend>(
+    alloc: Global,
+    backend: &mut B,
+    ask: &Ask,
+    patience: &Patience,
+) -> Result<Content, Fault>
+    ensures { (act : Act) × B.step backend.old act backend.new × IsCallFor (Operation.Poll ask.now patience.now) act × IfOk result (λ content. Says (Operation.Poll ask.now patience.now) act (content.status, content.body.items)) }
+{
+    match backend.poll(ask, patience) {
+        Ok(found) => {
+            let MarkedReply { reply, mark } = found;
+            marked_content(alloc, &page_in(reply), &mark)
+        }
+        Err(fault) => fault_content(alloc, StatusCode::SERVICE_UNAVAILABLE, fault),
+    }
+}
+
 /// The version of a write, from the answer to it.
 fn version_of(reply: Message) -> Result<u64, NoAnswer>
     ensures { TellsVersion reply result }
@@ -233,14 +269,17 @@ pub(crate) fn answer<B: Backend>(
     backend: &mut B,
     asked: Operation,
 ) -> Result<Content, Fault>
+    requires { asked ≢ Operation.Page }
     ensures { (act : Act) × B.step backend.old act backend.new × IsCallFor asked act × IfOk result (λ content. Says asked act (content.status, content.body.items)) }
 {
     match asked {
         Operation::Rows(ask) => answer_rows(alloc, backend, ask),
         Operation::Row(owner, key) => answer_row(alloc, backend, owner, key),
+        Operation::Poll(ask, patience) => answer_poll(alloc, backend, &ask, &patience),
         Operation::Put(write) => answer_put(alloc, backend, write),
         Operation::Health => answer_health(alloc, backend),
         Operation::Owners => answer_owners(alloc, backend),
         Operation::Metrics => Ok(answer_metrics(alloc, backend)),
+        Operation::Page => unreachable!(),
     }
 }

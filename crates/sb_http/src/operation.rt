@@ -22,9 +22,20 @@ pub enum Door {
     Port,
 }
 
+/// For how long an answer may wait, until the rows that are asked for are others than those that were seen.
+#[derive(Clone, Copy, Debug, PartialEq, Eq)]
+pub struct Patience {
+    /// 0 to 60.
+    pub seconds: u64,
+    /// The mark of the rows that were seen. Without one the answer does not wait.
+    pub seen: Option<Key>,
+}
+
 /// What a request asks for.
 #[derive(Debug, Drop)]
 pub enum Operation {
+    /// The page for browsers.
+    Page,
     /// Whether the node is ready.
     Health,
     /// The metrics of the node.
@@ -33,6 +44,8 @@ pub enum Operation {
     Owners,
     /// A page of rows.
     Rows(Ask),
+    /// A page of rows, with the mark of all that are asked for, once these are others than those that were seen.
+    Poll(Ask, Patience),
     /// The row that an owner has under a key.
     Row(Name, Key),
     /// A write that the node is to make its own.
@@ -230,6 +243,8 @@ fn asked_at(
         reading(method, Operation::Health)
     } else if path == "/metrics" {
         reading(method, Operation::Metrics)
+    } else if path == "/" {
+        reading(method, Operation::Page)
     } else if path == "/v1/keys" {
         asked_of_keys(alloc, door, method, query, body)
     } else {

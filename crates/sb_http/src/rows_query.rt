@@ -3,11 +3,14 @@ ghost use Rattle.std.specs.Prelude.{◌≡◌, []};
 ghost use Rattle.sb_http.specs.RowsQueries as spec;
 ghost use Rattle.sb_http.specs.Asking.{GivesUnless};
 
-use crate::operation::{Operation, Refusal};
+use crate::operation::{Operation, Patience, Refusal};
 use crate::parts::{parted, plain};
 use sb_codec::Ask;
 use sb_types::{Fault, Key, Name, Prefix};
 use std::alloc::Global;
+
+/// For how many seconds an answer may wait at most.
+const SECONDS_MOST: u64 = 60;
 
 /// The parameters that were read so far.
 #[derive(Clone, Copy)]
@@ -16,6 +19,8 @@ pub struct RowsQuery {
     pub prefix: Option<Prefix>,
     pub key: Option<Key>,
     pub after: Option<(Name, Key)>,
+    pub wait: Option<u64>,
+    pub seen: Option<Key>,
 }
 
 /// Reads an owner.
@@ -74,6 +79,8 @@ impl RowsQuery {
             prefix: None,
             key: None,
             after: None,
+            wait: None,
+            seen: None,
         }
     }
 
@@ -141,6 +148,51 @@ impl RowsQuery {
         }
     }
 
+    /// Takes for how long the answer may wait.
+    fn with_wait(self, text: &[u8]) -> Result<RowsQuery, Refusal>
+        ensures { result ≡ spec.with_wait self text.now }
+    {
+        if self.wait.is_some() {
+            return Err(Refusal::BadParameters);
+        }
+        match seconds_in(text) {
+            Some(seconds) => Ok(RowsQuery {
+                wait: Some(seconds),
+                ..self
+            }),
+            None => Err(Refusal::BadParameters),
+        }
+    }
+
+    /// Takes the mark of the rows that were seen.
+    fn with_seen(self, text: &[u8]) -> Result<RowsQuery, Refusal>
+        ensures { result ≡ spec.with_seen self text.now }
+    {
+        if self.seen.is_some() {
+            return Err(Refusal::BadParameters);
+        }
+        match key_in(text) {
+            Ok(mark) => Ok(RowsQuery {
+                seen: Some(mark),
+                ..self
+            }),
+            Err(_) => Err(Refusal::BadParameters),
+        }
+    }
+
+    /// Takes the parameter of this name, if it is one of a poll.
+    fn with_poll_parameter(self, name: &[u8], value: &[u8]) -> Result<RowsQuery, Refusal>
+        ensures { result ≡ spec.with_poll_parameter self name.now value.now }
+    {
+        if name == b"wait".as_slice() {
+            self.with_wait(value)
+        } else if name == b"seen".as_slice() {
+            self.with_seen(value)
+        } else {
+            Err(Refusal::BadParameters)
+        }
+    }
+
     /// Takes the parameter of this name.
     fn with_parameter(self, name: &[u8], value: &[u8]) -> Result<RowsQuery, Refusal>
         ensures { result ≡ spec.with_parameter self name.now value.now }
@@ -154,7 +206,7 @@ impl RowsQuery {
         } else if name == b"after".as_slice() {
             self.with_after(value)
         } else {
-            Err(Refusal::BadParameters)
+            self.with_poll_parameter(name, value)
         }
     }
 
@@ -196,10 +248,12 @@ impl RowsQuery {
         ensures { result ≡ spec.asked_with self }
     {
         let Some(key) = self.key else {
-            return rows_asked(self.owner, self.prefix, self.after);
+            let ask = rows_asked(self.owner, self.prefix, self.after);
+            return polled(ask, self.wait, self.seen);
         };
+        let is_polled = self.wait.is_some() || self.seen.is_some();
         match self.owner {
-            Some(owner) if self.prefix.is_none() && self.after.is_none() => {
+            Some(owner) if self.prefix.is_none() && self.after.is_none() && !is_polled => {
                 Ok(Operation::Row(owner, key))
             }
             _ => Err(Refusal::BadParameters),
@@ -213,30 +267,56 @@ impl RowsQuery {
         ensures { result ≡ spec.only_key self }
     {
         let has_others = self.owner.is_some() || self.prefix.is_some() || self.after.is_some();
+        let is_polled = self.wait.is_some() || self.seen.is_some();
         match self.key {
-            Some(key) if !has_others => Ok(key),
+            Some(key) if !has_others && !is_polled => Ok(key),
             _ => Err(Refusal::BadParameters),
         }
     }
 }
 
-/// Rows are asked for. Without a prefix, those of all keys.
-fn rows_asked(
-    owner: Option<Name>,
-    prefix: Option<Prefix>,
-    after: Option<(Name, Key)>,
-) -> Result<Operation, Refusal>
+/// A page of rows, or a poll for it. A mark goes with a time to wait.
+fn polled(ask: Ask, wait: Option<u64>, seen: Option<Key>) -> Result<Operation, Refusal>
+    ensures { result ≡ spec.polled ask wait seen }
+{
+    match wait {
+        Some(seconds) => Ok(Operation::Poll(ask, Patience { seconds, seen })),
+        None if seen.is_none() => Ok(Operation::Rows(ask)),
+        None => Err(Refusal::BadParameters),
+    }
+}
+
+/// Reads up to 60 seconds, such as `5s` and `30s`.
+fn seconds_in(text: &[u8]) -> Option<u64>
+    ensures { result ≡ spec.seconds_in text.now }
+{
+    match text {
+        [one, b's'] if one.is_ascii_digit() => Some(u64::from(*one - b'0')),
+        [ten, one, b's'] if ten.is_ascii_digit() && one.is_ascii_digit() => {
+            let seconds = 10 * u64::from(*ten - b'0') + u64::from(*one - b'0');
+            if seconds <= SECONDS_MOST {
+                Some(seconds)
+            } else {
+                None
+            }
+        }
+        _ => None,
+    }
+}
+
+/// The rows that are asked for. Without a prefix, those of all keys.
+fn rows_asked(owner: Option<Name>, prefix: Option<Prefix>, after: Option<(Name, Key)>) -> Ask
     ensures { result ≡ spec.rows_asked owner prefix after }
 {
     let prefix = match prefix {
         Some(prefix) => prefix,
         None => every_key(),
     };
-    Ok(Operation::Rows(Ask {
+    Ask {
         owner,
         prefix,
         after,
-    }))
+    }
 }
 
 /// The prefix of all keys.

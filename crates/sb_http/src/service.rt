@@ -1,12 +1,13 @@
 //! The service of a node.
-ghost use Rattle.std.specs.Prelude.{◌≡◌, ◌++◌, ◌∷◌, [], OnOk};
+ghost use Rattle.std.specs.Prelude.{◌≡◌, ◌≢◌, ◌++◌, ◌∷◌, [], OnOk};
 ghost use Rattle.http_server.specs.Response.{IsBlank, IsResponse, fields_of};
-ghost use Rattle.sb_http.specs.Answers.{AnswersAsked, AnswersRequest, Refuses, Has, FillsOrShortens, is_error, fields_for, json_kind, kind_of};
+ghost use Rattle.sb_http.specs.Answers.{AnswersAsked, AnswersRequest, Refuses, Has, HasPage, FillsOrShortens, is_error, fields_for, json_kind, kind_of};
 
 use crate::backend::Backend;
 use crate::bodies::{error_line, fault_line};
 use crate::contents::{Content, answer};
 use crate::operation::{Door, Operation, Refusal, asked_by};
+use crate::page::{PAGE, POLICY};
 use bytes::Bytes;
 use http::{HeaderValue, Request, StatusCode, header};
 use http_server::{Response, Service};
@@ -127,8 +128,7 @@ fn refuse(alloc: Global, response: &mut Response, why: &Refusal) -> Result<(), A
         }
         Refusal::Bad(fault) => refuse_by(alloc, response, *fault),
         Refusal::BadParameters => {
-            let text =
-                "the parameters are owner, prefix and after, or owner and key, or key for a write, each once";
+            let text = "the parameters are owner, prefix, after, wait and seen, or owner and key, or key for a write, each once";
             refuse_with(alloc, response, StatusCode::BAD_REQUEST, text)
         }
         Refusal::BadBody => {
@@ -137,6 +137,17 @@ fn refuse(alloc: Global, response: &mut Response, why: &Refusal) -> Result<(), A
         }
         Refusal::NoMemory => Err(AllocError),
     }
+}
+
+/// Answers with the page.
+fn answer_page(response: &mut Response) -> Result<(), AllocError>
+    requires { IsBlank response.old }
+    ensures { OnOk result (HasPage response.new) }
+{
+    add_fields(response, HeaderValue::from_static("text/html; charset=utf-8"))?;
+    let policy = HeaderValue::from_static(POLICY);
+    response.add_header(header::CONTENT_SECURITY_POLICY, policy)?;
+    response.body.push(Bytes::from_static(PAGE.as_bytes()))
 }
 
 /// Leaves a response without a body: there was no memory for it.
@@ -164,7 +175,8 @@ fn fill_or_shorten(response: &mut Response, content: Result<Content, Fault>)
 impl<B: Backend> HttpService<B> {
     /// Asks the backend once, and fills a response that has its fields.
     fn answer_asked(&mut self, asked: Operation, response: &mut Response)
-        requires { IsResponse 200 (fields_for (kind_of asked)) [] response.old }
+        requires fields { IsResponse 200 (fields_for (kind_of asked)) [] response.old }
+        requires other { asked ≢ Operation.Page }
         ensures answers { AnswersAsked B.step asked self.old.backend response.new self.new.backend }
         ensures door { self.new.door ≡ self.old.door }
     {
@@ -185,6 +197,7 @@ impl<B: Backend> Service for HttpService<B> {
         response: &mut Response,
     ) -> Result<(), AllocError> {
         match asked_by(self.alloc, self.door, request) {
+            Ok(Operation::Page) => answer_page(response),
             Ok(asked) => {
                 add_fields(response, type_of(&asked))?;
                 self.answer_asked(asked, response);

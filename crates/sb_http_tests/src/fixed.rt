@@ -1,7 +1,9 @@
 //! A backend with two rows that takes writes, and what comes out of a connection for the bytes that come in.
 
 use sb_codec::{Ask, Done, Message, Refused, Row, Rows};
-use sb_http::{Backend, Door, HeldOwner, HttpService, serve_connection};
+use sb_http::{
+    Backend, Door, HeldOwner, HttpService, MarkedReply, Patience, serve_connection,
+};
 use sb_types::{Fault, Key, Name, Slot, Value, ValueRef, Write};
 use std::alloc::Global;
 use std::hash::RandomState;
@@ -86,6 +88,20 @@ impl Backend for FixedBackend {
             Message::Put(write) => answer_to_write(write),
             _ => refused(&Fault::UnknownKind(0)),
         }
+    }
+
+    fn poll(&mut self, ask: &Ask, patience: &Patience) -> Result<MarkedReply, Fault> {
+        if patience.seconds > 30 {
+            return Err(Fault::TurnsSpent);
+        }
+        let mark = match patience.seen {
+            Some(seen) => seen,
+            None => Key::read(b"first")?,
+        };
+        Ok(MarkedReply {
+            reply: answer_to(self.alloc, ask),
+            mark,
+        })
     }
 
     fn owners(&mut self) -> Result<Vec<HeldOwner>, Fault> {

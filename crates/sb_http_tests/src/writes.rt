@@ -154,7 +154,7 @@ fn a_write_has_a_key_and_a_method(rt: HostRuntime) {
     case(&rt, alloc, "PUT /v1/keys/K", "", "400", key);
     case(&rt, alloc, "DELETE /v1/keys/", "", "400", key);
     let parameters =
-        "{\"error\":\"the parameters are owner, prefix and after, or owner and key, or key for a write, each once\"}\n";
+        "{\"error\":\"the parameters are owner, prefix, after, wait and seen, or owner and key, or key for a write, each once\"}\n";
     case(&rt, alloc, "PUT /v1/keys", "", "400", parameters);
     case(
         &rt,

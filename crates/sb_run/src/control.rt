@@ -55,7 +55,7 @@ fn done(version: u64) -> Message
 }
 
 /// The page that answers an Ask, or its refusal.
-fn look_up<S: NodeTag>(
+pub(crate) fn look_up<S: NodeTag>(
     alloc: Global,
     settings: &Settings,
     entered: &EnteredSeat<S>,

@@ -2,7 +2,7 @@
 ghost use Rattle.std.specs.Prelude.{◌≡◌, vec_len, IfOk, IfErr};
 ghost use Rattle.std.specs.Thread.{IsSend, IsSync};
 ghost use Rattle.sb_directory.specs.Serving.{IsLater};
-ghost use Rattle.sb_run.specs.HttpReads.{AnswersQuestion, AreOwnersAfter, IsListed, IsWriteReply};
+ghost use Rattle.sb_run.specs.HttpReads.{AnswersQuestion, AreOwnersAfter, IsListed, IsPolled, IsWriteReply};
 
 use crate::control::{refused_by, reply_to_ask};
 use crate::dialer::{Dialing, RoundsTag};
@@ -12,9 +12,11 @@ use crate::sockets::{Timed, limit};
 use crate::threads::NodeContext;
 use core::mem::replace_with;
 use http_server::Config;
-use sb_codec::Message;
+use sb_codec::{Ask, Message};
 use sb_directory::{EnteredSeat, ReaderSeat};
-use sb_http::{Backend, Door, HeldOwner, HttpService, serve_connection};
+use sb_http::{
+    Backend, Door, HeldOwner, HttpService, MarkedReply, Patience, serve_connection,
+};
 use sb_types::{Fault, Write};
 use sb_views::{NodeTag, Snapshot};
 use std::alloc::Global;
@@ -163,6 +165,17 @@ impl<S: RoundsTag, H: Wait + Drop, Q: Wait + Clock, O: Observer> Backend
             |seat, (node, dialing, request)| -> (ReaderSeat<S>, Message)
                 ensures { AnswersQuestion S.opening S.settings seat request.entry.now result.0 result.1 }
             { node.reply_to_question(dialing, request, seat) },
+        )
+    }
+
+    fn poll(&mut self, ask: &Ask, patience: &Patience) -> Result<MarkedReply, Fault> {
+        replace_with(
+            &mut self.seat,
+            (self.node, ask, patience),
+            |seat, (node, ask, patience)| -> (ReaderSeat<S>, Result<MarkedReply, Fault>)
+                ensures polled { IfOk result.1 (λ found. IsPolled S.opening S.settings.budget seat ask.entry.now result.0 found.reply) }
+                ensures later { IsLater seat result.0 }
+            { node.poll(seat, ask, patience) },
         )
     }
 

@@ -52,9 +52,14 @@ struct WaitingPlaces {
 impl WaitingPlaces {
     /// The places of so many threads. A single thread has one.
     fn new(threads: u64) -> WaitingPlaces {
+        WaitingPlaces::of(threads.saturating_sub(1).max(1))
+    }
+
+    /// So many places.
+    fn of(most: u64) -> WaitingPlaces {
         WaitingPlaces {
             taken: AtomicU64::new(0),
-            most: threads.saturating_sub(1).max(1),
+            most,
         }
     }
 
@@ -78,6 +83,8 @@ impl WaitingPlaces {
 pub(crate) struct WriteDesk {
     sender: WriteSender,
     places: WaitingPlaces,
+    /// Those of them that polls may take.
+    polls: WaitingPlaces,
 }
 
 /// Waits for an answer. `Closed` if the node ends before it comes.
@@ -111,7 +118,26 @@ impl WriteDesk {
         WriteDesk {
             sender,
             places: WaitingPlaces::new(threads),
+            polls: WaitingPlaces::of(threads / 2),
         }
+    }
+
+    /// Takes a place for a poll, and says whether one was free: at most half of the threads may poll at once.
+    pub(crate) fn take_poll(&self) -> bool {
+        if !self.polls.take() {
+            return false;
+        }
+        let is_free = self.places.take();
+        if !is_free {
+            self.polls.leave();
+        }
+        is_free
+    }
+
+    /// Gives it back.
+    pub(crate) fn leave_poll(&self) {
+        self.places.leave();
+        self.polls.leave();
     }
 
     /// Hands a write to the calling thread once, and waits for its answer. Without that, the answer is one of these faults:

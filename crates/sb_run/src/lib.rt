@@ -147,6 +147,7 @@ mod facts;
 mod first_hearing;
 mod first_message;
 mod heard;
+mod http_polls;
 mod http_socket;
 mod http_threads;
 mod http_writes;
