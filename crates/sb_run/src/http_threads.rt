@@ -14,9 +14,7 @@ use core::mem::replace_with;
 use http_server::Config;
 use sb_codec::{Ask, Message};
 use sb_directory::{EnteredSeat, ReaderSeat};
-use sb_http::{
-    Backend, Door, HeldOwner, HttpService, MarkedReply, Patience, serve_connection,
-};
+use sb_http::{Backend, Door, HeldOwner, HttpService, MarkedReply, Patience, serve_connection};
 use sb_types::{Fault, Write};
 use sb_views::{NodeTag, Snapshot};
 use std::alloc::Global;
@@ -173,7 +171,7 @@ impl<S: RoundsTag, H: Wait + Drop, Q: Wait + Clock, O: Observer> Backend
             &mut self.seat,
             (self.node, ask, patience),
             |seat, (node, ask, patience)| -> (ReaderSeat<S>, Result<MarkedReply, Fault>)
-                ensures polled { IfOk result.1 (λ found. IsPolled S.opening S.settings.budget seat ask.entry.now result.0 found.reply) }
+                ensures polled { IfOk result.1 (λ found. IsPolled S.opening S.settings.budget seat ask.entry.now result.0 found.reply found.mark) }
                 ensures later { IsLater seat result.0 }
             { node.poll(seat, ask, patience) },
         )
