@@ -186,7 +186,7 @@ impl OwnerSender {
 
 impl WriteSender {
     /// Hands a write to the calling thread. `TurnsSpent` if too many wait, or `NoMemory`: then the write is not made. `Closed` if the
-    /// calling thread has ended, or if nothing can report the arrival to it: then nobody answers the write.
+    /// calling thread has ended, or if nothing can report the arrival to it. Then nobody answers the write.
     pub(crate) fn give<R: Wait>(
         &self,
         rt: &R,
@@ -211,7 +211,7 @@ impl WriteSender {
 }
 
 impl Handover {
-    /// Wakes the calling thread where the node is to end. If there is no room for that, it does not wait.
+    /// Wakes the calling thread for the end of the node. If there is no room for that, it does not wait.
     pub(crate) fn wake_owner<R: Wait>(&self, rt: &R) {
         let _ = self.to_owner.arrivals.try_send(rt, ());
     }
