@@ -172,8 +172,12 @@ impl<S: RoundsTag, H: Wait + Drop, Q: Wait + Clock> NodeContext<'_, S, H, Q> {
         unreachable!()
     }
 
-    /// Answers a poll. One without a mark, or without time, looks once. `TurnsSpent` if too many wait; then the faults of `watch`;
-    /// `Closed` if the seat cannot enter; `NoMemory`.
+    /// Answers a poll. One without a mark, or without time, looks once. Its faults, in this order:
+    ///
+    /// - `TurnsSpent` if too many wait.
+    /// - The faults of `watch`.
+    /// - `Closed` if the seat cannot enter.
+    /// - `NoMemory`.
     pub(crate) fn poll(
         &self,
         seat: ReaderSeat<S>,

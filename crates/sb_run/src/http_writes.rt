@@ -78,7 +78,7 @@ impl WaitingPlaces {
     }
 }
 
-/// Where threads that answer over HTTP hand in their writes.
+/// The desk that takes the writes of the threads that answer over HTTP.
 #[derive(Drop)]
 pub(crate) struct WriteDesk {
     sender: WriteSender,
