@@ -56,6 +56,13 @@ class Asked:
                 got += piece
         return parsed(got)
 
+    def half(self, content):
+        """What comes to these bytes if no more follow, up to the end of the connection."""
+        with self.connect() as stream:
+            stream.sendall(content)
+            stream.shutdown(socket.SHUT_WR)
+            return stream.recv(65536)
+
     def json(self, path, *words):
         """The status and the object of an answer."""
         status, fields, body = self.curl(path, *words)
@@ -176,13 +183,18 @@ def http_writes(check):
         status, fields, body = place.curl("/v1/keys/k", "-X", method)
         want(f"{method} of a key", (status, dict(fields)["allow"], json.loads(body)), (405, "put, delete", {"error": "this path is only written"}))
     form = 'the body is JSON of this form: {"kind":"weight","value":5}'
-    for body in ("", "5", "{}", '{"kind":"weight"}', '{"kind":"weight","value":5,"x":1}', '{"kind":"weight","value":5', "\x00"):
+    for body in ("", "5", "{}", '{"kind":"weight"}', '{"kind":"weight","value":5,"x":1}', '{"kind":"weight","value":5', "\x01", 200 * "[", 900 * '{"value":'):
         refused(place, "/v1/keys/k", 400, form, None, "-X", "PUT", "-d", body)
     value = run(check.program, "set", "--control", str(node.control), "k", "flag", "x")[2].splitlines()[1]
     for kind, word in (("x", 5), (5, 5), ("weight", "5"), ("weight", -1), ("weight", 2**63), ("weight", 1.5), ("flag", "true"), ("addr", "a b"), ("text", ""), ("text", 513 * "x"), ("text", None)):
         status, found = put(place, "k", kind, word)
         want(f"the value {word!r} of {kind}", (status, found), (400, {"error": value, "fault": 4}))
     want("the longest text", put(place, "k", "text", 512 * "x"), (200, {"version": 8}))
+    head = b"PUT /v1/keys/k HTTP/1.1\r\nHost: x\r\n"
+    want("a longer body", place.bytes(head + b"Content-Length: 8193\r\n\r\n" + 8193 * b" ")[0], 413)
+    chunked = head + b"Transfer-Encoding: chunked\r\n\r\n8\r\n{\"kind\":\r\n14\r\n\"flag\",\"value\":true}\r\n0\r\n\r\n"
+    want("a body in chunks", place.bytes(chunked)[::2], (200, b'{"version":9}\n'))
+    want("half a body", place.half(head + b'Content-Length: 27\r\n\r\n{"kind":"weight"'), b"")
     key = run(check.program, "get", "--control", str(node.control), "--prefix", "A")[2].splitlines()[1]
     for path in ("/v1/keys/K", "/v1/keys/", f"/v1/keys/{65 * 'k'}", "/v1/keys?key=K"):
         refused(place, path, 400, key, 3, "-X", "DELETE")
@@ -192,7 +204,7 @@ def http_writes(check):
         it.start()
     for it in many:
         it.join()
-    want("the version after writes at once", put(place, "k", "weight", 5), (200, {"version": 79}))
+    want("the version after writes at once", put(place, "k", "weight", 5), (200, {"version": 80}))
     node.log.unlink()
     status, found = put(place, "k", "weight", 6)
     want("a PUT once the log is lost", (status, found["fault"]), (503, 15))
