@@ -47,21 +47,16 @@ class Asked:
             return socket.create_connection(("127.0.0.1", self.place), timeout=SECONDS)
         return connect(self.place)
 
-    def bytes(self, content):
-        """What comes to these bytes, up to the end of the connection."""
+    def bytes(self, content, ends=False):
+        """What comes to these bytes, up to the end of the connection; no more follow if it ends."""
         with self.connect() as stream:
             stream.sendall(content)
+            if ends:
+                stream.shutdown(socket.SHUT_WR)
             got = b""
             while piece := stream.recv(65536):
                 got += piece
         return parsed(got)
-
-    def half(self, content):
-        """What comes to these bytes if no more follow, up to the end of the connection."""
-        with self.connect() as stream:
-            stream.sendall(content)
-            stream.shutdown(socket.SHUT_WR)
-            return stream.recv(65536)
 
     def json(self, path, *words):
         """The status and the object of an answer."""
@@ -194,7 +189,9 @@ def http_writes(check):
     want("a longer body", place.bytes(head + b"Content-Length: 8193\r\n\r\n" + 8193 * b" ")[0], 413)
     chunked = head + b"Transfer-Encoding: chunked\r\n\r\n8\r\n{\"kind\":\r\n14\r\n\"flag\",\"value\":true}\r\n0\r\n\r\n"
     want("a body in chunks", place.bytes(chunked)[::2], (200, b'{"version":9}\n'))
-    want("half a body", place.half(head + b'Content-Length: 27\r\n\r\n{"kind":"weight"'), b"")
+    want("half a body", place.bytes(head + b'Content-Length: 27\r\n\r\n{"kind":"weight"', ends=True)[0], 400)
+    twice = b'{"kind":"flag","value":4,"kind":"weight","value":6}'
+    want("members that come twice", place.bytes(head + b"Content-Length: 51\r\n\r\n" + twice)[::2], (200, b'{"version":10}\n'))
     key = run(check.program, "get", "--control", str(node.control), "--prefix", "A")[2].splitlines()[1]
     for path in ("/v1/keys/K", "/v1/keys/", f"/v1/keys/{65 * 'k'}", "/v1/keys?key=K"):
         refused(place, path, 400, key, 3, "-X", "DELETE")
@@ -204,7 +201,7 @@ def http_writes(check):
         it.start()
     for it in many:
         it.join()
-    want("the version after writes at once", put(place, "k", "weight", 5), (200, {"version": 80}))
+    want("the version after writes at once", put(place, "k", "weight", 5), (200, {"version": 81}))
     node.log.unlink()
     status, found = put(place, "k", "weight", 6)
     want("a PUT once the log is lost", (status, found["fault"]), (503, 15))
