@@ -49,10 +49,12 @@ class Asked:
             return socket.create_connection(("127.0.0.1", self.place), timeout=SECONDS)
         return connect(self.place)
 
-    def bytes(self, content):
-        """What comes to these bytes, up to the end of the connection."""
+    def bytes(self, content, ends=False):
+        """What comes to these bytes, up to the end of the connection; no more follow if it ends."""
         with self.connect() as stream:
             stream.sendall(content)
+            if ends:
+                stream.shutdown(socket.SHUT_WR)
             got = b""
             while piece := stream.recv(65536):
                 got += piece
@@ -153,6 +155,13 @@ def put(place, key, kind, value, *words):
     return place.json(f"/v1/keys/{key}", "-X", "PUT", "-d", json.dumps({"kind": kind, "value": value}), *words)
 
 
+def put_by_bytes(place, key, weight):
+    """The status and the object of the answer to a PUT of a weight, without a process of its own."""
+    body = json.dumps({"kind": "weight", "value": weight})
+    status, _, found = place.bytes(f"PUT /v1/keys/{key} HTTP/1.1\r\nHost: x\r\nContent-Length: {len(body)}\r\n\r\n{body}".encode())
+    return status, json.loads(found)
+
+
 def http_writes(check):
     """At a socket a node takes a write of each kind and a removal, and answers with its version; faults have their statuses; a port takes none."""
     if lacks_curl(check):
@@ -178,13 +187,20 @@ def http_writes(check):
         status, fields, body = place.curl("/v1/keys/k", "-X", method)
         want(f"{method} of a key", (status, dict(fields)["allow"], json.loads(body)), (405, "put, delete", {"error": "this path is only written"}))
     form = 'the body is JSON of this form: {"kind":"weight","value":5}'
-    for body in ("", "5", "{}", '{"kind":"weight"}', '{"kind":"weight","value":5,"x":1}', '{"kind":"weight","value":5', "\x00"):
+    for body in ("", "5", "{}", '{"kind":"weight"}', '{"kind":"weight","value":5,"x":1}', '{"kind":"weight","value":5', "\x01", 200 * "[", 900 * '{"value":'):
         refused(place, "/v1/keys/k", 400, form, None, "-X", "PUT", "-d", body)
     value = run(check.program, "set", "--control", str(node.control), "k", "flag", "x")[2].splitlines()[1]
     for kind, word in (("x", 5), (5, 5), ("weight", "5"), ("weight", -1), ("weight", 2**63), ("weight", 1.5), ("flag", "true"), ("addr", "a b"), ("text", ""), ("text", 513 * "x"), ("text", None)):
         status, found = put(place, "k", kind, word)
         want(f"the value {word!r} of {kind}", (status, found), (400, {"error": value, "fault": 4}))
     want("the longest text", put(place, "k", "text", 512 * "x"), (200, {"version": 8}))
+    head = b"PUT /v1/keys/k HTTP/1.1\r\nHost: x\r\n"
+    want("a longer body", place.bytes(head + b"Content-Length: 8193\r\n\r\n" + 8193 * b" ")[0], 413)
+    chunked = head + b"Transfer-Encoding: chunked\r\n\r\n8\r\n{\"kind\":\r\n14\r\n\"flag\",\"value\":true}\r\n0\r\n\r\n"
+    want("a body in chunks", place.bytes(chunked)[::2], (200, b'{"version":9}\n'))
+    want("half a body", place.bytes(head + b'Content-Length: 27\r\n\r\n{"kind":"weight"', ends=True)[0], 400)
+    twice = b'{"kind":"flag","value":4,"kind":"weight","value":6}'
+    want("members that come twice", place.bytes(head + b"Content-Length: 51\r\n\r\n" + twice)[::2], (200, b'{"version":10}\n'))
     key = run(check.program, "get", "--control", str(node.control), "--prefix", "A")[2].splitlines()[1]
     for path in ("/v1/keys/K", "/v1/keys/", f"/v1/keys/{65 * 'k'}", "/v1/keys?key=K"):
         refused(place, path, 400, key, 3, "-X", "DELETE")
@@ -194,7 +210,7 @@ def http_writes(check):
         it.start()
     for it in many:
         it.join()
-    want("the version after writes at once", put(place, "k", "weight", 5), (200, {"version": 79}))
+    want("the version after writes at once", put(place, "k", "weight", 5), (200, {"version": 81}))
     node.log.unlink()
     status, found = put(place, "k", "weight", 6)
     want("a PUT once the log is lost", (status, found["fault"]), (503, 15))
@@ -209,24 +225,24 @@ def http_first_writes(check):
         listener.bind(str(folder / "b.sock"))
         listener.listen()
         node, place = node_at(check, "a", folder / "a.http", "--dial-idle", "60000", "--pause", "200", folder=folder, peers=[folder / "b.sock"])
-        began, answers = time.monotonic(), []
-        callers = [threading.Thread(target=lambda count=count: answers.append((put(place, f"k{count}", "weight", count), time.monotonic() - began))) for count in range(9)]
+        answers, end = [], time.monotonic() + SECONDS
+        callers = [threading.Thread(target=lambda count=count: answers.append(put_by_bytes(place, f"k{count}", count))) for count in range(9)]
         for it in callers:
             it.start()
-        time.sleep(0.8)
-        want("who was turned away at once", sorted((status, found["fault"]) for (status, found), took in answers), [(503, 29), (503, 29)])
-        want("an answer beside those that wait", place.curl("/v1/owners")[0], 200)
+        while len(answers) < 2 and time.monotonic() < end:
+            time.sleep(0.01)
+        want("who was turned away before the others were answered", [(status, found.get("fault")) for status, found in answers], [(503, 29), (503, 29)])
+        want("an answer beside those that wait", place.curl("/v1/owners")[2], b'{"owners":[]}\n')
         for it in callers:
             it.join()
-        late = [it for it in answers if it[0][0] == 200]
-        want("the writes that waited", (sorted(it[0][1]["version"] for it in late), all(1 < it[1] < 8 for it in late)), (list(range(1, 8)), True))
+        want("the writes that waited", sorted((status, found.get("version")) for status, found in answers[2:]), [(200, version) for version in range(1, 8)])
         node, place = node_at(check, "c", folder / "c.http", "--dial-idle", "60000", "--pause", "200", "--rounds", "1", folder=folder, peers=[folder / "b.sock"])
         answers.clear()
-        caller = threading.Thread(target=lambda: answers.append(put(place, "k", "weight", 1)))
+        caller = threading.Thread(target=lambda: answers.append(put_by_bytes(place, "k", 1)))
         caller.start()
         time.sleep(0.3)
     caller.join()
-    want("a PUT at the end of its node", (answers[0][0], answers[0][1].get("fault", 15)) in ((503, 15), (200, 15)), True)
+    want("a PUT at the end of its node", [(status, found.get("fault")) in ((503, 15), (200, None)) for status, found in answers], [True])
     want("the end of that node", node.ended()[0], 0)
 
 

@@ -62,6 +62,15 @@ fn each_kind_is_written(rt: HostRuntime) {
     case(&rt, alloc, "PUT /v1/keys/k", addr, "200", one);
     let text = "{\"kind\":\"text\",\"value\":\"Gr\\u00fc\\u00dfe\\n\"}";
     case(&rt, alloc, "PUT /v1/keys/k", text, "200", one);
+    let twice = "{\"kind\":\"flag\",\"value\":4,\"kind\":\"weight\",\"value\":6}";
+    case(
+        &rt,
+        alloc,
+        "PUT /v1/keys/k",
+        twice,
+        "200",
+        "{\"version\":6}\n",
+    );
 }
 
 #[test]
@@ -78,6 +87,8 @@ fn a_body_that_is_no_value_is_refused(rt: HostRuntime) {
         "{\"kind\":\"weight\",\"value\":5",
         "{\"kind\":\"weight\",\"value\":5,\"x\":1}",
         "{\"kind\":\"weight\",\"values\":5}",
+        "{\"kind\":\"text\",\"value\":\"\\ud800\"}",
+        "{\"kind\":\"weight\",\"value\":5}5",
     ] {
         case(&rt, alloc, "PUT /v1/keys/k", sent, "400", form);
     }
@@ -89,6 +100,7 @@ fn a_body_that_is_no_value_is_refused(rt: HostRuntime) {
         "{\"kind\":\"weight\",\"value\":\"5\"}",
         "{\"kind\":\"weight\",\"value\":-1}",
         "{\"kind\":\"weight\",\"value\":5.5}",
+        "{\"kind\":\"weight\",\"value\":5e0}",
         "{\"kind\":\"weight\",\"value\":9223372036854775808}",
         "{\"kind\":\"flag\",\"value\":\"true\"}",
         "{\"kind\":\"addr\",\"value\":\"a b\"}",

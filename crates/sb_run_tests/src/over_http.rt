@@ -36,6 +36,7 @@ fn run_with_seats<R: Host + Net<Listener = TcpListener, Stream = TcpStream>>(
         settings: settings_with(rt, BUDGET_LEAST, seats, 1),
         paths: *paths,
         pace,
+        beat: None,
         forgotten: &[],
     };
     run_node(rt, alloc, config, new_log(rt, alloc, b"a"), &Nobody)
