@@ -128,7 +128,8 @@ fn refuse(alloc: Global, response: &mut Response, why: &Refusal) -> Result<(), A
         }
         Refusal::Bad(fault) => refuse_by(alloc, response, *fault),
         Refusal::BadParameters => {
-            let text = "the parameters are owner, prefix, after, wait and seen, or owner and key, or key for a write, each once";
+            let text =
+                "the parameters are owner, prefix, after, wait and seen, or owner and key, or key for a write, each once";
             refuse_with(alloc, response, StatusCode::BAD_REQUEST, text)
         }
         Refusal::BadBody => {
@@ -144,7 +145,10 @@ fn answer_page(response: &mut Response) -> Result<(), AllocError>
     requires { IsBlank response.old }
     ensures { OnOk result (HasPage response.new) }
 {
-    add_fields(response, HeaderValue::from_static("text/html; charset=utf-8"))?;
+    add_fields(
+        response,
+        HeaderValue::from_static("text/html; charset=utf-8"),
+    )?;
     let policy = HeaderValue::from_static(POLICY);
     response.add_header(header::CONTENT_SECURITY_POLICY, policy)?;
     response.body.push(Bytes::from_static(PAGE.as_bytes()))

@@ -14,6 +14,7 @@ use Rattle.sb_directory.specs.Serving.{IsLater}
 use Rattle.sb_http.specs.declared.backend.HeldOwner.{HeldOwner}
 use Rattle.sb_http.specs.Acts.{Act, asks, polls, lists, measures, fails}
 use Rattle.sb_codec.specs.declared.message.ask.Ask as asking
+use Rattle.sb_run.specs.HttpMarks.{IsMark}
 use Rattle.sb_run.specs.Control.{IsPageReply, IsLookedUp, IsUnknown}
 use Rattle.sb_run.specs.StatusReplies.{IsStatusReply}
 
@@ -52,9 +53,10 @@ AnswersQuestion opening settings before (kinds.Notice x) after reply = (after �
 AnswersQuestion opening settings before kinds.AskAges after reply = (after ≡ before) × IsUnknown reply
 AnswersQuestion opening settings before (kinds.Ages x) after reply = (after ≡ before) × IsUnknown reply
 
--- a poll is answered by a page of what the seat sees in the end, which is no less than before
-abbrev pub IsPolled : Node → ℕ → Seat → asking.Ask → Seat → Message → Type 0
-IsPolled opening budget before ask after reply = IsLater before after × IsLookedUp opening budget after.seen ask reply
+-- a poll is answered by a page of what the seat sees in the end, which is no less than before, with the mark of the same rows
+abbrev pub IsPolled : Node → ℕ → Seat → asking.Ask → Seat → Message → List ℕ → Type 0
+IsPolled opening budget before ask after reply mark =
+    IsLater before after × IsLookedUp opening budget after.seen ask reply × IsMark opening after.seen ask mark
 
 -- the owners of the view after these events
 abbrev pub AreOwnersAfter : Node → List Event → List HeldOwner → Type 0
@@ -63,7 +65,7 @@ AreOwnersAfter opening seen owners = (view : NodeView) × IsView (node_after ope
 -- what a call over HTTP reads or is answered, and what the seat has seen then
 abbrev pub Reads : Node → Settings → Seat → Act → Seat → Type 0
 Reads opening settings before (asks request reply) after = AnswersQuestion opening settings before request after reply
-Reads opening settings before (polls ask patience reply mark) after = IsPolled opening settings.budget before ask after reply
+Reads opening settings before (polls ask patience reply mark) after = IsPolled opening settings.budget before ask after reply mark
 Reads opening settings before (lists owners) after = IsLater before after × AreOwnersAfter opening after.seen owners
 Reads opening settings before (measures text) after = after ≡ before
 Reads opening settings before (fails fault) after = IsLater before after

@@ -1,7 +1,8 @@
 //! How a thread that answers over HTTP waits until the rows that are asked for are others than those that were seen.
-ghost use Rattle.std.specs.Prelude.{IfOk};
+ghost use Rattle.std.specs.Prelude.{◌≡◌, IfOk};
 ghost use Rattle.sb_directory.specs.Serving.{IsLater};
 ghost use Rattle.sb_run.specs.Control.{IsLookedUp};
+ghost use Rattle.sb_run.specs.HttpMarks as spec;
 ghost use Rattle.sb_run.specs.HttpReads.{IsPolled};
 
 use crate::accepting::deadline_after;
@@ -12,7 +13,7 @@ use sb_codec::Ask;
 use sb_directory::{DirectoryWatch, EnteredSeat, ReaderSeat};
 use sb_http::{MarkedReply, Patience};
 use sb_types::{Fault, Key};
-use sb_views::Snapshot;
+use sb_views::{LiveRows, Snapshot};
 use sb_watch::Filter;
 use std::alloc::Global;
 use std::hash::{BuildHasher, Hasher, RandomState};
@@ -26,23 +27,32 @@ const CHANGE_PAUSE: u64 = 5;
 /// How many notes the watch of a poll has room for: one says that something changed.
 const NOTES_OF_ONE: usize = 1;
 
-/// The mark of the rows that are asked for: a hash of the owner, the key and the version of each, by keys of this run. So in another
-/// run the same rows have another mark. `NoMemory`.
+/// The hash of the owner, the key and the version of each row.
+fn hash_of(keys: RandomState, rows: LiveRows<'_>) -> u64
+    ensures { result ≡ spec.hash_of keys rows.entry }
+{
+    let mut hasher = keys.build_hasher();
+    for row in rows {
+        hasher.write(row.owner.bytes());
+        hasher.write_u8(b' ');
+        hasher.write(row.key.bytes());
+        hasher.write_u8(b' ');
+        hasher.write_u64(row.live.version());
+    }
+    hasher.finish()
+}
+
+/// The mark of all rows that are asked for, by keys of this run. So in another run the same rows have another mark. `NoMemory`.
 fn mark_of(
     alloc: Global,
     keys: RandomState,
     snapshot: &Snapshot<'_>,
     ask: &Ask,
-) -> Result<Key, Fault> {
-    let mut hasher = keys.build_hasher();
-    for row in snapshot.rows(ask.owner, ask.prefix) {
-        hasher.write(row.owner.bytes());
-        hasher.write(b" ");
-        hasher.write(row.key.bytes());
-        hasher.write(b" ");
-        hasher.write(&row.live.version().to_le_bytes());
-    }
-    let text = format!(in alloc; "{:016x}", hasher.finish())?;
+) -> Result<Key, Fault>
+    ensures { IfOk result (λ mark. mark ≡ spec.mark_of keys ask.now snapshot.now) }
+{
+    let hash = hash_of(keys, snapshot.rows(ask.owner, ask.prefix));
+    let text = format!(in alloc; "{hash}")?;
     Key::read(text.as_bytes())
 }
 
@@ -62,7 +72,8 @@ impl<S: RoundsTag, H: Wait + Drop, Q: Wait + Clock> NodeContext<'_, S, H, Q> {
         entered: &EnteredSeat<S>,
         ask: &Ask,
     ) -> Result<MarkedReply, Fault>
-        ensures { IfOk result (λ found. IsLookedUp S.opening S.settings.budget entered.now.seen ask.now found.reply) }
+        ensures page { IfOk result (λ found. IsLookedUp S.opening S.settings.budget entered.now.seen ask.now found.reply) }
+        ensures mark { IfOk result (λ found. spec.IsMark S.opening entered.now.seen ask.now found.mark) }
     {
         let mark = mark_of(self.alloc, keys, &entered.snapshot(), ask)?;
         let reply = look_up(self.alloc, self.directory.settings(), entered, ask);
@@ -76,7 +87,7 @@ impl<S: RoundsTag, H: Wait + Drop, Q: Wait + Clock> NodeContext<'_, S, H, Q> {
         seat: ReaderSeat<S>,
         ask: &Ask,
     ) -> (ReaderSeat<S>, Result<MarkedReply, Fault>)
-        ensures polled { IfOk result.1 (λ found. IsPolled S.opening S.settings.budget seat ask.now result.0 found.reply) }
+        ensures polled { IfOk result.1 (λ found. IsPolled S.opening S.settings.budget seat ask.now result.0 found.reply found.mark) }
         ensures later { IsLater seat result.0 }
     {
         match seat.enter() {
@@ -118,7 +129,7 @@ impl<S: RoundsTag, H: Wait + Drop, Q: Wait + Clock> NodeContext<'_, S, H, Q> {
         seen: Key,
         until: Option<Instant>,
     ) -> (ReaderSeat<S>, Result<MarkedReply, Fault>)
-        ensures polled { IfOk result.1 (λ found. IsPolled S.opening S.settings.budget seat ask.now result.0 found.reply) }
+        ensures polled { IfOk result.1 (λ found. IsPolled S.opening S.settings.budget seat ask.now result.0 found.reply found.mark) }
         ensures later { IsLater seat result.0 }
     {
         let filter = Filter {
@@ -147,7 +158,7 @@ impl<S: RoundsTag, H: Wait + Drop, Q: Wait + Clock> NodeContext<'_, S, H, Q> {
         seen: Key,
         until: Option<Instant>,
     ) -> (ReaderSeat<S>, Result<MarkedReply, Fault>)
-        ensures polled { IfOk result.1 (λ found. IsPolled S.opening S.settings.budget seat ask.now result.0 found.reply) }
+        ensures polled { IfOk result.1 (λ found. IsPolled S.opening S.settings.budget seat ask.now result.0 found.reply found.mark) }
         ensures later { IsLater seat result.0 }
     {
         let mut current = seat;
@@ -169,7 +180,7 @@ impl<S: RoundsTag, H: Wait + Drop, Q: Wait + Clock> NodeContext<'_, S, H, Q> {
         ask: &Ask,
         patience: &Patience,
     ) -> (ReaderSeat<S>, Result<MarkedReply, Fault>)
-        ensures polled { IfOk result.1 (λ found. IsPolled S.opening S.settings.budget seat ask.now result.0 found.reply) }
+        ensures polled { IfOk result.1 (λ found. IsPolled S.opening S.settings.budget seat ask.now result.0 found.reply found.mark) }
         ensures later { IsLater seat result.0 }
     {
         let Some(socket) = &self.sockets.http else {

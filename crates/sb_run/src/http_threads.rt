@@ -173,7 +173,7 @@ impl<S: RoundsTag, H: Wait + Drop, Q: Wait + Clock, O: Observer> Backend
             &mut self.seat,
             (self.node, ask, patience),
             |seat, (node, ask, patience)| -> (ReaderSeat<S>, Result<MarkedReply, Fault>)
-                ensures polled { IfOk result.1 (λ found. IsPolled S.opening S.settings.budget seat ask.entry.now result.0 found.reply) }
+                ensures polled { IfOk result.1 (λ found. IsPolled S.opening S.settings.budget seat ask.entry.now result.0 found.reply found.mark) }
                 ensures later { IsLater seat result.0 }
             { node.poll(seat, ask, patience) },
         )
