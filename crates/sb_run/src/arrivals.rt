@@ -10,7 +10,7 @@ use crate::node::Pace;
 use crate::pool::{Source, Taken};
 use crate::sockets::{Timed, blocking_stream, limit};
 use crate::threads::EndFlag;
-use crossbeam_channel::{Receiver, RecvTimeoutError, Sender, bounded};
+use crossbeam_channel::{Receiver, RecvTimeoutError, Sender, TrySendError, bounded};
 use mio::net;
 use sb_codec::{Ask, Message};
 use sb_types::{Fault, Name, Write};
@@ -185,13 +185,28 @@ impl OwnerSender {
 }
 
 impl WriteSender {
-    /// Hands a write to the calling thread, and says whether there was room.
-    pub(crate) fn give<R: Wait>(&self, rt: &R, write: Write, to: AnswerSender) -> bool {
+    /// Hands a write to the calling thread. `TurnsSpent` if too many wait, or `NoMemory`: then the write is not made. `Closed` if the
+    /// calling thread has ended, or if nothing can report the arrival to it: then nobody answers the write.
+    pub(crate) fn give<R: Wait>(
+        &self,
+        rt: &R,
+        write: Write,
+        to: AnswerSender,
+    ) -> Result<(), Fault> {
         let request = Request {
             message: Message::Put(write),
             caller: Caller::Worker(to),
         };
-        self.writes.try_send(rt, request).is_ok() && self.arrivals.try_send(rt, ()).is_ok()
+        match self.writes.try_send(rt, request) {
+            Ok(()) => {}
+            Err(TrySendError::Full(_)) => return Err(Fault::TurnsSpent),
+            Err(TrySendError::OutOfMemory(_)) => return Err(Fault::NoMemory),
+            Err(TrySendError::Disconnected(_)) => return Err(Fault::Closed),
+        }
+        if self.arrivals.try_send(rt, ()).is_err() {
+            return Err(Fault::Closed);
+        }
+        Ok(())
     }
 }
 

@@ -108,6 +108,7 @@ impl<S: RoundsTag, H: Wait + Drop, Q: Wait + Clock> NodeContext<'_, S, H, Q> {
     ) -> (ReaderSeat<S>, bool)
         ensures closes { (L.seen writes.old.log).is_open ≡ true → (L.seen writes.new.log).is_open ≡ false → writes.new.has_failed ≡ true }
         ensures answers { AnswersTo L.seen S.opening S.settings writes.old.log writes.old.owed seat message.now writes.new.log writes.new.owed result.0 result.1 }
+        ensures still { result.1 ≡ true → (writes.new.log ≡ writes.old.log) × (writes.new.owed ≡ writes.old.owed) × (result.0 ≡ seat) }
     {
         match message {
             Message::Put(write) => {

@@ -14,9 +14,7 @@ use core::mem::replace_with;
 use http_server::Config;
 use sb_codec::{Ask, Message};
 use sb_directory::{EnteredSeat, ReaderSeat};
-use sb_http::{
-    Backend, Door, HeldOwner, HttpService, MarkedReply, Patience, serve_connection,
-};
+use sb_http::{Backend, Door, HeldOwner, HttpService, MarkedReply, Patience, serve_connection};
 use sb_types::{Fault, Write};
 use sb_views::{NodeTag, Snapshot};
 use std::alloc::Global;

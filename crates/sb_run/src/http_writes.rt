@@ -175,10 +175,9 @@ impl WriteDesk {
         let Ok((to, from)) = bounded::<WriteAnswer, Global>(alloc, 1) else {
             return refused_by(Fault::NoMemory);
         };
-        if self.sender.give(rt, write, AnswerSender { to }) {
-            await_answer(rt, ending, &from)
-        } else {
-            refused_by(Fault::TurnsSpent)
+        match self.sender.give(rt, write, AnswerSender { to }) {
+            Ok(()) => await_answer(rt, ending, &from),
+            Err(fault) => refused_by(fault),
         }
     }
 }

@@ -596,7 +596,7 @@ impl EndFlag {
     /// Ends the node: wakes the thread that accepts, and its end is that of what the workers and the calling thread wait for.
     pub(crate) fn raise(&self, sockets: &BoundSockets) {
         self.flag.store(true, Ordering::SeqCst);
-        sockets.wake();
+        sockets.wake_for_end();
     }
 }
 
