@@ -25,4 +25,4 @@ mark_of keys ask view = decimal (hash_of keys (rows_in ask.owner ask.prefix view
 
 -- it is made by some keys, which are those of the run
 abbrev pub IsMark : Node → List Event → asking.Ask → List ℕ → Type 0
-IsMark opening seen ask mark = (keys : RandomState) (view : NodeView) × IsView (node_after opening seen) view × (mark ≡ mark_of keys ask view)
+IsMark opening seen ask mark = (keys : RandomState) × (view : NodeView) × IsView (node_after opening seen) view × (mark ≡ mark_of keys ask view)
