@@ -15,3 +15,4 @@ pub mod LeavingOut
 pub mod AskedDigests
 pub mod AuditedSeats
 pub mod WriteReplies
+pub mod HttpPolls
