@@ -43,8 +43,8 @@ def until(what, test):
 
 # one thread makes all rounds and brings all news
 ALONE = ("--workers", "2", "--seats", "4")
-# in seconds each way, so that news has come again by the end of each push
-SLOW = 0.05
+# in seconds each way, so that news has come again by the end of each push, also on a slow machine
+SLOW = 0.15
 # how many times another peer may be dialed, at most, until it is the turn of one that listens again. It is some ten times: two rounds, two audits, and
 # news in two pauses. A slow machine has time for more news.
 DIALS = 100
@@ -53,14 +53,14 @@ DIALS = 100
 def steady_news(check):
     """News is pushed to one peer all the time. A peer that was down is dialed again in its turn, rounds, audits and metrics go on, and so does the look
     at the file of the log. That is so too if one thread makes all of it, also if there is always news by the time it has pushed some."""
-    look_under_steady_news(check, 0)
+    look_under_steady_news(check, 0, 5)
     check.stop()
-    look_under_steady_news(check, 0, *ALONE)
+    look_under_steady_news(check, 0, 5, *ALONE)
     check.stop()
-    look_under_steady_news(check, SLOW, *ALONE)
+    look_under_steady_news(check, SLOW, 2, *ALONE)
 
 
-def look_under_steady_news(check, seconds, *options):
+def look_under_steady_news(check, seconds, count, *options):
     folder = check.folder()
     path = folder / "a.prom"
     link = SlowProxy(folder / "link.sock", check.node("b", "--pause", "100", folder=folder).start().sock, seconds)
@@ -69,13 +69,15 @@ def look_under_steady_news(check, seconds, *options):
     node = check.node("a", *given, *options, folder=folder, peers=[link.path, late.sock]).start()
     with steady_writes(node) as versions:
         until("a peer that does not answer", lambda: any(f"peer {late.sock}: does not answer" in it for it in node.lines()))
-        first = awaits(path, "a", {("attrdir_peer_up", str(late.sock)): 0}, lambda found: found["attrdir_pushes_total",] > 5)
+        written, dialed = len(versions), link.count
+        until("the news for the other peer", lambda: link.count > dialed + count)
         is_dialed(late.sock, link)
+        first = awaits(path, "a", {("attrdir_peer_up", str(late.sock)): 0})
         late.start()
-        late.awaits("rows of a", lambda rows: len(rows) == 20)
-        wanted = {name: first[name,] + 5 for name in ("attrdir_rounds_total", "attrdir_audits_total", "attrdir_pushes_total")}
+        late.awaits("rows of a", lambda rows: rows != [])
+        wanted = {name: first[name,] + count for name in ("attrdir_rounds_total", "attrdir_audits_total", "attrdir_pushes_total")}
         awaits(path, "a", {("attrdir_peer_up", str(late.sock)): 1}, lambda found: all(found[name,] > least for name, least in wanted.items()))
-        want("whether writes go on", len(versions) > 50, True)
+        want("whether writes go on", len(versions) > written, True)
         node.log.rename(node.log.with_name("moved.log"))
         until("the line of a log that was removed", lambda: any("fault 18: its file was removed" in it for it in node.lines()))
     want("versions", versions, list(range(1, len(versions) + 1)))
@@ -101,7 +103,7 @@ def steady_end(check):
     """A node with --rounds ends although somebody writes all the time, also if one thread dials and there is always news."""
     end_under_steady_news(check, 0, "--rounds", "40")
     check.stop()
-    end_under_steady_news(check, SLOW, "--rounds", "6", *ALONE)
+    end_under_steady_news(check, SLOW, "--rounds", "4", *ALONE)
 
 
 def end_under_steady_news(check, seconds, *options):
