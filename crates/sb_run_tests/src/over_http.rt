@@ -24,7 +24,7 @@ const DELETE_W: &str = "DELETE /v1/keys/w HTTP/1.1\r\nHost: x\r\n\r\n";
 /// The question for all rows.
 const GET_ROWS: &str = "GET /v1/rows HTTP/1.1\r\nHost: x\r\n\r\n";
 
-/// Runs the node a with so many seats, of which four are for other threads.
+/// Runs the node a with so many seats. Four are for other threads.
 fn run_with_seats<R: Host + Net<Listener = TcpListener, Stream = TcpStream>>(
     rt: &R,
     alloc: Global,
