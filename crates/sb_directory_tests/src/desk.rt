@@ -38,7 +38,7 @@ pub(crate) enum Call {
     /// A delta of one block of b with this range is taken. It has what b wrote under these letters, from the version after
     /// the number on.
     Part(Range, u64, &'static [u8]),
-    /// The delta of b for the node's own digest is taken. b has both writes of the log, also one that the node did not take.
+    /// The delta of b for the node's own digest is taken. A node b has both writes of the log. The node took only the first.
     DeltaOfPeer,
     /// A watch of the keys with a prefix is added, with room for so many notes.
     Watch(&'static [u8], usize),
