@@ -55,27 +55,34 @@ fn staged(rt: &impl Abort, alloc: Global, numbers: Numbers) -> Stage {
     stage
 }
 
-/// Asserts that a stage of these keys, which has come to this version, leaves just them.
-fn assert_swaps(rt: &impl Abort, alloc: Global, table: &Table, numbers: Numbers, progress: u64) {
+/// Asserts that a stage of these keys, which has come to this version, leaves just them of a table of 4,096. The table and
+/// the stage stay as they are.
+fn assert_swaps(rt: &impl Abort, alloc: Global, numbers: Numbers, progress: u64) {
+    let table = got(
+        rt,
+        Table::restored(alloc, 4_096, 0, entries(rt, alloc, HELD)),
+    );
     let stage = staged(rt, alloc, numbers);
-    let new = got(rt, swapped(alloc, table, &stage));
+    let new = got(rt, swapped(alloc, &table, &stage));
     same(rt, &(new.upto(), new.floor()), &(progress, 5_000));
     assert_has(rt, &new, numbers);
+    assert_has(rt, &table, HELD);
+    same(rt, &stage.progress(), &progress);
 }
 
-/// Half of the keys stay and the others are new; all are written again; and all are new.
 #[test]
-fn a_stage_of_4096_keys_takes_the_place_of_4096(rt: HostRuntime) {
-    let alloc = rt.alloc();
-    let table = got(
-        &rt,
-        Table::restored(alloc, 4_096, 0, entries(&rt, alloc, HELD)),
-    );
-    assert_has(&rt, &table, HELD);
-    assert_swaps(&rt, alloc, &table, (2_049, 6_144, 0), 6_144);
-    assert_swaps(&rt, alloc, &table, (1, 4_096, 4_096), 8_192);
-    assert_swaps(&rt, alloc, &table, (4_097, 8_192, 0), 8_192);
-    assert_has(&rt, &table, HELD);
+fn a_stage_brings_2048_keys_and_keeps_2048(rt: HostRuntime) {
+    assert_swaps(&rt, rt.alloc(), (2_049, 6_144, 0), 6_144);
+}
+
+#[test]
+fn a_stage_writes_4096_keys_again(rt: HostRuntime) {
+    assert_swaps(&rt, rt.alloc(), (1, 4_096, 4_096), 8_192);
+}
+
+#[test]
+fn a_stage_brings_4096_other_keys(rt: HostRuntime) {
+    assert_swaps(&rt, rt.alloc(), (4_097, 8_192, 0), 8_192);
 }
 
 /// The floor of a block, `after`, and `upto`.
