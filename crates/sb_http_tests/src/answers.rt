@@ -55,7 +55,13 @@ fn polls_have_a_mark(rt: HostRuntime) {
     let first = got(&rt, format!(in alloc; "{rows}\"first\"}}\n"));
     case(&rt, alloc, "/v1/rows?wait=0s", "200", first.as_str());
     let again = got(&rt, format!(in alloc; "{rows}\"0af\"}}\n"));
-    case(&rt, alloc, "/v1/rows?owner=a&seen=0af&wait=30s", "200", again.as_str());
+    case(
+        &rt,
+        alloc,
+        "/v1/rows?owner=a&seen=0af&wait=30s",
+        "200",
+        again.as_str(),
+    );
     let spent =
         "{\"error\":\"the reads, calls or events that were allowed are spent\",\"fault\":29}\n";
     case(&rt, alloc, "/v1/rows?wait=60s&seen=x", "503", spent);
@@ -137,7 +143,8 @@ fn a_port_takes_local_hosts(rt: HostRuntime) {
 fn the_page_is_answered(rt: HostRuntime) {
     let found = answer(&rt, rt.alloc(), "/");
     let text = str::from_utf8(&found).unwrap_or("");
-    let head = "HTTP/1.1 200 OK\r\nconnection: close\r\ncache-control: no-store\r\nx-content-type-options: nosniff\r\ncontent-type: text/html; charset=utf-8\r\ncontent-security-policy: default-src 'none'; script-src 'sha256-";
+    let head =
+        "HTTP/1.1 200 OK\r\nconnection: close\r\ncache-control: no-store\r\nx-content-type-options: nosniff\r\ncontent-type: text/html; charset=utf-8\r\ncontent-security-policy: default-src 'none'; script-src 'sha256-";
     same(&rt, &text.starts_with(head), &true);
     same(&rt, &body(&found).starts_with("<!doctype html>\n"), &true);
     same(&rt, &body(&found).ends_with("</html>\n"), &true);

@@ -1,9 +1,7 @@
 //! A backend with two rows that takes writes, and what comes out of a connection for the bytes that come in.
 
 use sb_codec::{Ask, Done, Message, Refused, Row, Rows};
-use sb_http::{
-    Backend, Door, HeldOwner, HttpService, MarkedReply, Patience, serve_connection,
-};
+use sb_http::{Backend, Door, HeldOwner, HttpService, MarkedReply, Patience, serve_connection};
 use sb_types::{Fault, Key, Name, Slot, Value, ValueRef, Write};
 use std::alloc::Global;
 use std::hash::RandomState;
