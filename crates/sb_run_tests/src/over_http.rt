@@ -8,7 +8,7 @@ use crate::{got, same};
 use sb_run::{Nobody, NodeConfig, Pace, Paths, Ran, run_node};
 use sb_types::{BUDGET_LEAST, Fault};
 use std::alloc::Global;
-use std::io::{Read, Write};
+use std::io::Write;
 use std::net::{Net, TcpListener, TcpStream};
 use std::os::unix::net::{UnixListener, UnixStream};
 use std::process::Abort;
@@ -24,7 +24,7 @@ const DELETE_W: &str = "DELETE /v1/keys/w HTTP/1.1\r\nHost: x\r\n\r\n";
 /// The question for all rows.
 const GET_ROWS: &str = "GET /v1/rows HTTP/1.1\r\nHost: x\r\n\r\n";
 
-/// Runs the node a with so many seats. Four are for other threads.
+/// Runs the node a with so many seats. Three are for other threads, and each more is for one that answers over HTTP.
 fn run_with_seats<R: Host + Net<Listener = TcpListener, Stream = TcpStream>>(
     rt: &R,
     alloc: Global,
