@@ -20,7 +20,7 @@ ask() {
         127.0.0.1:* | "[::1]:"*) set -- "http://$address$1" ;;
         *) set -- "http://localhost$1" --unix-socket "$address" ;;
     esac
-    answer=$(curl -sS -g -m 90 -w '\n%{http_code}' "$@") || return
+    answer=$(curl -sS -g -m 90 --noproxy '*' -w '\n%{http_code}' "$@") || return
     code=${answer##*"$line"} body=${answer%"$line"*}
     body=${body%"$line"}
     [ "$code" = 200 ] || { printf '%s\n' "status $code: $body" >&2 && return 3; }
