@@ -295,6 +295,15 @@ def http_metrics(check):
     want("metrics without a file", b'attrdir_rounds_total{node="c"}' in at_alone.curl("/metrics")[2], True)
 
 
+def http_scrape(check):
+    """promtool finds nothing wrong with examples/prometheus.yml, and reads the alerts that it names."""
+    if shutil.which("promtool") is None:
+        check.lacking.add("promtool is here, so examples/prometheus.yml was not read by it")
+        return
+    status, printed, said = run("promtool", "check", "config", str(ROOT / "examples/prometheus.yml"))
+    want("what promtool says of examples/prometheus.yml", (status, printed.count("SUCCESS"), said), (0, 3, ""))
+
+
 def http_polls(check):
     """A poll waits for rows that are asked for, answers soon after one came, changed or went, and not for others; four wait at once, and not after a restart."""
     if lacks_curl(check):
@@ -558,4 +567,4 @@ def http_examples(check):
         want(f"the example {line}", place.curl(f"/{path}", *[it for it in words if it != "-s"])[2].decode(), wanted + "\n")
 
 
-PARTS = (http_rows, http_owners, http_writes, http_first_writes, http_health, http_metrics, http_polls, http_page, http_refusals, http_bounds, http_silence, http_crowd, http_places, http_examples)
+PARTS = (http_rows, http_owners, http_writes, http_first_writes, http_health, http_metrics, http_scrape, http_polls, http_page, http_refusals, http_bounds, http_silence, http_crowd, http_places, http_examples)
