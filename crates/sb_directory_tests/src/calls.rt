@@ -112,9 +112,9 @@ fn replaced_tables_are_noted(rt: HostRuntime) {
 /// after y. A watch of x sees only the first, and one with room for a note the last.
 #[test]
 fn watches_see_a_stage_once_it_is_whole(rt: HostRuntime) {
-    let clear = cleared(&rt, b"b", 5);
+    let (clear, clear_of_x) = (cleared(&rt, b"b", 5), cleared(&rt, b"b", 5));
     let (third, fourth) = (noted(&rt, b"b", b"z", 3), noted(&rt, b"b", b"w", 4));
-    let empty = Answer::Polled(Polled::Empty);
+    let last = noted(&rt, b"b", b"w", 4);
     let cases = [
         (Call::Delta(b"b", 0, b"xy"), taken(2)),
         (Call::Watch(b"", 8), Answer::Done),
@@ -122,9 +122,9 @@ fn watches_see_a_stage_once_it_is_whole(rt: HostRuntime) {
         (Call::Watch(b"", 1), Answer::Done),
         (Call::Part((5, 0, 3), 1, b"yz"), taken(2)),
         (Call::HasNote(0), Answer::HasNote(false, false)),
-        (Call::Poll(0), empty),
-        (Call::Poll(1), empty),
-        (Call::Poll(2), empty),
+        (Call::Poll(0), Answer::Polled(Polled::Empty)),
+        (Call::Poll(1), Answer::Polled(Polled::Empty)),
+        (Call::Poll(2), Answer::Polled(Polled::Empty)),
         (Call::Rows, Answer::Rows(2)),
         (Call::Read, Answer::Read(2, 0, 2)),
         (Call::Part((5, 3, 5), 3, b"w"), taken(1)),
@@ -132,13 +132,13 @@ fn watches_see_a_stage_once_it_is_whole(rt: HostRuntime) {
         (Call::Poll(0), clear),
         (Call::Poll(0), third),
         (Call::Poll(0), fourth),
-        (Call::Poll(0), empty),
+        (Call::Poll(0), Answer::Polled(Polled::Empty)),
         (Call::HasNote(0), Answer::HasNote(false, true)),
-        (Call::Poll(1), clear),
-        (Call::Poll(1), empty),
+        (Call::Poll(1), clear_of_x),
+        (Call::Poll(1), Answer::Polled(Polled::Empty)),
         (Call::Poll(2), Answer::Polled(Polled::Lagged(2))),
-        (Call::Poll(2), fourth),
-        (Call::Poll(2), empty),
+        (Call::Poll(2), last),
+        (Call::Poll(2), Answer::Polled(Polled::Empty)),
         (Call::HasNote(2), Answer::HasNote(false, false)),
         (Call::Rows, Answer::Rows(3)),
         (Call::Read, Answer::Read(3, 0, 5)),
