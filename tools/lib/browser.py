@@ -62,7 +62,7 @@ class Browser:
         while (found := self.message(end)).get("id") != number:
             self.told.append(found)
         if "error" in found:
-            raise Difference(f"{method}: {found[error]}")
+            raise Difference(f"{method}: {found['error']}")
         return found["result"]
 
     def open(self, address):
@@ -72,7 +72,7 @@ class Browser:
         """The value of an expression in the page."""
         found = self.ask("Runtime.evaluate", expression=expression, returnByValue=True, awaitPromise=True)
         if "exceptionDetails" in found:
-            raise Difference(f"{expression}: {found[exceptionDetails]}")
+            raise Difference(f"{expression}: {found['exceptionDetails']}")
         return found["result"].get("value")
 
     def awaits(self, what, expression, seconds=SECONDS):
@@ -80,7 +80,7 @@ class Browser:
         began = time.monotonic()
         while not self.value(expression):
             if time.monotonic() - began > seconds:
-                raise Difference(f"{what} did not come about in {seconds} s: {self.value(document.body.innerText)}")
+                raise Difference(f"{what} did not come about in {seconds} s: {self.value('document.body.innerText')}")
             time.sleep(0.01)
         return time.monotonic() - began
 
