@@ -2,7 +2,7 @@
 
 use crate::making::{new_log, settings_with};
 use crate::peers::{next_of, reach, talk};
-use crate::running::{Host, pace, paths_of};
+use crate::running::{Host, pace};
 use crate::waking::silent_b;
 use crate::{got, same};
 use sb_run::{Nobody, NodeConfig, Pace, Paths, Ran, run_node};
@@ -23,6 +23,16 @@ const DELETE_W: &str = "DELETE /v1/keys/w HTTP/1.1\r\nHost: x\r\n\r\n";
 
 /// The question for all rows.
 const GET_ROWS: &str = "GET /v1/rows HTTP/1.1\r\nHost: x\r\n\r\n";
+
+/// The paths of a node that answers over HTTP too, and of its peers.
+fn paths_with_http<'a>(peers: &'a [&'a str]) -> Paths<'a> {
+    Paths {
+        sock: "http.sock",
+        control: "http.control",
+        peers,
+        http: Some("http.socket"),
+    }
+}
 
 /// Runs the node a with four seats: three are for other threads, and one is for a thread that answers over HTTP.
 fn run_with_http<R: Host + Net<Listener = TcpListener, Stream = TcpStream>>(
@@ -77,9 +87,7 @@ fn write_and_read<R: Net + Abort>(
 
 #[test]
 fn writes_over_http_are_made(rt: HostRuntime) {
-    let peers = ["http.b"];
-    let mut paths = paths_of("http.sock", "http.control", &peers);
-    paths.http = Some("http.socket");
+    let paths = paths_with_http(&["http.b"]);
     let alloc = rt.alloc();
     let listener = got(&rt, UnixListener::bind(&rt, "http.b"));
     let (ran, [put, rows, removed, again]) = thread::join(
