@@ -15,8 +15,6 @@ mod hearing;
 #[cfg(test)]
 mod making;
 #[cfg(test)]
-mod over_http;
-#[cfg(test)]
 mod peers;
 #[cfg(test)]
 mod pushing;
