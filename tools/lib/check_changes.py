@@ -4,6 +4,7 @@ import json
 import statistics
 import time
 
+from check_http import free_port, node_at
 from check_scripts import tell
 from check_watch import Watching
 from nodes import BYE, SECONDS, Difference, connect, delta, frame, hello, number, read_frame, run, text, want
@@ -196,4 +197,20 @@ def beats(check):
     want("a word that is no key", (found[0], found[1], found[2].splitlines()[0]), (3, "", "fault 3"))
 
 
-PARTS = (notices, many, cleared, over_restarts, soon, owner_ages, beats)
+def watched_beside_http(check):
+    """A change for which a caller waited leaves the socket for HTTP as it was, at a path and at a port."""
+    folder = check.folder()
+    for name, at in (("a", folder / "a.http"), ("b", free_port())):
+        node, place = node_at(check, name, at, folder=folder)
+        stream, first = ask_for_change(node)
+        want("the first answer", first, (0x18, b"\x01"))
+        want("set", node.put("k", 1), 1)
+        want("the answer to a change", read_frame(stream), (0x18, b"\x02"))
+        host = "localhost" if name == "a" else f"127.0.0.1:{at}"
+        for _ in range(10):
+            status, _, body = place.bytes(f"GET /v1/rows?key=k&owner={name} HTTP/1.1\r\nhost: {host}\r\n\r\n".encode())
+            want("the row over HTTP", (status, json.loads(body)["version"]), (200, 1))
+        stream.close()
+
+
+PARTS = (notices, many, cleared, over_restarts, soon, owner_ages, beats, watched_beside_http)

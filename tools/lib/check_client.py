@@ -1,8 +1,11 @@
-"""A part of tools/check-node: the client of examples/clients. It asks nodes that run and made-up ones, and what it returns is compared with what the
-program's own commands print."""
+"""A part of tools/check-node: the clients of examples/clients. They ask nodes that run and made-up ones, and what they return is compared with what
+the program's own commands print."""
 import ast
 import importlib.util
 import json
+import os
+import re
+import signal
 import socket
 import subprocess
 import sys
@@ -11,23 +14,23 @@ import time
 from queue import Empty, Queue
 
 from check_asking import MadeUp, done, refused, rows, texts
+from check_http import free_port, lacks_curl, node_at
 from check_scripts import tell
 from check_status import ASK_STATUS, NODE_STATUS
-from check_watch import VALUES
+from check_watch import VALUES, Watching
 from nodes import BYE, FRAME_FRONT, ROOT, SECONDS, Difference, frame, number, run, text, want
 
-CLIENT = ROOT / "examples" / "clients" / "attrdir.py"
+CLIENT, HTTP_CLIENT, SHELL_CLIENT = (ROOT / "examples" / "clients" / it for it in ("attrdir.py", "attrdir_http.py", "attrdir_http.sh"))
 
 
-def client():
-    """The module of the client."""
-    spec = importlib.util.spec_from_file_location("attrdir_client", CLIENT)
+def module_of(path):
+    spec = importlib.util.spec_from_file_location(f"{path.stem}_client", path)
     module = importlib.util.module_from_spec(spec)
     spec.loader.exec_module(module)
     return module
 
 
-CLIENT_MODULE = client()
+CLIENT_MODULE = module_of(CLIENT)
 Fault = CLIENT_MODULE.Fault
 
 
@@ -259,14 +262,147 @@ def client_faults(check):
 
 
 def client_alone(check):
-    """The client is plain Python 3.8, and imports nothing but the standard library."""
-    tree = ast.parse(CLIENT.read_text(), feature_version=(3, 8))
-    imports = [alias.name for it in ast.walk(tree) if isinstance(it, ast.Import) for alias in it.names]
-    imports += [it.module for it in ast.walk(tree) if isinstance(it, ast.ImportFrom)]
-    there = set("argparse io json os re socket struct time typing collections".split())
-    want("what it imports", sorted(set(imports) - there), [])
+    """Both clients in Python are plain Python 3.8, and import nothing but the standard library."""
+    for path in (CLIENT, HTTP_CLIENT):
+        tree = ast.parse(path.read_text(), feature_version=(3, 8))
+        imports = [alias.name for it in ast.walk(tree) if isinstance(it, ast.Import) for alias in it.names]
+        imports += [it.module for it in ast.walk(tree) if isinstance(it, ast.ImportFrom)]
+        there = set("argparse http.client io json os re socket struct time typing collections urllib.parse".split())
+        want(f"what {path.name} imports", sorted(set(imports) - there), [])
+
+
+# ---- the clients over HTTP
+
+
+def by_http(place, *words):
+    """The status, what was printed and what was said by the client in Python over HTTP."""
+    return run(sys.executable, str(HTTP_CLIENT), "--http", str(place), *words)
+
+
+def by_shell(place, *words):
+    """The same by the reader in shell."""
+    return run("sh", str(SHELL_CLIENT), str(place), *words)
+
+
+class WatchingByHttp(Watching):
+    """A client over HTTP that watches."""
+
+    def __init__(self, *words, **how):
+        self.start(list(map(str, words)), start_new_session=True, **how)
+
+    def stop(self):
+        # (with the curl that it waits for)
+        os.killpg(self.ran.pid, signal.SIGTERM)
+        self.ran.wait(SECONDS)
+
+
+def http_client_rows(check):
+    """The clients over HTTP print the rows that `attrdir get` prints, on all pages, at a socket and at a port. The one in Python writes too."""
+    if lacks_curl(check):
+        return
+    folder = check.folder()
+    node, _ = node_at(check, "a", folder / "a.http", "--budget", "1024", folder=folder)
+    port = f"127.0.0.1:{free_port()}"
+    other = check.node("b", "--http", port, "--budget", "1024", "--pause", "100", folder=folder, peers=[node.sock]).start()
+    asked = module_of(HTTP_CLIENT).Node(str(folder / "a.http"))
+    for at, (kind, _, value) in enumerate(VALUES, 1):
+        want(f"the version of {value!r}", asked.set(f"k/{at:02}._-", kind, value), at)
+    for at, value in enumerate(("},{", '},{"key":"b","owner":"b"', ',"more":true,', "],", '"],"rows":[{"', "\\"), at + 1):
+        want(f"the version of {value!r}", asked.set("x/../y", "text", value) and asked.set(f"n/{at}", "text", value), 2 * at - len(VALUES))
+    for at in range(60):
+        node.put(f"many/{at:03}", at)
+    count = len(node.get())
+    other.awaits("all rows", lambda found: len(found) == count)
+    whole = lambda *words: node.command("get", "--format", "json", *words)[1]
+    for place, printed in ((folder / "a.http", whole()), (port, whole())):
+        want(f"rows at {place}", by_http(place, "get"), (0, printed, ""))
+        want(f"rows by the shell at {place}", by_shell(place, "rows"), (0, printed, ""))
+        for prefix in ("many/05", "n/", "l"):
+            want(f"rows under {prefix}", by_http(place, "get", "--prefix", prefix), (0, whole("--prefix", prefix), ""))
+            want(f"rows by the shell under {prefix}", by_shell(place, "rows", prefix), (0, whole("--prefix", prefix), ""))
+        want("a row by the shell", by_shell(place, "row", "a", "x/../y"), (0, whole("--owner", "a", "--key", "x/../y"), ""))
+        want("no row by the shell", by_shell(place, "row", "b", "k"), (3, "", 'status 404: {"error":"there is no such row"}\n'))
+    want("rows of an owner", by_http(port, "get", "--owner", "a", "--prefix", "n/"), (0, whole("--prefix", "n/"), ""))
+    want("rows of nobody", by_http(port, "get", "--owner", "b"), (0, "", ""))
+    want("the values", [it["value"] for it in asked.get(prefix="k/")], [value for _, _, value in VALUES])
+
+
+def http_client_faults(check):
+    """The clients over HTTP end with status 3 if the node refuses, and if no node answers with that or with the status of curl."""
+    if lacks_curl(check):
+        return
+    folder, told = check.folder(), texts()
+    node, port = node_at(check, "a", folder / "a.http", folder=folder)[0], f"127.0.0.1:{free_port()}"
+    check.node("b", "--http", port, folder=folder).start()
+    asked = lambda *words: by_http(folder / "a.http", *words)
+    want("set", [asked("set", *it) for it in (("k", "weight", "5"), ("k", "flag", "true"), ("k", "text", "5"))], [(0, f"{at}\n", "") for at in (1, 2, 3)])
+    want("the row", node.get(), ["a k 3 text 5"])
+    want("del", [asked("del", "k"), asked("del", "k")], [(0, "4\n", ""), (3, "", f"fault 9: {told[9]}\n")])
+    for words, fault in ((("set", "k", "weight", "05"), 4), (("set", "K", "weight", "5"), 3), (("get", "--prefix", "P"), 3), (("get", "--owner", "A"), 2), (("watch", "--prefix", "P"), 3)):
+        want(f"{words}", asked(*words), (3, "", f"fault {fault}: {told[fault]}\n"))
+    want("a write at a port", by_http(port, "set", "k", "weight", "5"), (3, "", "status 403: writes are taken at a Unix socket only\n"))
+    for command in ("rows", "watch"):
+        status, printed, said = by_shell(folder / "a.http", command, "P")
+        want(f"a wrong prefix of {command}", (status, printed, json.loads(said.partition(": ")[2])["fault"], said[:12]), (3, "", 3, "status 400: "))
+    want("no node", (by_http(folder / "none.http", "get")[:2], by_shell(folder / "none.http", "rows")[:2]), ((3, ""), (7, "")))
+    want("wrong command lines", [by_shell(*it)[0] for it in (("x",), ("x", "put"), ("x", "row", "a"), ("x", "rows", "a", "b"))], [2, 2, 2, 2])
+
+
+def http_client_watches(check):
+    """Both clients over HTTP print what changes at the node and at its peer, go on over a restart, and leave no file."""
+    if lacks_curl(check):
+        return
+    folder = check.folder()
+    (folder / "tmp").mkdir()
+    node, _ = node_at(check, "a", folder / "a.http", "--pause", "100", "--budget", "1024", folder=folder)
+    other = check.node("b", "--pause", "100", folder=folder, peers=[node.sock]).start()
+    row = lambda owner, key, version, value: f'{{"key":"{key}","kind":"weight","owner":"{owner}","value":{value},"version":{version}}}'
+    node.put("w/k", 5), node.put("x", 6)
+    for at in range(30):
+        node.put(f"w/z{at:02}", at)
+    first = [row("a", "w/k", 1, 5), *(row("a", f"w/z{at:02}", at + 3, at) for at in range(30))]
+    shell = WatchingByHttp("sh", SHELL_CLIENT, folder / "a.http", "watch", "w/", env={**os.environ, "TMPDIR": str(folder / "tmp")})
+    python = WatchingByHttp(sys.executable, HTTP_CLIENT, "--http", folder / "a.http", "watch", "--prefix", "w/")
+
+    def print_both(gone, came):
+        """The row that a write replaced or removed, and the one that it made."""
+        shell.awaits([f"- {it}" for it in gone] + [f"+ {it}" for it in came])
+        python.awaits([f'["set",{it}]' for it in came] if came else [f'["gone",{it}]' for it in gone])
+
+    try:
+        print_both([], first)
+        node.put("w/k", 7)
+        print_both([row("a", "w/k", 1, 5)], [row("a", "w/k", 33, 7)])
+        node.put("x", 8)
+        other.put("w/l", 1)
+        print_both([], [row("b", "w/l", 1, 1)])
+        want("del", other.command("del", "w/l")[0], 0)
+        print_both([row("b", "w/l", 1, 1)], [])
+        node.kill()
+        time.sleep(1.5)
+        node.start()
+        node.put("w/k", 9)
+        print_both([row("a", "w/k", 33, 7)], [row("a", "w/k", 35, 9)])
+    finally:
+        shell.stop(), python.stop()
+    want("what the shell leaves", list((folder / "tmp").iterdir()), [])
+
+
+def client_page(check):
+    """Each example of examples/clients/README.md, a command and the line below it, is what a node h prints that answers at h.http."""
+    if lacks_curl(check):
+        return
+    examples = re.findall(r"^    \$ (.*)\n    (.*)$", (CLIENT.parent / "README.md").read_text(), re.MULTILINE)
+    want("whether there are examples", len(examples) >= 6, True)
+    folder = check.folder()
+    node_at(check, "h", folder / "h.http", folder=folder)
+    path = f"{CLIENT.parent}:{os.environ['PATH']}"
+    for line, wanted in examples:
+        ran = subprocess.run(["sh", "-c", line], cwd=folder, env={**os.environ, "PATH": path}, stdin=subprocess.DEVNULL, capture_output=True, text=True, timeout=SECONDS)
+        want(f"the example {line}", ran.stdout + ran.stderr, f"{wanted}\n")
 
 
 PARTS = (
     client_rows, client_commands, client_watches, client_watches_pages, client_statuses, client_status_words, client_faults, client_alone,
+    http_client_rows, http_client_faults, http_client_watches, client_page,
 )

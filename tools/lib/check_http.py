@@ -1,7 +1,10 @@
 """The parts of tools/check-node that ask nodes over HTTP: by curl at a Unix socket and at a port, and by bytes that are made by hand."""
+import base64
+import hashlib
 import json
 import os
 import re
+import shlex
 import shutil
 import socket
 import subprocess
@@ -13,6 +16,9 @@ from nodes import ROOT, SECONDS, Difference, connect, run, want
 
 # the fields that each answer has, in their order, before the length of its body
 FIELDS = [("connection", "close"), ("cache-control", "no-store"), ("x-content-type-options", "nosniff"), ("content-type", "application/json")]
+
+
+PARAMETERS = "the parameters are owner, prefix, after, wait and seen, or owner and key, or key for a write, each once"
 
 
 def free_port():
@@ -43,10 +49,12 @@ class Asked:
             return socket.create_connection(("127.0.0.1", self.place), timeout=SECONDS)
         return connect(self.place)
 
-    def bytes(self, content):
-        """What comes to these bytes, up to the end of the connection."""
+    def bytes(self, content, ends=False):
+        """What comes to these bytes, up to the end of the connection; no more follow if it ends."""
         with self.connect() as stream:
             stream.sendall(content)
+            if ends:
+                stream.shutdown(socket.SHUT_WR)
             got = b""
             while piece := stream.recv(65536):
                 got += piece
@@ -142,6 +150,102 @@ def http_owners(check):
     want("the owners", place.curl("/v1/owners")[2], b'{"owners":[{"owner":"a","rows":1,"version":3},{"owner":"b","rows":1,"version":1}]}\n')
 
 
+def put(place, key, kind, value, *words):
+    """The status and the object of the answer to a PUT."""
+    return place.json(f"/v1/keys/{key}", "-X", "PUT", "-d", json.dumps({"kind": kind, "value": value}), *words)
+
+
+def put_by_bytes(place, key, weight):
+    """The status and the object of the answer to a PUT of a weight, without a process of its own."""
+    body = json.dumps({"kind": "weight", "value": weight})
+    status, _, found = place.bytes(f"PUT /v1/keys/{key} HTTP/1.1\r\nHost: x\r\nContent-Length: {len(body)}\r\n\r\n{body}".encode())
+    return status, json.loads(found)
+
+
+def http_writes(check):
+    """At a socket a node takes a write of each kind and a removal, and answers with its version; faults have their statuses; a port takes none."""
+    if lacks_curl(check):
+        return
+    folder = check.folder()
+    node, place = node_at(check, "a", folder / "a.http", "--pause", "100", folder=folder)
+    other, at_port = node_at(check, "b", free_port(), "--pause", "100", folder=folder, peers=[node.sock])
+    values = (("web/motto", "text", 'Grüße <b>"x"</b>\n'), ("web/at", "addr", "10.0.0.1:80"), ("web/up", "flag", True), ("n", "weight", 2**63 - 1))
+    for version, (key, kind, value) in enumerate(values, 1):
+        want(f"a PUT of {kind}", put(place, key, kind, value), (200, {"version": version}))
+    want("the rows of these writes", place.rows(), [json.loads(it) for it in node.get("--format", "json")])
+    want("what they hold", {(it["key"], it["kind"], it["value"]) for it in place.rows()}, set(values))
+    other.awaits("these rows", lambda rows: len(rows) == 4)
+    want("a PUT by its parameter", place.json("/v1/keys?key=a/../b", "-X", "PUT", "-d", '{"value":1,"kind":"weight"}'), (200, {"version": 5}))
+    want("a PUT with an escape", put(place, "web%2Fat", "weight", 0), (200, {"version": 6}))
+    want("a DELETE", place.json("/v1/keys/web/at", "-X", "DELETE"), (200, {"version": 7}))
+    run_out = run(check.program, "del", "--control", str(node.control), "web/at")[2].splitlines()[1]
+    refused(place, "/v1/keys/web/at", 404, run_out, 9, "-X", "DELETE")
+    other.awaits("the removal", lambda rows: len(rows) == 4 and not any(" web/at " in it for it in rows))
+    for words in (("-X", "PUT", "-d", '{"kind":"weight","value":5}'), ("-X", "DELETE")):
+        refused(at_port, "/v1/keys/k", 403, "writes are taken at a Unix socket only", None, *words)
+    for method in ("GET", "POST"):
+        status, fields, body = place.curl("/v1/keys/k", "-X", method)
+        want(f"{method} of a key", (status, dict(fields)["allow"], json.loads(body)), (405, "put, delete", {"error": "this path is only written"}))
+    form = 'the body is JSON of this form: {"kind":"weight","value":5}'
+    for body in ("", "5", "{}", '{"kind":"weight"}', '{"kind":"weight","value":5,"x":1}', '{"kind":"weight","value":5', "\x01", 200 * "[", 900 * '{"value":'):
+        refused(place, "/v1/keys/k", 400, form, None, "-X", "PUT", "-d", body)
+    value = run(check.program, "set", "--control", str(node.control), "k", "flag", "x")[2].splitlines()[1]
+    for kind, word in (("x", 5), (5, 5), ("weight", "5"), ("weight", -1), ("weight", 2**63), ("weight", 1.5), ("flag", "true"), ("addr", "a b"), ("text", ""), ("text", 513 * "x"), ("text", None)):
+        status, found = put(place, "k", kind, word)
+        want(f"the value {word!r} of {kind}", (status, found), (400, {"error": value, "fault": 4}))
+    want("the longest text", put(place, "k", "text", 512 * "x"), (200, {"version": 8}))
+    head = b"PUT /v1/keys/k HTTP/1.1\r\nHost: x\r\n"
+    want("a longer body", place.bytes(head + b"Content-Length: 8193\r\n\r\n" + 8193 * b" ")[0], 413)
+    chunked = head + b"Transfer-Encoding: chunked\r\n\r\n8\r\n{\"kind\":\r\n14\r\n\"flag\",\"value\":true}\r\n0\r\n\r\n"
+    want("a body in chunks", place.bytes(chunked)[::2], (200, b'{"version":9}\n'))
+    want("half a body", place.bytes(head + b'Content-Length: 27\r\n\r\n{"kind":"weight"', ends=True)[0], 400)
+    twice = b'{"kind":"flag","value":4,"kind":"weight","value":6}'
+    want("members that come twice", place.bytes(head + b"Content-Length: 51\r\n\r\n" + twice)[::2], (200, b'{"version":10}\n'))
+    key = run(check.program, "get", "--control", str(node.control), "--prefix", "A")[2].splitlines()[1]
+    for path in ("/v1/keys/K", "/v1/keys/", f"/v1/keys/{65 * 'k'}", "/v1/keys?key=K"):
+        refused(place, path, 400, key, 3, "-X", "DELETE")
+    refused(place, "/v1/keys?key=k&owner=a", 400, PARAMETERS, None, "-X", "DELETE")
+    many = [threading.Thread(target=lambda count=count: [put(place, f"many/{count}", "weight", it) for it in range(10)]) for count in range(7)]
+    for it in many:
+        it.start()
+    for it in many:
+        it.join()
+    want("the version after writes at once", put(place, "k", "weight", 5), (200, {"version": 81}))
+    node.log.unlink()
+    status, found = put(place, "k", "weight", 6)
+    want("a PUT once the log is lost", (status, found["fault"]), (503, 15))
+
+
+def http_first_writes(check):
+    """A PUT waits for the peers as `set` does, seven at once at most, and others are answered meanwhile; it is answered too if its node ends."""
+    if lacks_curl(check):
+        return
+    folder = check.folder()
+    with socket.socket(socket.AF_UNIX) as listener:
+        listener.bind(str(folder / "b.sock"))
+        listener.listen()
+        node, place = node_at(check, "a", folder / "a.http", "--dial-idle", "60000", "--pause", "200", folder=folder, peers=[folder / "b.sock"])
+        answers, end = [], time.monotonic() + SECONDS
+        callers = [threading.Thread(target=lambda count=count: answers.append(put_by_bytes(place, f"k{count}", count))) for count in range(9)]
+        for it in callers:
+            it.start()
+        while len(answers) < 2 and time.monotonic() < end:
+            time.sleep(0.01)
+        want("who was turned away before the others were answered", [(status, found.get("fault")) for status, found in answers], [(503, 29), (503, 29)])
+        want("an answer beside those that wait", place.curl("/v1/owners")[2], b'{"owners":[]}\n')
+        for it in callers:
+            it.join()
+        want("the writes that waited", sorted((status, found.get("version")) for status, found in answers[2:]), [(200, version) for version in range(1, 8)])
+        node, place = node_at(check, "c", folder / "c.http", "--dial-idle", "60000", "--pause", "200", "--rounds", "1", folder=folder, peers=[folder / "b.sock"])
+        answers.clear()
+        caller = threading.Thread(target=lambda: answers.append(put_by_bytes(place, "k", 1)))
+        caller.start()
+        time.sleep(0.3)
+    caller.join()
+    want("a PUT at the end of its node", [(status, found.get("fault")) in ((503, 15), (200, None)) for status, found in answers], [True])
+    want("the end of that node", node.ended()[0], 0)
+
+
 def http_health(check):
     """A node answers 200 once it is ready, and 503 before, and says why."""
     if lacks_curl(check):
@@ -191,6 +295,93 @@ def http_metrics(check):
     want("metrics without a file", b'attrdir_rounds_total{node="c"}' in at_alone.curl("/metrics")[2], True)
 
 
+def http_scrape(check):
+    """promtool finds nothing wrong with examples/prometheus.yml, and reads the alerts that it names."""
+    if shutil.which("promtool") is None:
+        check.lacking.add("promtool is here, so examples/prometheus.yml was not read by it")
+        return
+    status, printed, said = run("promtool", "check", "config", str(ROOT / "examples/prometheus.yml"))
+    want("what promtool says of examples/prometheus.yml", (status, printed.count("SUCCESS"), said), (0, 3, ""))
+
+
+def http_polls(check):
+    """A poll waits for rows that are asked for, answers soon after one came, changed or went, and not for others; four wait at once, and not after a restart."""
+    if lacks_curl(check):
+        return
+    folder = check.folder()
+    node, place = node_at(check, "a", folder / "a.http", "--pause", "100", folder=folder)
+    other = check.node("b", "--pause", "100", folder=folder, peers=[node.sock]).start()
+    node.put("web/k", 5), other.put("web/k", 6)
+    node.awaits("both rows", lambda rows: len(rows) == 2)
+    first = place.json("/v1/rows?prefix=web/&wait=0s")[1]
+    want("a poll without a mark", list(first), ["more", "rows", "seen"])
+    want("the same without a wait", place.json("/v1/rows?prefix=web/")[1], {it: first[it] for it in ("more", "rows")})
+    want("its mark again", place.json("/v1/rows?prefix=web/&wait=0s")[1], first)
+    want("the mark does not depend on the place", place.json("/v1/rows?prefix=web/&after=a/web/k&wait=0s")[1]["seen"], first["seen"])
+
+    def poll(mark, seconds=30):
+        began = time.monotonic()
+        found = place.json(f"/v1/rows?prefix=web/&wait={seconds}s&seen={mark}")
+        return found, time.monotonic() - began
+
+    def answered(what, write):
+        """What a poll answers that waits when something is written, and how long after that."""
+        found = []
+        caller = threading.Thread(target=lambda: found.append((poll(first["seen"]), time.monotonic())))
+        caller.start()
+        time.sleep(0.3)
+        want(f"whether a poll waits before {what}", caller.is_alive(), True)
+        write()
+        written = time.monotonic()
+        caller.join()
+        (status, page), _ = found[0][0]
+        want(f"the status after {what}", status, 200)
+        if found[0][1] - written > 1:
+            raise Difference(f"a poll was answered {found[0][1] - written:.2f} s after {what}")
+        return page
+
+    for what, write, count in (("a write", lambda: node.put("web/l", 1), 3), ("a change", lambda: node.put("web/l", 2), 3), ("a write at a peer", lambda: other.put("web/m", 1), 4), ("a removal", lambda: node.command("del", "web/l"), 3)):
+        page = answered(what, write)
+        want(f"the rows after {what}", (len(page["rows"]), page["seen"] != first["seen"]), (count, True))
+        first = page
+    (status, page), took = poll("0")
+    want("a poll with another mark", (status, page, took < 1), (200, first, True))
+    writer = threading.Timer(0.3, lambda: node.put("other/k", 1))
+    writer.start()
+    (status, page), took = poll(first["seen"], 2)
+    want("a poll beside another write", (status, page, 1.9 < took < 4), (200, first, True))
+    found = []
+    callers = [threading.Thread(target=lambda: found.append(poll(first["seen"], 3))) for _ in range(6)]
+    for it in callers:
+        it.start()
+    time.sleep(0.8)
+    want("who was turned away at once", [(it[0][0], it[0][1]["fault"]) for it in found], [(503, 29), (503, 29)])
+    want("an answer beside four polls", place.curl("/v1/owners")[0], 200)
+    want("a write beside four polls", put(place, "other/k", "weight", 2)[0], 200)
+    for it in callers:
+        it.join()
+    want("the polls that waited", sorted(it[0][0] for it in found), [200, 200, 200, 200, 503, 503])
+    node.kill()
+    node.start()
+    (status, page), took = poll(first["seen"])
+    want("a poll after a restart", (status, took < 1), (200, True))
+
+
+def http_page(check):
+    """The page of a node has its own script and style alone, whose hashes are those of its policy, and no address of elsewhere."""
+    if lacks_curl(check):
+        return
+    status, fields, body = node_at(check, "a", free_port())[1].curl("/")
+    fields, text = dict(fields), body.decode()
+    want("the page", (status, fields["content-type"], text.count("<script"), text.count("<style")), (200, "text/html; charset=utf-8", 1, 1))
+    for name in ("script", "style"):
+        content = re.search(f"<{name}>(.*?)</{name}>", text, re.DOTALL).group(1)
+        wanted = base64.b64encode(hashlib.sha256(content.encode()).digest()).decode()
+        want(f"the hash of the {name}", f"{name}-src 'sha256-{wanted}'".lower() in fields["content-security-policy"], True)
+    want("what the policy lets pass", ("unsafe" in fields["content-security-policy"], "http" in fields["content-security-policy"]), (False, False))
+    want("what the page has of elsewhere", re.findall(r"https?://|innerHTML|outerHTML|insertAdjacentHTML|document\.write|eval\(", text), [])
+
+
 def http_refusals(check):
     """What asks for nothing that is there is refused, each by the first reason; a node goes on after it."""
     if lacks_curl(check):
@@ -200,11 +391,10 @@ def http_refusals(check):
     at_port = node_at(check, "b", free_port(), folder=folder)[1]
     name, key = run(check.program, "get", "--control", str(node.control), "--owner", "A")[2], run(check.program, "get", "--control", str(node.control), "--prefix", "A")[2]
     name, key = name.splitlines()[1], key.splitlines()[1]
-    parameters = "the parameters are owner, prefix and after, or owner and key, each once"
-    for path in ("/", "/v1", "/v1/row", "/v1/rows.json", "/healthz/", "/v1/keys/k"):
+    for path in ("/v1", "/v1/row", "/v1/rows.json", "/healthz/", "/v1/key"):
         refused(place, path, 404, "there is no such path")
         refused(place, path, 404, "there is no such path", None, "-X", "PUT")
-    for path in ("/v1/rows", "/v1/rows/a/k", "/v1/owners", "/healthz", "/metrics"):
+    for path in ("/", "/v1/rows", "/v1/rows/a/k", "/v1/owners", "/healthz", "/metrics"):
         for method in ("PUT", "POST", "DELETE", "PATCH", "OPTIONS"):
             status, fields, body = place.curl(path, "-X", method)
             want(f"{method} {path}", (status, dict(fields)["allow"], json.loads(body)), (405, "get, head", {"error": "this path is only read"}))
@@ -214,8 +404,8 @@ def http_refusals(check):
         refused(place, f"/v1/rows?{query}", 400, key, 3)
     for path, text, fault in (("/v1/rows/A/k", name, 2), ("/v1/rows/a", key, 3), ("/v1/rows/a/", key, 3), ("/v1/rows/a/K", key, 3)):
         refused(place, path, 400, text, fault)
-    for query in ("x=1", "owner", "wait=1s", "owner=a&owner=a", "prefix=&prefix=", "key=k", "owner=a&key=k&prefix=k", "owner=a&key=k&after=a/k", "Owner=a"):
-        refused(place, f"/v1/rows?{query}", 400, parameters)
+    for query in ("x=1", "owner", "wait=61s", "seen=x", "wait=1", "wait=1s&seen=A", "owner=a&owner=a", "prefix=&prefix=", "key=k", "owner=a&key=k&prefix=k", "owner=a&key=k&after=a/k", "Owner=a"):
+        refused(place, f"/v1/rows?{query}", 400, PARAMETERS)
     for query in ("", "&", "owner=a&", "&&prefix="):
         want(f"rows by {query!r}", place.json(f"/v1/rows?{query}")[0], 200)
     for host in ("evil.example", "localhost.evil.example", "127.0.0.1.evil.example", "127.0.0.1:x", "[::2]"):
@@ -355,20 +545,26 @@ def http_places(check):
 
 
 def http_examples(check):
-    """Each example of docs/FORMATS.md, `curl` and the answer below it, is what a node answers that has these rows."""
+    """Each example of docs/FORMATS.md, `curl` and the answer below it, is what a node answers that has these rows, at a port and at a socket."""
     if lacks_curl(check):
         return
     section = (ROOT / "docs/FORMATS.md").read_text().split("\n## HTTP\n")[1].split("\n## ")[0]
-    examples = re.findall(r"^    \$ curl -s (\S+)\n    (.*)$", section, re.MULTILINE)
-    want("whether there are examples", len(examples) >= 6, True)
-    port = free_port()
-    node, place = node_at(check, "a", port, "--pause", "100")
-    for words in (("web/motto", "text", "well met"), ("web/port", "weight", "8080")):
-        want(f"set {words}", node.command("set", *words)[0], 0)
-    want("its exit status", node.command("status", "--wait", "10000")[0], 0)
-    for address, wanted in examples:
-        path = address.strip("'").split("127.0.0.1:8080")[1]
-        want(f"the example {path}", place.curl(path)[2].decode(), wanted + "\n")
+    examples = re.findall(r"^    \$ curl (.*)\n    (.*)$", section, re.MULTILINE)
+    want("whether there are examples", len(examples) >= 12, True)
+    folder, places = check.folder(), {}
+    for name, place in (("port", free_port()), ("socket", folder / "a.http")):
+        node, places[name] = node_at(check, "a", place, "--pause", "100", folder=check.folder())
+        for words in (("web/motto", "text", "well met"), ("web/port", "weight", "8080")):
+            want(f"set {words}", node.command("set", *words)[0], 0)
+        want("its exit status", node.command("status", "--wait", "10000")[0], 0)
+    for line, wanted in examples:
+        *words, address = shlex.split(line)
+        place = places["socket" if "--unix-socket" in words else "port"]
+        if "--unix-socket" in words:
+            at = words.index("--unix-socket")
+            words = words[:at] + words[at + 2 :]
+        path = address.split("://")[1].partition("/")[2]
+        want(f"the example {line}", place.curl(f"/{path}", *[it for it in words if it != "-s"])[2].decode(), wanted + "\n")
 
 
-PARTS = (http_rows, http_owners, http_health, http_metrics, http_refusals, http_bounds, http_silence, http_crowd, http_places, http_examples)
+PARTS = (http_rows, http_owners, http_writes, http_first_writes, http_health, http_metrics, http_scrape, http_polls, http_page, http_refusals, http_bounds, http_silence, http_crowd, http_places, http_examples)

@@ -61,7 +61,10 @@ def statuses(check):
         silent.bind(str(late))
         silent.listen()
         node = check.node("a", "--pause", "300", "--dial-idle", "30000", folder=folder, peers=[other.sock, dead, late]).start()
-        want("its status beside a silent peer", status_of(node)[1]["ready"], False)
+        silent.settimeout(SECONDS)
+        caller, _ = silent.accept()
+        with caller:
+            want("its status beside a silent peer", status_of(node)[1]["ready"], False)
     node.put("k", 5), node.put("l", 6)
     want("a removal", node.command("del", "l")[0], 0)
     want("its exit status", node.command("status", "--wait", "10000")[0], 0)

@@ -31,8 +31,11 @@ class Watching:
     """A watch that runs, and the lines that it printed, as they come."""
 
     def __init__(self, node, *words):
-        how = {"stdin": subprocess.DEVNULL, "stdout": subprocess.PIPE, "stderr": subprocess.PIPE, "text": True}
-        self.ran = subprocess.Popen([node.program, "watch", "--control", str(node.control), *words], **how)
+        self.start([node.program, "watch", "--control", str(node.control), *words])
+
+    def start(self, words, **more):
+        how = {"stdin": subprocess.DEVNULL, "stdout": subprocess.PIPE, "stderr": subprocess.PIPE, "text": True, **more}
+        self.ran = subprocess.Popen(words, **how)
         self.lines, self.came = [], threading.Condition()
         self.reader = threading.Thread(target=self.read, daemon=True)
         self.reader.start()

@@ -11,7 +11,8 @@ class SlowProxy:
     """A socket whose connections lead to another. What comes is handed on so many seconds later, both ways, and so is its end."""
 
     def __init__(self, path, target, seconds):
-        self.path, self.target, self.seconds = path, target, seconds
+        # (how many connections it has taken)
+        self.path, self.target, self.seconds, self.count = path, target, seconds, 0
         self.door = socket.socket(socket.AF_UNIX, socket.SOCK_STREAM)
         self.door.bind(str(path))
         self.door.listen(64)
@@ -23,6 +24,7 @@ class SlowProxy:
                 near = self.door.accept()[0]
             except OSError:
                 return
+            self.count += 1
             try:
                 far = connect(self.target)
             except OSError:

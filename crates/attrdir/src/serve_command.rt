@@ -276,8 +276,9 @@ const METRICS: Part = Part {
     help: "The file in which the node reports how it is, in the text format of Prometheus",
 };
 
-/// With it the node answers over HTTP, for reading: rows, owners, whether it is ready, and metrics. It takes only an address of this
-/// machine, or the path of a socket. Up to 8 connections are answered at once, each from a seat of its own. See [HTTP](#http).
+/// With it the node answers over HTTP: rows, owners, whether it is ready, and metrics. At the path of a socket it takes writes too. It
+/// takes only an address of this machine, or such a path. Up to 8 connections are answered at once, each from a seat of its own. See
+/// [HTTP](#http).
 const HTTP: Part = Part {
     name: "http",
     kind: Kind::ValueElse("none"),

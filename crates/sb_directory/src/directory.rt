@@ -19,7 +19,7 @@ ghost use Rattle.sb_directory.specs.Audits.{Audits};
 ghost use Rattle.sb_directory.specs.Purging as purging;
 ghost use Rattle.sb_directory.specs.Seats as spec;
 ghost use Rattle.sb_directory.specs.Serving.{AnswersAfter};
-ghost use Rattle.sb_directory.specs.Watching.{SaysOf, reports, watch_given};
+ghost use Rattle.sb_directory.specs.Watching.{SaysOf, reports, watch_after, watch_given};
 
 use crate::difference::Difference;
 use crate::directory_watch::DirectoryWatch;
@@ -356,8 +356,11 @@ impl<S: DirectoryTag, R: Wait + Drop> Directory<S, R> {
     }
 
     /// Publishes all that happened, and says whether anything changed that a watch is for. So whoever reads then sees the change.
-    /// What counts is what came since the watch was added, or since a poll left it without notes. `NoWatch` if it is not a watch of this directory, before anything is published; `NoMemory` if there is none to publish what happened. It
-    /// is not noted as a call of a seat.
+    /// What counts is what came since the watch was added, or since a poll left it without notes. It is not noted as a call of a
+    /// seat, so its clause names no moment. Its faults:
+    ///
+    /// - `NoWatch` if it is not a watch of this directory. Nothing is published.
+    /// - `NoMemory` if there is none to publish what happened.
     pub fn has_note<Q: Wait>(&self, rt: &Q, watch: &DirectoryWatch<S>) -> Result<bool, Fault>
         ensures says { IfOk result (λ has_note. (history : List Event) × SaysOf S.opening history watch.now has_note) }
         ensures fault { IfErr result (λ fault. fault ≢ Fault.NoWatch → fault ≡ Fault.NoMemory) }
@@ -386,11 +389,12 @@ impl<S: DirectoryTag, R: Wait + Drop> Directory<S, R> {
     }
 
     /// Publishes all that happened, lets the seat see it, and gives the watch's next answer, one a call. If the watch lost notes
-    /// since its last `Lagged`, the answer is `Lagged` with how many. Else it is `Note` with its oldest note, which it then no longer has;
-    /// else `Empty`. It is `Empty` exactly if nothing that the watch is for changed since it was added, or since a poll left it
-    /// without notes. `NoWatch` if it is not a watch of this directory, before anything is published: it is
-    /// the seat's last call, and nothing else changes. `NoMemory` if there is none to publish what happened, or the seat can't enter:
-    /// then the note is still to come.
+    /// since its last `Lagged`, the answer is `Lagged` with how many. Else it is `Note` with its oldest note, which it then no longer
+    /// has; else `Empty`. It is `Empty` exactly if nothing that the watch is for changed since it was added, or since a poll left it
+    /// without notes. A watch that has no note left begins anew after this call. Either way it is the seat's last call. Its faults:
+    ///
+    /// - `NoWatch` if it is not a watch of this directory. Nothing is published, and nothing else changes.
+    /// - `NoMemory` if there is none to publish what happened, or the seat can't enter. Then the note is still to come.
     pub fn poll<Q: Wait>(
         &self,
         rt: &Q,
@@ -400,6 +404,7 @@ impl<S: DirectoryTag, R: Wait + Drop> Directory<S, R> {
         ensures answer { OnOk result ((hub : Hub) × (result ≡ answer_at hub watch.old.id)) }
         ensures says { IfOk result (λ polled. SaysOf S.opening seat.new.last_call watch.old (reports polled)) }
         ensures fault { IfErr result (λ fault. fault ≢ Fault.NoWatch → fault ≡ Fault.NoMemory) }
+        ensures watch { OnOk result ((hub : Hub) × (watch.new ≡ watch_after hub seat.new.last_call watch.old)) }
         ensures err { OnErr result (watch.new ≡ watch.old) }
         ensures seat { result ≡ Err Fault.NoWatch → seat.new ≡ spec.with_last_call seat.old seat.new.last_call }
         ensures held { (note : Note) → result ≡ Ok (answers.Note note) → note.version ≤ (shown_of (node_after S.opening seat.new.seen).held note.owner).held }

@@ -107,6 +107,45 @@ fn replaced_tables_are_noted(rt: HostRuntime) {
     answers(&rt, rt.alloc(), &cases);
 }
 
+/// A node b wrote x, y, z and w, removed x, and purged the removal. Who holds x and y is brought the other table in two blocks.
+/// Before the second, watches and readers see nothing of it. After it they see that the table was replaced, and then what came
+/// after y. A watch of x sees only the first, and one with room for a note the last.
+#[test]
+fn watches_see_a_stage_once_it_is_whole(rt: HostRuntime) {
+    let (clear, clear_of_x) = (cleared(&rt, b"b", 5), cleared(&rt, b"b", 5));
+    let (third, fourth) = (noted(&rt, b"b", b"z", 3), noted(&rt, b"b", b"w", 4));
+    let last = noted(&rt, b"b", b"w", 4);
+    let cases = [
+        (Call::Delta(b"b", 0, b"xy"), taken(2)),
+        (Call::Watch(b"", 8), Answer::Done),
+        (Call::Watch(b"x", 8), Answer::Done),
+        (Call::Watch(b"", 1), Answer::Done),
+        (Call::Part((5, 0, 3), 1, b"yz"), taken(2)),
+        (Call::HasNote(0), Answer::HasNote(false, false)),
+        (Call::Poll(0), Answer::Polled(Polled::Empty)),
+        (Call::Poll(1), Answer::Polled(Polled::Empty)),
+        (Call::Poll(2), Answer::Polled(Polled::Empty)),
+        (Call::Rows, Answer::Rows(2)),
+        (Call::Read, Answer::Read(2, 0, 2)),
+        (Call::Part((5, 3, 5), 3, b"w"), taken(1)),
+        (Call::HasNote(0), Answer::HasNote(true, true)),
+        (Call::Poll(0), clear),
+        (Call::Poll(0), third),
+        (Call::Poll(0), fourth),
+        (Call::Poll(0), Answer::Polled(Polled::Empty)),
+        (Call::HasNote(0), Answer::HasNote(false, true)),
+        (Call::Poll(1), clear_of_x),
+        (Call::Poll(1), Answer::Polled(Polled::Empty)),
+        (Call::Poll(2), Answer::Polled(Polled::Lagged(2))),
+        (Call::Poll(2), last),
+        (Call::Poll(2), Answer::Polled(Polled::Empty)),
+        (Call::HasNote(2), Answer::HasNote(false, false)),
+        (Call::Rows, Answer::Rows(3)),
+        (Call::Read, Answer::Read(3, 0, 5)),
+    ];
+    answers(&rt, rt.alloc(), &cases);
+}
+
 #[test]
 fn watches_that_are_refused(rt: HostRuntime) {
     let cases = [
@@ -327,12 +366,14 @@ fn a_full_table_takes_no_new_key(rt: HostRuntime) {
     run_seated(&rt, node_of(&rt, alloc, b"a", full_table(&rt, alloc)), run);
 }
 
-/// A node is opened with one write, as from a copy of its log, while b has a second one. The log's next write is not taken.
+/// A node is opened with one write, as from a copy of its log. The log takes a second one, which b has too. The log's next write
+/// is not taken.
 #[test]
 fn a_peer_has_later_writes(rt: HostRuntime) {
     let alloc = rt.alloc();
     let cases = [
         (Call::Read, Answer::Read(0, 1, 0)),
+        (Call::Commit(b"y"), Answer::Done),
         (Call::DeltaOfPeer, ended(BlockEnd::OwnAhead(2))),
         (Call::Conflict, Answer::Conflict(Some(2))),
         (Call::Write(b"z"), refused(Fault::OwnerConflict(2))),

@@ -1,7 +1,7 @@
 //! A node, with its log and watches. Its calls as data, with what they answer.
 
 use crate::making::{
-    commit, commit_removal, delta_of, delta_with_floor, first_of, key, name, node_of, prefix,
+    Range, commit, commit_removal, delta_of, delta_with_floor, first_of, key, name, node_of, prefix,
 };
 use crate::reached::Seated;
 use crate::{got, same_at, there};
@@ -9,7 +9,7 @@ use sb_budget::Backlog;
 use sb_digest::Digest;
 use sb_directory::{Difference, DirectoryTag, DirectoryWatch};
 use sb_holdings::{BlockEnd, Report};
-use sb_log::{Committed, PlainLog};
+use sb_log::{Committed, PlainLog, WriteLog};
 use sb_table::Table;
 use sb_types::{Delta, Fault, Name};
 use sb_watch::{Filter, Note, Polled};
@@ -35,7 +35,10 @@ pub(crate) enum Call {
     /// A delta of one block of b with this floor is taken. It has what b wrote under these letters, from its first
     /// version on, up to the second number.
     Floor(u64, u64, &'static [u8]),
-    /// The delta of b for the node's own digest is taken. b has two writes of a.
+    /// A delta of one block of b with this range is taken. It has what b wrote under these letters, from the version after
+    /// the number on.
+    Part(Range, u64, &'static [u8]),
+    /// The node takes the delta of b for its own digest. b has both writes of the log, also one that the node did not take.
     DeltaOfPeer,
     /// A watch of the keys with a prefix is added, with room for so many notes.
     Watch(&'static [u8], usize),
@@ -176,10 +179,13 @@ fn nothing(rt: &impl Abort, alloc: Global) -> Digest {
     got(rt, Digest::new(false, None, None, Vec::new(alloc)))
 }
 
-/// The delta for this digest from a node b that has two writes of a.
-fn delta_of_peer(rt: &impl Abort, alloc: Global, digest: &Digest) -> Delta {
+/// The delta for this digest from a node b, which has both writes of the log of a. It has them from a node that was opened with
+/// this log.
+fn delta_of_peer(rt: &impl Abort, alloc: Global, log: &mut PlainLog, digest: &Digest) -> Delta {
+    let writer = node_of(rt, alloc, b"a", got(rt, log.load(alloc)));
+    let told = got(rt, writer.deltas(&nothing(rt, alloc)));
     let mut peer = node_of(rt, alloc, b"b", Table::new(alloc));
-    let report = got(rt, peer.apply(&delta_of(rt, alloc, b"a", 0, b"xy")));
+    let report = got(rt, peer.apply(&told));
     same_at(
         rt,
         &"b",
@@ -210,7 +216,8 @@ impl<S: DirectoryTag, H: Wait + Drop> Desk<S, H> {
             Call::Take => self.take(rt),
             Call::TakeOfAnother => self.take_of_another(rt),
             Call::Delta(owner, after, letters) => self.take_delta(rt, owner, after, letters),
-            Call::Floor(floor, upto, letters) => self.take_floor(rt, floor, upto, letters),
+            Call::Floor(floor, upto, letters) => self.take_part(rt, (floor, 0, upto), 0, letters),
+            Call::Part(range, before, letters) => self.take_part(rt, range, before, letters),
             Call::DeltaOfPeer => self.take_of_peer(rt),
             Call::Watch(text, capacity) => self.watch(rt, text, capacity),
             Call::Watches(count) => self.watch_all(rt, count),
@@ -302,20 +309,20 @@ impl<S: DirectoryTag, H: Wait + Drop> Desk<S, H> {
         self.apply(rt, &delta)
     }
 
-    fn take_floor<Q: Wait + Abort>(
+    fn take_part<Q: Wait + Abort>(
         &mut self,
         rt: &Q,
-        floor: u64,
-        upto: u64,
+        range: Range,
+        before: u64,
         letters: &[u8],
     ) -> Answer {
-        let delta = delta_with_floor(rt, self.alloc, floor, upto, letters);
+        let delta = delta_with_floor(rt, self.alloc, range, before, letters);
         self.apply(rt, &delta)
     }
 
     fn take_of_peer<Q: Wait + Abort>(&mut self, rt: &Q) -> Answer {
         let digest = got(rt, self.node.digest(rt, true));
-        let delta = delta_of_peer(rt, self.alloc, &digest);
+        let delta = delta_of_peer(rt, self.alloc, &mut self.log, &digest);
         self.apply(rt, &delta)
     }
 

@@ -100,16 +100,20 @@ pub(crate) fn delta_of(
     got(rt, delta_of_block(alloc, block))
 }
 
-/// A delta of one block of b with this floor: what b wrote under these letters, from its first version on, up to a version.
+/// The floor of a block, `after`, and `upto`.
+pub(crate) type Range = (u64, u64, u64);
+
+/// A delta of one block of b with this range: what b wrote under these letters, from the version after `before` on.
 pub(crate) fn delta_with_floor(
     rt: &impl Abort,
     alloc: Global,
-    floor: u64,
-    upto: u64,
+    range: Range,
+    before: u64,
     letters: &[u8],
 ) -> Delta {
-    let entries = entries_behind(rt, alloc, 0, letters);
-    let block = got(rt, Block::new(name(rt, b"b"), floor, 0, upto, entries));
+    let (floor, after, upto) = range;
+    let entries = entries_behind(rt, alloc, before, letters);
+    let block = got(rt, Block::new(name(rt, b"b"), floor, after, upto, entries));
     got(rt, delta_of_block(alloc, block))
 }
 

@@ -50,7 +50,8 @@
 //!   `tools/check-node` refuse it.
 //! - `ForgottenOwners::take_sighting` is true of an owner whose rows no peer had, never, or again and again. The tests of
 //!   `sb_run` and `tools/check-node` refuse it.
-//! - `GatedHandler` does not tell its gate what was entered or missed. The tests of `sb_run` and `tools/check-node` refuse it.
+//! - `GatedHandler` reports nothing to its gate of what was entered, missed or heard. The tests of `sb_run` and
+//!   `tools/check-node` refuse it.
 #![tactic(auto)]
 
 mod forgetting;

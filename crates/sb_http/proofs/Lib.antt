@@ -2,3 +2,4 @@ mod Parting
 mod Reading
 mod Lines
 mod Ends
+mod WriteBodies

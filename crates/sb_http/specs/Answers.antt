@@ -5,7 +5,7 @@ use Rattle.http1.specs.Fields.{Header}
 use Rattle.http_server.specs.declared.response.Response.{Response}
 use Rattle.http_server.specs.Response.{IsResponse, fields_of}
 use Rattle.sb_types.specs.declared.fault.Fault.{Fault}
-use Rattle.sb_types.specs.declared.fault.Fault.TheVariants.{UnknownKind}
+use Rattle.sb_types.specs.declared.fault.Fault.TheVariants.{UnknownKind, TableFull, VersionsSpent, NothingThere, OwnerConflict}
 use Rattle.sb_types.specs.Faults.{number_of}
 use Rattle.sb_codec.specs.declared.message.Message.{Message}
 use Rattle.sb_codec.specs.declared.message.Message.TheVariants as kinds
@@ -13,19 +13,20 @@ use Rattle.sb_codec.specs.declared.message.ask.Ask as asking
 use Rattle.sb_codec.specs.Records as records
 use Rattle.sb_query.specs.declared.answers.NoAnswer.{NoAnswer}
 use Rattle.sb_query.specs.declared.answers.NoAnswer.TheVariants as reasons
-use Rattle.sb_query.specs.Answers.{TellsPage, TellsStatus}
+use Rattle.sb_query.specs.Answers.{TellsPage, TellsStatus, TellsVersion}
 use Rattle.sb_query.specs.Statuses.{is_ready}
 use Rattle.sb_query.specs.Pages.{first_at}
 use Rattle.sb_listing.specs.Json.{row_data}
-use Rattle.sb_http.specs.declared.asked.Asked.{Asked}
-use Rattle.sb_http.specs.declared.asked.Asked.TheVariants.{Health, Metrics, Owners, Rows, Row}
-use Rattle.sb_http.specs.declared.asked.Door.{Door}
-use Rattle.sb_http.specs.declared.asked.Unasked.{Unasked}
-use Rattle.sb_http.specs.declared.asked.Unasked.TheVariants.{OtherHost, NotFound, NotAllowed, Bad, BadParameters, NoMemory}
+use Rattle.sb_http.specs.declared.operation.Operation.{Operation}
+use Rattle.sb_http.specs.declared.operation.Operation.TheVariants.{Health, Metrics, Owners, Page, Rows, Row, Poll, Put}
+use Rattle.sb_http.specs.declared.operation.Door.{Door}
+use Rattle.sb_http.specs.declared.operation.Refusal.{Refusal}
+use Rattle.sb_http.specs.declared.operation.Refusal.TheVariants.{OtherHost, NotFound, NotAllowed, OnlyWritten, NotByPort, Bad, BadParameters, BadBody, NoMemory}
 use Rattle.sb_http.specs.declared.contents.Content as rust
-use Rattle.sb_http.specs.Acts.{Act, asks, lists, measures, fails}
+use Rattle.sb_http.specs.declared.page.TheConstants.{PAGE, POLICY}
+use Rattle.sb_http.specs.Acts.{Act, asks, polls, lists, measures, fails}
 use Rattle.sb_http.specs.Requests.{asked_by}
-use Rattle.sb_http.specs.Texts.{line_of, page_data, owners_data, health_data, error_data, fault_data}
+use Rattle.sb_http.specs.Texts.{line_of, page_data, marked_page_data, owners_data, health_data, version_data, error_data, fault_data}
 
 -- a status and a body
 abbrev pub Content : Type 0
@@ -35,7 +36,7 @@ abbrev pub json_kind : List ℕ
 json_kind = codes "application/json"
 
 -- the kind of the body
-abbrev pub kind_of : Asked → List ℕ
+abbrev pub kind_of : Operation → List ℕ
 kind_of Metrics = codes "text/plain; version=0.0.4"
 kind_of asked = json_kind
 
@@ -61,6 +62,10 @@ abbrev pub IsPage : Result records.Rows NoAnswer → Content → Type 0
 IsPage (Ok page) content = content ≡ (200, line_of (page_data page))
 IsPage (Err reason) content = IsNone reason content
 
+abbrev pub IsMarkedPage : List ℕ → Result records.Rows NoAnswer → Content → Type 0
+IsMarkedPage mark (Ok page) content = content ≡ (200, line_of (marked_page_data mark page))
+IsMarkedPage mark (Err reason) content = IsNone reason content
+
 abbrev pub row_content : Option records.Row → Content
 row_content None = is_error 404 (codes "there is no such row")
 row_content (Some row) = (200, line_of (row_data row))
@@ -74,15 +79,34 @@ abbrev pub IsHealth : Result records.NodeStatus NoAnswer → Content → Type 0
 IsHealth (Ok status) content = content ≡ ((if is_ready status.figures then 200 else 503), line_of (health_data status.figures))
 IsHealth (Err reason) content = IsNone reason content
 
+-- the status of a write that was refused for this fault
+abbrev pub put_status : Fault → ℕ
+put_status NothingThere = 404
+put_status (OwnerConflict version) = 409
+put_status TableFull = 507
+put_status VersionsSpent = 507
+put_status fault = 503
+
+abbrev pub IsUnwritten : NoAnswer → Content → Type 0
+IsUnwritten (reasons.Refused fault) content = IsFault (put_status fault) fault content
+IsUnwritten (reasons.OtherKind kind) content = IsFault 503 (UnknownKind kind) content
+
+abbrev pub IsWritten : Result ℕ NoAnswer → Content → Type 0
+IsWritten (Ok version) content = content ≡ (200, line_of (version_data version))
+IsWritten (Err reason) content = IsUnwritten reason content
+
 -- the question for the rows of the owner whose keys begin with this key, which has that of the key first
 abbrev pub row_question : List ℕ → List ℕ → asking.Ask
 row_question owner key = record { owner = Some owner; prefix = key; after = None }
 
 -- the call of the backend asks it for what was asked for, and for nothing else
-abbrev pub IsCallFor : Asked → Act → Type 0
+abbrev pub IsCallFor : Operation → Act → Type 0
 IsCallFor (Rows ask) (asks request reply) = request ≡ kinds.Ask ask
 IsCallFor (Row owner key) (asks request reply) = request ≡ kinds.Ask (row_question owner key)
 IsCallFor Health (asks request reply) = request ≡ kinds.AskStatus 0
+IsCallFor (Put write) (asks request reply) = request ≡ kinds.Put write
+IsCallFor (Poll ask patience) (polls asked given reply mark) = (asked ≡ ask) × (given ≡ patience)
+IsCallFor (Poll ask patience) (fails fault) = Unit {0}
 IsCallFor Owners (lists owners) = Unit {0}
 IsCallFor Owners (fails fault) = Unit {0}
 IsCallFor Metrics (measures text) = Unit {0}
@@ -90,12 +114,16 @@ IsCallFor Metrics (fails fault) = Unit {0}
 IsCallFor asked act = ⊥
 
 -- the content that says what was asked for, by what a call of the backend answered
-abbrev pub Says : Asked → Act → Content → Type 0
+abbrev pub Says : Operation → Act → Content → Type 0
 Says (Rows ask) (asks request reply) content = (page : Result records.Rows NoAnswer) × TellsPage reply page × IsPage page content
 Says (Row owner key) (asks request reply) content =
     (page : Result records.Rows NoAnswer) × TellsPage reply page × IsRow owner key page content
 Says Health (asks request reply) content =
     (status : Result records.NodeStatus NoAnswer) × TellsStatus reply status × IsHealth status content
+Says (Poll ask patience) (polls asked given reply mark) content =
+    (page : Result records.Rows NoAnswer) × TellsPage reply page × IsMarkedPage mark page content
+Says (Poll ask patience) (fails fault) content = IsFault 503 fault content
+Says (Put write) (asks request reply) content = (version : Result ℕ NoAnswer) × TellsVersion reply version × IsWritten version content
 Says Owners (lists owners) content = content ≡ (200, line_of (owners_data owners))
 Says Owners (fails fault) content = IsFault 503 fault content
 Says Metrics (measures text) content = content ≡ (200, text)
@@ -115,25 +143,39 @@ abbrev pub FillsOrShortens : Response → Result rust.Content Fault → Response
 FillsOrShortens old content new = HasContent (fields_of old) content new ⊎ Has (fields_of old) (503, []) new
 
 -- the backend was called once, for this, and the response says what came of it; or there was no memory for that
-abbrev pub AnswersAsked : {B : Type 0} → (B → Act → B → Type 0) → Asked → B → Response → B → Type 0
+abbrev pub AnswersAsked : {B : Type 0} → (B → Act → B → Type 0) → Operation → B → Response → B → Type 0
 AnswersAsked step asked old response new =
     (act : Act) × step old act new × IsCallFor asked act
     × (((content : Content) × Says asked act content × Has (fields_for (kind_of asked)) content response)
     ⊎ Has (fields_for (kind_of asked)) (503, []) response)
 
 -- why nothing is asked for
-abbrev pub Refuses : Unasked → Response → Type 0
+abbrev pub Refuses : Refusal → Response → Type 0
 Refuses OtherHost response = Has (fields_for json_kind) (is_error 421 (codes "the host is not this machine")) response
 Refuses NotFound response = Has (fields_for json_kind) (is_error 404 (codes "there is no such path")) response
 Refuses NotAllowed response =
     Has (fields_for json_kind ++ (codes "allow", codes "GET, HEAD") ∷ []) (is_error 405 (codes "this path is only read")) response
+Refuses OnlyWritten response =
+    Has (fields_for json_kind ++ (codes "allow", codes "PUT, DELETE") ∷ []) (is_error 405 (codes "this path is only written")) response
+Refuses NotByPort response = Has (fields_for json_kind) (is_error 403 (codes "writes are taken at a Unix socket only")) response
 Refuses (Bad fault) response = (content : Content) × IsFault 400 fault content × Has (fields_for json_kind) content response
 Refuses BadParameters response =
-    Has (fields_for json_kind) (is_error 400 (codes "the parameters are owner, prefix and after, or owner and key, each once")) response
+    Has (fields_for json_kind) (is_error 400 (codes "the parameters are owner, prefix, after, wait and seen, or owner and key, or key for a write, each once")) response
+Refuses BadBody response =
+    Has (fields_for json_kind) (is_error 400 (codes "the body is JSON of this form: {\"kind\":\"weight\",\"value\":5}")) response
 Refuses NoMemory response = ⊥
 
-abbrev pub AnswersWhat : {B : Type 0} → (B → Act → B → Type 0) → Result Asked Unasked → B → Response → B → Type 0
-AnswersWhat step (Ok asked) old response new = AnswersAsked step asked old response new
+-- the response has the page for browsers, with its policy
+abbrev pub HasPage : Response → Type 0
+HasPage response = Has (fields_for (codes "text/html; charset=utf-8") ++ (codes "content-security-policy", POLICY.now) ∷ []) (200, PAGE.now) response
+
+-- the page is there without the backend, and all else comes of one call of it
+abbrev pub AnswersOne : {B : Type 0} → (B → Act → B → Type 0) → Operation → B → Response → B → Type 0
+AnswersOne step asked old response new =
+    ((asked ≡ Page) × HasPage response × (new ≡ old)) ⊎ AnswersAsked step asked old response new
+
+abbrev pub AnswersWhat : {B : Type 0} → (B → Act → B → Type 0) → Result Operation Refusal → B → Response → B → Type 0
+AnswersWhat step (Ok asked) old response new = AnswersOne step asked old response new
 AnswersWhat step (Err why) old response new = Refuses why response × (new ≡ old)
 
 -- the response to a request that came in at this door

@@ -2,6 +2,7 @@ pub mod Parts
 pub mod Hosts
 pub mod Asking
 pub mod RowsQueries
+pub mod WriteBodies
 pub mod Requests
 pub mod Acts
 pub mod Texts

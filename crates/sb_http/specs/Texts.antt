@@ -18,6 +18,11 @@ line_of json = compact_text json ++ 10 ∷ []
 unfoldable pub page_data : Rows → Data
 page_data page = object (member (codes "more") (boolean page.more) (member (codes "rows") (rows_data page.rows) no_members))
 
+-- the same, with the mark of all rows that are asked for
+unfoldable pub marked_page_data : List ℕ → Rows → Data
+marked_page_data mark page =
+    object (member (codes "more") (boolean page.more) (member (codes "rows") (rows_data page.rows) (member (codes "seen") (string mark) no_members)))
+
 -- the members are in the order of their names
 unfoldable pub owner_data : HeldOwner → Data
 owner_data held =
@@ -39,6 +44,10 @@ health_object caught_up conflict log_fault ready =
 abbrev pub health_data : List Figure → Data
 health_data figures =
     health_object (figure_of CaughtUp figures == 1) (figure_of Conflict figures) (figure_of LogFault figures) (is_ready figures)
+
+-- the version under which the log took a write
+unfoldable pub version_data : ℕ → Data
+version_data version = object (member (codes "version") (number (unsigned version)) no_members)
 
 -- a text about what went wrong
 unfoldable pub error_data : List ℕ → Data

@@ -1,9 +1,10 @@
 //! What a service asks of a node.
 ghost use Rattle.std.specs.Prelude.{◌≡◌, IfOk, IfErr};
-ghost use Rattle.sb_http.specs.Acts.{asks, lists, measures, fails};
+ghost use Rattle.sb_http.specs.Acts.{asks, polls, lists, measures, fails};
 
-use sb_codec::Message;
-use sb_types::{Fault, Name};
+use crate::operation::Patience;
+use sb_codec::{Ask, Message};
+use sb_types::{Fault, Key, Name};
 
 /// How far a node shows an owner.
 #[derive(Clone, Copy, Debug, PartialEq, Eq)]
@@ -13,6 +14,13 @@ pub struct HeldOwner {
     pub version: u64,
     /// How many rows it has.
     pub rows: u64,
+}
+
+/// What answers an Ask, with the mark of all rows that are asked for. Another mark says that they are others.
+#[derive(Drop)]
+pub struct MarkedReply {
+    pub reply: Message,
+    pub mark: Key,
 }
 
 /// A node, as a service asks it.
@@ -25,6 +33,12 @@ pub trait Backend {
     /// Returns the message with which the node answers this request of its control socket.
     fn ask(&mut self, request: &Message) -> Message
         ensures { step self.old (asks request.now result) self.new };
+
+    /// Waits until the rows that are asked for have another mark than the one that was seen, or until the time is over. Then it
+    /// returns what the node answers to the Ask, with the mark.
+    fn poll(&mut self, ask: &Ask, patience: &Patience) -> Result<MarkedReply, Fault>
+        ensures ok { IfOk result (λ found. step self.old (polls ask.now patience.now found.reply found.mark) self.new) }
+        ensures err { IfErr result (λ fault. step self.old (fails fault) self.new) };
 
     /// Returns the owners that the node shows.
     fn owners(&mut self) -> Result<Vec<HeldOwner>, Fault>

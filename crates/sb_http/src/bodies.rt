@@ -1,6 +1,6 @@
 //! The bodies of responses, as JSON.
 ghost use Rattle.std.specs.Prelude.{◌≡◌, ℕ, List, ◌++◌, ◌∷◌, [], codes, false, OnOk, map, IfOk, IfErr};
-ghost use Rattle.serde_json.specs.Data.{boolean};
+ghost use Rattle.serde_json.specs.Data.{boolean, string};
 ghost use Rattle.serde_json.specs.View.{view};
 ghost use Rattle.serde_json.specs.Written.{has_float, items_text, compact_text};
 ghost use Rattle.sb_types.specs.Faults.{number_of};
@@ -12,7 +12,7 @@ use crate::backend::HeldOwner;
 use sb_codec::{FigureKind, NodeStatus, Row, Rows};
 use sb_listing::{add_json_array, add_json_object};
 use sb_query::is_ready;
-use sb_types::{Fault, Name};
+use sb_types::{Fault, Key, Name};
 use serde_json::{Value, json};
 use std::alloc::{AllocError, Global};
 
@@ -51,6 +51,36 @@ pub(crate) fn page_line(alloc: Global, page: &Rows) -> Result<Vec<u8>, Fault>
     let mut line = Vec::new(alloc);
     line.extend_from_slice(page_head(page.more()))?;
     add_json_array(alloc, &mut line, page.rows())?;
+    line.extend_from_slice(b"}\n")?;
+    Ok(line)
+}
+
+/// Adds a mark as a string of JSON. `NoMemory`.
+fn add_mark(alloc: Global, out: &mut Vec<u8>, mark: &Key) -> Result<(), Fault>
+    ensures added { OnOk result (out.new.items ≡ out.old.items ++ compact_text (string mark.now)) }
+    ensures memory { IfErr result (λ fault. fault ≡ Fault.NoMemory) }
+{
+    let text = Value::try_from_str(alloc, key_text(mark))?.to_vec(alloc)?;
+    out.extend_from_slice(&text)?;
+    Ok(())
+}
+
+/// The text of a key, which is ASCII.
+fn key_text(key: &Key) -> &str
+    ensures { result.now ≡ key.now }
+{
+    str::from_utf8(key.bytes()).unwrap_or("")
+}
+
+/// The line of a page with the mark of all rows that are asked for. `NoMemory`.
+pub(crate) fn marked_page_line(alloc: Global, page: &Rows, mark: &Key) -> Result<Vec<u8>, Fault>
+    ensures { IfOk result (λ line. line.items ≡ line_of (spec.marked_page_data mark.now page.now)) }
+{
+    let mut line = Vec::new(alloc);
+    line.extend_from_slice(page_head(page.more()))?;
+    add_json_array(alloc, &mut line, page.rows())?;
+    line.extend_from_slice(b",\"seen\":")?;
+    add_mark(alloc, &mut line, mark)?;
     line.extend_from_slice(b"}\n")?;
     Ok(line)
 }
@@ -145,6 +175,23 @@ pub(crate) fn health_line(alloc: Global, status: &NodeStatus) -> Result<Vec<u8>,
     let log_fault = figure_of(status, FigureKind::LogFault);
     let object = object_of_health(alloc, is_caught_up, conflict, log_fault, is_ready(status))?;
     Ok(line_of_value(alloc, &object)?)
+}
+
+/// The object of the version of a write.
+#[tactic(auto, unfolding(crate::specs::Texts::version_data))]
+fn version_object(alloc: Global, version: u64) -> Result<Value, AllocError>
+    ensures object { IfOk result (λ json. view json ≡ spec.version_data version) }
+    ensures plain { IfOk result (λ json. has_float (view json) ≡ false) }
+{
+    json!(in alloc; {"version": version})
+}
+
+/// The line of the version under which a write was made.
+pub(crate) fn version_line(alloc: Global, version: u64) -> Result<Vec<u8>, AllocError>
+    ensures { IfOk result (λ line. line.items ≡ line_of (spec.version_data version)) }
+{
+    let object = version_object(alloc, version)?;
+    line_of_value(alloc, &object)
 }
 
 /// The line of a text about what went wrong.

@@ -1,16 +1,20 @@
 //! The status and the body of a response, from what a backend answers.
-ghost use Rattle.std.specs.Prelude.{◌≡◌, if◌then◌else◌, Ok, IfOk};
+ghost use Rattle.std.specs.Prelude.{◌≡◌, ◌≢◌, if◌then◌else◌, Ok, IfOk};
+ghost use Rattle.sb_query.specs.Answers.{TellsVersion};
 ghost use Rattle.sb_query.specs.Statuses.{is_ready};
 ghost use Rattle.sb_http.specs.Acts.{Act};
-ghost use Rattle.sb_http.specs.Answers.{IsCallFor, Says, IsFault, IsNone, IsPage, IsRow, IsHealth};
+ghost use Rattle.sb_http.specs.Answers.{IsCallFor, Says, IsFault, IsNone, IsPage, IsMarkedPage, IsRow, IsHealth, IsWritten, put_status};
 
-use crate::asked::Asked;
-use crate::backend::Backend;
-use crate::bodies::{error_line, fault_line, health_line, owners_line, page_line, row_line};
+use crate::backend::{Backend, MarkedReply};
+use crate::bodies::{
+    error_line, fault_line, health_line, marked_page_line, owners_line, page_line, row_line,
+    version_line,
+};
+use crate::operation::{Operation, Patience};
 use http::StatusCode;
 use sb_codec::{Ask, AskStatus, Message, NodeStatus, Rows};
-use sb_query::{NoAnswer, first_at, is_ready, page_in, status_in};
-use sb_types::{Fault, Key, Name, Prefix};
+use sb_query::{NoAnswer, first_at, is_ready, page_in, status_in, version_in};
+use sb_types::{Fault, Key, Name, Prefix, Write};
 use std::alloc::Global;
 
 /// The status and the body of a response.
@@ -28,17 +32,44 @@ fn none_content(alloc: Global, reason: NoAnswer) -> Result<Content, Fault>
         NoAnswer::Refused(fault) => fault,
         NoAnswer::OtherKind(kind) => Fault::UnknownKind(kind),
     };
-    fault_content(alloc, fault)
+    fault_content(alloc, StatusCode::SERVICE_UNAVAILABLE, fault)
 }
 
 /// Names a fault of the node. `NoMemory`.
-fn fault_content(alloc: Global, fault: Fault) -> Result<Content, Fault>
-    ensures { IfOk result (λ content. IsFault 503 fault (content.status, content.body.items)) }
+fn fault_content(alloc: Global, status: StatusCode, fault: Fault) -> Result<Content, Fault>
+    ensures { IfOk result (λ content. IsFault status fault (content.status, content.body.items)) }
 {
     Ok(Content {
-        status: StatusCode::SERVICE_UNAVAILABLE,
+        status,
         body: fault_line(alloc, fault)?,
     })
+}
+
+/// The status of a write that was refused for this fault.
+fn put_status(fault: &Fault) -> StatusCode
+    ensures { result ≡ put_status fault.now }
+{
+    match fault {
+        Fault::NothingThere => StatusCode::NOT_FOUND,
+        Fault::OwnerConflict(_) => StatusCode::CONFLICT,
+        Fault::TableFull => StatusCode::INSUFFICIENT_STORAGE,
+        Fault::VersionsSpent => StatusCode::INSUFFICIENT_STORAGE,
+        _ => StatusCode::SERVICE_UNAVAILABLE,
+    }
+}
+
+/// Names the version of a write, or why it was not made. `NoMemory`.
+fn put_content(alloc: Global, version: Result<u64, NoAnswer>) -> Result<Content, Fault>
+    ensures { IfOk result (λ content. IsWritten version (content.status, content.body.items)) }
+{
+    match version {
+        Ok(version) => Ok(Content {
+            status: StatusCode::OK,
+            body: version_line(alloc, version)?,
+        }),
+        Err(NoAnswer::Refused(fault)) => fault_content(alloc, put_status(&fault), fault),
+        Err(other) => none_content(alloc, other),
+    }
 }
 
 /// Has a page. `NoMemory`.
@@ -49,6 +80,23 @@ fn page_content(alloc: Global, page: &Result<Rows, NoAnswer>) -> Result<Content,
         Ok(page) => Ok(Content {
             status: StatusCode::OK,
             body: page_line(alloc, page)?,
+        }),
+        Err(reason) => none_content(alloc, *reason),
+    }
+}
+
+/// Has a page with a mark. `NoMemory`.
+fn marked_content(
+    alloc: Global,
+    page: &Result<Rows, NoAnswer>,
+    mark: &Key,
+) -> Result<Content, Fault>
+    ensures { IfOk result (λ content. IsMarkedPage mark.now page.now (content.status, content.body.items)) }
+{
+    match page {
+        Ok(page) => Ok(Content {
+            status: StatusCode::OK,
+            body: marked_page_line(alloc, page, mark)?,
         }),
         Err(reason) => none_content(alloc, *reason),
     }
@@ -121,7 +169,7 @@ fn prefix_of(key: &Key) -> Prefix
 
 /// Asks for a page of rows. `NoMemory`.
 fn answer_rows<B: Backend>(alloc: Global, backend: &mut B, ask: Ask) -> Result<Content, Fault>
-    ensures { (act : Act) × B.step backend.old act backend.new × IsCallFor (Asked.Rows ask) act × IfOk result (λ content. Says (Asked.Rows ask) act (content.status, content.body.items)) }
+    ensures { (act : Act) × B.step backend.old act backend.new × IsCallFor (Operation.Rows ask) act × IfOk result (λ content. Says (Operation.Rows ask) act (content.status, content.body.items)) }
 {
     let page = page_in(backend.ask(&Message::Ask(ask)));
     page_content(alloc, &page)
@@ -134,7 +182,7 @@ fn answer_row<B: Backend>(
     owner: Name,
     key: Key,
 ) -> Result<Content, Fault>
-    ensures { (act : Act) × B.step backend.old act backend.new × IsCallFor (Asked.Row owner key) act × IfOk result (λ content. Says (Asked.Row owner key) act (content.status, content.body.items)) }
+    ensures { (act : Act) × B.step backend.old act backend.new × IsCallFor (Operation.Row owner key) act × IfOk result (λ content. Says (Operation.Row owner key) act (content.status, content.body.items)) }
 {
     let ask = Ask {
         owner: Some(owner),
@@ -147,28 +195,61 @@ fn answer_row<B: Backend>(
 
 /// Asks whether the node is ready. `NoMemory`.
 fn answer_health<B: Backend>(alloc: Global, backend: &mut B) -> Result<Content, Fault>
-    ensures { (act : Act) × B.step backend.old act backend.new × IsCallFor Asked.Health act × IfOk result (λ content. Says Asked.Health act (content.status, content.body.items)) }
+    ensures { (act : Act) × B.step backend.old act backend.new × IsCallFor Operation.Health act × IfOk result (λ content. Says Operation.Health act (content.status, content.body.items)) }
 {
     let status = status_in(backend.ask(&Message::AskStatus(AskStatus::new(0))));
     health_content(alloc, &status)
 }
 
+/// Asks for a page of rows once they are others than those that were seen. `NoMemory`.
+fn answer_poll<B: Backend>(
+    alloc: Global,
+    backend: &mut B,
+    ask: &Ask,
+    patience: &Patience,
+) -> Result<Content, Fault>
+    ensures { (act : Act) × B.step backend.old act backend.new × IsCallFor (Operation.Poll ask.now patience.now) act × IfOk result (λ content. Says (Operation.Poll ask.now patience.now) act (content.status, content.body.items)) }
+{
+    match backend.poll(ask, patience) {
+        Ok(found) => {
+            let MarkedReply { reply, mark } = found;
+            marked_content(alloc, &page_in(reply), &mark)
+        }
+        Err(fault) => fault_content(alloc, StatusCode::SERVICE_UNAVAILABLE, fault),
+    }
+}
+
+/// The version of a write, from the answer to it.
+fn version_of(reply: Message) -> Result<u64, NoAnswer>
+    ensures { TellsVersion reply result }
+{
+    version_in(&reply)
+}
+
+/// Asks for a write to be made. `NoMemory`, after it was asked for.
+fn answer_put<B: Backend>(alloc: Global, backend: &mut B, write: Write) -> Result<Content, Fault>
+    ensures { (act : Act) × B.step backend.old act backend.new × IsCallFor (Operation.Put write) act × IfOk result (λ content. Says (Operation.Put write) act (content.status, content.body.items)) }
+{
+    let version = version_of(backend.ask(&Message::Put(write)));
+    put_content(alloc, version)
+}
+
 /// Asks for the owners. `NoMemory`.
 fn answer_owners<B: Backend>(alloc: Global, backend: &mut B) -> Result<Content, Fault>
-    ensures { (act : Act) × B.step backend.old act backend.new × IsCallFor Asked.Owners act × IfOk result (λ content. Says Asked.Owners act (content.status, content.body.items)) }
+    ensures { (act : Act) × B.step backend.old act backend.new × IsCallFor Operation.Owners act × IfOk result (λ content. Says Operation.Owners act (content.status, content.body.items)) }
 {
     match backend.owners() {
         Ok(owners) => Ok(Content {
             status: StatusCode::OK,
             body: owners_line(alloc, &owners)?,
         }),
-        Err(fault) => fault_content(alloc, fault),
+        Err(fault) => fault_content(alloc, StatusCode::SERVICE_UNAVAILABLE, fault),
     }
 }
 
 /// Asks for the metrics.
 fn answer_metrics<B: Backend>(alloc: Global, backend: &mut B) -> Content
-    ensures { (act : Act) × B.step backend.old act backend.new × IsCallFor Asked.Metrics act × Says Asked.Metrics act (result.status, result.body.items) }
+    ensures { (act : Act) × B.step backend.old act backend.new × IsCallFor Operation.Metrics act × Says Operation.Metrics act (result.status, result.body.items) }
 {
     match backend.metrics() {
         Ok(body) => Content {
@@ -186,15 +267,19 @@ fn answer_metrics<B: Backend>(alloc: Global, backend: &mut B) -> Content
 pub(crate) fn answer<B: Backend>(
     alloc: Global,
     backend: &mut B,
-    asked: &Asked,
+    asked: Operation,
 ) -> Result<Content, Fault>
-    ensures { (act : Act) × B.step backend.old act backend.new × IsCallFor asked.now act × IfOk result (λ content. Says asked.now act (content.status, content.body.items)) }
+    requires { asked ≢ Operation.Page }
+    ensures { (act : Act) × B.step backend.old act backend.new × IsCallFor asked act × IfOk result (λ content. Says asked act (content.status, content.body.items)) }
 {
     match asked {
-        Asked::Rows(ask) => answer_rows(alloc, backend, *ask),
-        Asked::Row(owner, key) => answer_row(alloc, backend, *owner, *key),
-        Asked::Health => answer_health(alloc, backend),
-        Asked::Owners => answer_owners(alloc, backend),
-        Asked::Metrics => Ok(answer_metrics(alloc, backend)),
+        Operation::Rows(ask) => answer_rows(alloc, backend, ask),
+        Operation::Row(owner, key) => answer_row(alloc, backend, owner, key),
+        Operation::Poll(ask, patience) => answer_poll(alloc, backend, &ask, &patience),
+        Operation::Put(write) => answer_put(alloc, backend, write),
+        Operation::Health => answer_health(alloc, backend),
+        Operation::Owners => answer_owners(alloc, backend),
+        Operation::Metrics => Ok(answer_metrics(alloc, backend)),
+        Operation::Page => unreachable!(),
     }
 }

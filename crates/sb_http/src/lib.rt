@@ -2,7 +2,8 @@
 //! no lock. A `Backend` says what the node answers, and `serve_connection` answers over any reader and writer.
 //!
 //! What a request asks for is a function of it and of the door where it came in (`asked_by`). What the response contains
-//! is a function of that and of what the backend answered. A backend is asked only what reads.
+//! is a function of that and of what the backend answered. A backend is asked once for a request, and at a port only what reads.
+//! For the page at `/` it is not asked.
 //!
 //! ```rust
 //! /// The status of the response to a request.
@@ -23,22 +24,26 @@
 //!   ample memory refuse it.
 //! - `serve_connection` ends with an error before it has read anything. Tests refuse it.
 //! - `serve_connection` never flushes its writer. Nothing refuses it: a socket needs no flush.
+//! - The page is any other text, and so is its policy: the contract has the constants themselves. `tools/check-node` and
+//!   `tools/check-page` look at both.
 //! - `serve_connection` reads on before it has written `100 Continue`. `tools/check-node` refuses it.
 #![tactic(auto)]
 
-mod asked;
 mod backend;
 mod bodies;
 mod contents;
 mod host;
 mod laws;
+mod operation;
+mod page;
 mod parts;
 mod rows_query;
 mod service;
 mod serving;
+mod write_body;
 
-pub use asked::{Asked, Door, Unasked, asked_by};
-pub use backend::{Backend, HeldOwner};
-pub use laws::{ports_take_local_hosts, requests_only_read};
+pub use backend::{Backend, HeldOwner, MarkedReply};
+pub use laws::{other_methods_only_read, ports_only_read, ports_take_local_hosts};
+pub use operation::{Door, Operation, Patience, Refusal, asked_by};
 pub use service::HttpService;
 pub use serving::serve_connection;

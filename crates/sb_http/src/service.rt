@@ -1,12 +1,13 @@
 //! The service of a node.
-ghost use Rattle.std.specs.Prelude.{◌≡◌, ◌++◌, ◌∷◌, [], OnOk};
+ghost use Rattle.std.specs.Prelude.{◌≡◌, ◌≢◌, ◌++◌, ◌∷◌, [], OnOk};
 ghost use Rattle.http_server.specs.Response.{IsBlank, IsResponse, fields_of};
-ghost use Rattle.sb_http.specs.Answers.{AnswersAsked, AnswersRequest, Refuses, Has, FillsOrShortens, is_error, fields_for, json_kind, kind_of};
+ghost use Rattle.sb_http.specs.Answers.{AnswersAsked, AnswersRequest, Refuses, Has, HasPage, FillsOrShortens, is_error, fields_for, json_kind, kind_of};
 
-use crate::asked::{Asked, Door, Unasked, asked_by};
 use crate::backend::Backend;
 use crate::bodies::{error_line, fault_line};
 use crate::contents::{Content, answer};
+use crate::operation::{Door, Operation, Refusal, asked_by};
+use crate::page::{PAGE, POLICY};
 use bytes::Bytes;
 use http::{HeaderValue, Request, StatusCode, header};
 use http_server::{Response, Service};
@@ -29,11 +30,11 @@ fn json_type() -> HeaderValue
 }
 
 /// The type of what is answered.
-fn type_of(asked: &Asked) -> HeaderValue
+fn type_of(asked: &Operation) -> HeaderValue
     ensures { result.bytes ≡ kind_of asked.now }
 {
     match asked {
-        Asked::Metrics => HeaderValue::from_static("text/plain; version=0.0.4"),
+        Operation::Metrics => HeaderValue::from_static("text/plain; version=0.0.4"),
         _ => json_type(),
     }
 }
@@ -77,16 +78,16 @@ fn refuse_with(
 /// Refuses a request with a fault.
 fn refuse_by(alloc: Global, response: &mut Response, fault: Fault) -> Result<(), AllocError>
     requires { IsBlank response.old }
-    ensures { OnOk result (Refuses (Unasked.Bad fault) response.new) }
+    ensures { OnOk result (Refuses (Refusal.Bad fault) response.new) }
 {
     add_fields(response, json_type())?;
     fill(response, StatusCode::BAD_REQUEST, fault_line(alloc, fault)?)
 }
 
-/// Refuses a method, and names those that the path has.
+/// Refuses a method, and names those that a path has that is only read.
 fn refuse_method(alloc: Global, response: &mut Response) -> Result<(), AllocError>
     requires { IsBlank response.old }
-    ensures { OnOk result (Refuses Unasked.NotAllowed response.new) }
+    ensures { OnOk result (Refuses Refusal.NotAllowed response.new) }
 {
     add_fields(response, json_type())?;
     response.add_header(header::ALLOW, HeaderValue::from_static("GET, HEAD"))?;
@@ -94,28 +95,63 @@ fn refuse_method(alloc: Global, response: &mut Response) -> Result<(), AllocErro
     fill(response, StatusCode::METHOD_NOT_ALLOWED, body)
 }
 
+/// Refuses a method, and names those that a path has that is only written.
+fn refuse_reading(alloc: Global, response: &mut Response) -> Result<(), AllocError>
+    requires { IsBlank response.old }
+    ensures { OnOk result (Refuses Refusal.OnlyWritten response.new) }
+{
+    add_fields(response, json_type())?;
+    response.add_header(header::ALLOW, HeaderValue::from_static("PUT, DELETE"))?;
+    let body = error_line(alloc, "this path is only written")?;
+    fill(response, StatusCode::METHOD_NOT_ALLOWED, body)
+}
+
 /// Says why nothing is asked for.
-fn refuse(alloc: Global, response: &mut Response, why: &Unasked) -> Result<(), AllocError>
+fn refuse(alloc: Global, response: &mut Response, why: &Refusal) -> Result<(), AllocError>
     requires { IsBlank response.old }
     ensures { OnOk result (Refuses why.now response.new) }
 {
     match why {
-        Unasked::OtherHost => {
+        Refusal::OtherHost => {
             let text = "the host is not this machine";
             refuse_with(alloc, response, StatusCode::MISDIRECTED_REQUEST, text)
         }
-        Unasked::NotFound => {
+        Refusal::NotFound => {
             let text = "there is no such path";
             refuse_with(alloc, response, StatusCode::NOT_FOUND, text)
         }
-        Unasked::NotAllowed => refuse_method(alloc, response),
-        Unasked::Bad(fault) => refuse_by(alloc, response, *fault),
-        Unasked::BadParameters => {
-            let text = "the parameters are owner, prefix and after, or owner and key, each once";
+        Refusal::NotAllowed => refuse_method(alloc, response),
+        Refusal::OnlyWritten => refuse_reading(alloc, response),
+        Refusal::NotByPort => {
+            let text = "writes are taken at a Unix socket only";
+            refuse_with(alloc, response, StatusCode::FORBIDDEN, text)
+        }
+        Refusal::Bad(fault) => refuse_by(alloc, response, *fault),
+        Refusal::BadParameters => {
+            let text =
+                "the parameters are owner, prefix, after, wait and seen, or owner and key, or key for a write, each once";
             refuse_with(alloc, response, StatusCode::BAD_REQUEST, text)
         }
-        Unasked::NoMemory => Err(AllocError),
+        Refusal::BadBody => {
+            let text = "the body is JSON of this form: {\"kind\":\"weight\",\"value\":5}";
+            refuse_with(alloc, response, StatusCode::BAD_REQUEST, text)
+        }
+        Refusal::NoMemory => Err(AllocError),
     }
+}
+
+/// Answers with the page.
+fn answer_page(response: &mut Response) -> Result<(), AllocError>
+    requires { IsBlank response.old }
+    ensures { OnOk result (HasPage response.new) }
+{
+    add_fields(
+        response,
+        HeaderValue::from_static("text/html; charset=utf-8"),
+    )?;
+    let policy = HeaderValue::from_static(POLICY);
+    response.add_header(header::CONTENT_SECURITY_POLICY, policy)?;
+    response.body.push(Bytes::from_static(PAGE.as_bytes()))
 }
 
 /// Leaves a response without a body: there was no memory for it.
@@ -142,9 +178,10 @@ fn fill_or_shorten(response: &mut Response, content: Result<Content, Fault>)
 
 impl<B: Backend> HttpService<B> {
     /// Asks the backend once, and fills a response that has its fields.
-    fn answer_asked(&mut self, asked: &Asked, response: &mut Response)
-        requires { IsResponse 200 (fields_for (kind_of asked.now)) [] response.old }
-        ensures answers { AnswersAsked B.step asked.now self.old.backend response.new self.new.backend }
+    fn answer_asked(&mut self, asked: Operation, response: &mut Response)
+        requires fields { IsResponse 200 (fields_for (kind_of asked)) [] response.old }
+        requires other { asked ≢ Operation.Page }
+        ensures answers { AnswersAsked B.step asked self.old.backend response.new self.new.backend }
         ensures door { self.new.door ≡ self.old.door }
     {
         let content = answer(self.alloc, &mut self.backend, asked);
@@ -164,9 +201,10 @@ impl<B: Backend> Service for HttpService<B> {
         response: &mut Response,
     ) -> Result<(), AllocError> {
         match asked_by(self.alloc, self.door, request) {
+            Ok(Operation::Page) => answer_page(response),
             Ok(asked) => {
                 add_fields(response, type_of(&asked))?;
-                self.answer_asked(&asked, response);
+                self.answer_asked(asked, response);
                 Ok(())
             }
             Err(why) => refuse(self.alloc, response, &why),

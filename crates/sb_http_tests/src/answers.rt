@@ -1,28 +1,12 @@
 //! The answers to requests, byte by byte.
 
 use crate::fixed::{answer, answer_at};
-use crate::same;
+use crate::parts::{body, status};
+use crate::{got, same};
 use sb_http::Door;
 use std::alloc::Global;
 use std::process::Abort;
 use std::random::RandomSource;
-
-/// The three digits of the status of an answer.
-fn status(text: &[u8]) -> &str {
-    match text.get(9..12) {
-        Some(digits) => str::from_utf8(digits).unwrap_or(""),
-        None => "",
-    }
-}
-
-/// The body of an answer.
-fn body(text: &[u8]) -> &str {
-    let all = str::from_utf8(text).unwrap_or("");
-    match all.split_once("\r\n\r\n") {
-        Some((_, body)) => body,
-        None => "",
-    }
-}
 
 /// Compares the status and the body of the answer to a target.
 fn case<R: Abort + RandomSource>(rt: &R, alloc: Global, target: &str, wanted: &str, content: &str) {
@@ -64,6 +48,39 @@ fn rows_are_answered(rt: HostRuntime) {
 }
 
 #[test]
+fn polls_have_a_mark(rt: HostRuntime) {
+    let alloc = rt.alloc();
+    let rows =
+        "{\"more\":true,\"rows\":[{\"key\":\"k\",\"kind\":\"weight\",\"owner\":\"a\",\"value\":5,\"version\":5},{\"key\":\"kl\",\"kind\":\"weight\",\"owner\":\"a\",\"value\":6,\"version\":6}],\"seen\":";
+    let first = got(&rt, format!(in alloc; "{rows}\"first\"}}\n"));
+    case(&rt, alloc, "/v1/rows?wait=0s", "200", first.as_str());
+    let again = got(&rt, format!(in alloc; "{rows}\"0af\"}}\n"));
+    case(
+        &rt,
+        alloc,
+        "/v1/rows?owner=a&seen=0af&wait=30s",
+        "200",
+        again.as_str(),
+    );
+    let spent =
+        "{\"error\":\"the reads, calls or events that were allowed are spent\",\"fault\":29}\n";
+    case(&rt, alloc, "/v1/rows?wait=60s&seen=x", "503", spent);
+    let parameters =
+        "{\"error\":\"the parameters are owner, prefix, after, wait and seen, or owner and key, or key for a write, each once\"}\n";
+    for target in [
+        "/v1/rows?seen=x",
+        "/v1/rows?wait=61s",
+        "/v1/rows?wait=s",
+        "/v1/rows?wait=5",
+        "/v1/rows?wait=1s&wait=1s",
+        "/v1/rows?wait=1s&seen=A",
+        "/v1/rows?owner=a&key=k&wait=1s",
+    ] {
+        case(&rt, alloc, target, "400", parameters);
+    }
+}
+
+#[test]
 fn faults_of_a_node_are_named(rt: HostRuntime) {
     let closed = "{\"error\":\"this is closed; open it again\",\"fault\":15}\n";
     case(&rt, rt.alloc(), "/v1/rows?owner=shut", "503", closed);
@@ -78,12 +95,12 @@ fn what_asks_for_nothing_is_refused(rt: HostRuntime) {
     case(
         &rt,
         rt.alloc(),
-        "/",
+        "/v1",
         "404",
         "{\"error\":\"there is no such path\"}\n",
     );
     let parameters =
-        "{\"error\":\"the parameters are owner, prefix and after, or owner and key, each once\"}\n";
+        "{\"error\":\"the parameters are owner, prefix, after, wait and seen, or owner and key, or key for a write, each once\"}\n";
     case(&rt, rt.alloc(), "/v1/rows?x=1", "400", parameters);
     case(&rt, rt.alloc(), "/v1/rows?key=k", "400", parameters);
     case(
@@ -120,4 +137,15 @@ fn a_port_takes_local_hosts(rt: HostRuntime) {
         b"PUT /metrics HTTP/1.1\r\nHost: [::1]\r\n\r\n",
     );
     same(&rt, &status(&method), &"405");
+}
+
+#[test]
+fn the_page_is_answered(rt: HostRuntime) {
+    let found = answer(&rt, rt.alloc(), "/");
+    let text = str::from_utf8(&found).unwrap_or("");
+    let head =
+        "HTTP/1.1 200 OK\r\nconnection: close\r\ncache-control: no-store\r\nx-content-type-options: nosniff\r\ncontent-type: text/html; charset=utf-8\r\ncontent-security-policy: default-src 'none'; script-src 'sha256-";
+    same(&rt, &text.starts_with(head), &true);
+    same(&rt, &body(&found).starts_with("<!doctype html>\n"), &true);
+    same(&rt, &body(&found).ends_with("</html>\n"), &true);
 }

@@ -28,5 +28,5 @@ fn example_of_sb_http(rt: HostRuntime) {
         backend,
     };
     let request = Request::new(alloc, Bytes::new());
-    same(&rt, &got(&rt, status_of(&mut service, &request)), &404);
+    same(&rt, &got(&rt, status_of(&mut service, &request)), &200);
 }

@@ -1,15 +1,16 @@
-//! A backend with two rows, and what comes out of a connection for the bytes that come in.
+//! A backend with two rows that takes writes, and what comes out of a connection for the bytes that come in.
 
-use sb_codec::{Ask, Message, Refused, Row, Rows};
-use sb_http::{Backend, Door, HeldOwner, HttpService, serve_connection};
-use sb_types::{Fault, Key, Name, Value};
+use sb_codec::{Ask, Done, Message, Refused, Row, Rows};
+use sb_http::{Backend, Door, HeldOwner, HttpService, MarkedReply, Patience, serve_connection};
+use sb_types::{Fault, Key, Name, Slot, Value, ValueRef, Write};
 use std::alloc::Global;
 use std::hash::RandomState;
 use std::io;
 use std::process::Abort;
 use std::random::RandomSource;
 
-/// A backend that answers any question for rows with the same page.
+/// A backend that answers any question for rows with the same page. It answers a write of the weight N with the version N, and a write
+/// of the text `fault N` or of nothing by a fault.
 #[derive(Drop)]
 pub(crate) struct FixedBackend {
     pub(crate) alloc: Global,
@@ -50,14 +51,55 @@ fn answer_to(alloc: Global, ask: &Ask) -> Message {
     }
 }
 
+/// The fault that a text `fault N` names, N being a digit or two.
+fn fault_in(text: &[u8]) -> Option<Fault> {
+    let number = text.strip_prefix(b"fault ")?;
+    let number = str::from_utf8(number).ok()?;
+    Fault::of_number(number.parse::<u8>().ok()?)
+}
+
+/// The answer to a write: the version, which is the weight that is written; 1 if another value is; or a fault.
+fn answer_to_write(write: &Write) -> Message {
+    let Slot::Set(value) = &write.slot else {
+        return refused(&Fault::NothingThere);
+    };
+    let version = match value.view() {
+        ValueRef::Weight(weight) => weight,
+        ValueRef::Text(text) => match fault_in(text) {
+            Some(fault) => return refused(&fault),
+            None => 1,
+        },
+        _ => 1,
+    };
+    match Done::new(version) {
+        Ok(done) => Message::Done(done),
+        Err(fault) => refused(&fault),
+    }
+}
+
 impl Backend for FixedBackend {
     ghost step = { λ _ _ _. Unit {0} };
 
     fn ask(&mut self, request: &Message) -> Message {
         match request {
             Message::Ask(ask) => answer_to(self.alloc, ask),
+            Message::Put(write) => answer_to_write(write),
             _ => refused(&Fault::UnknownKind(0)),
         }
+    }
+
+    fn poll(&mut self, ask: &Ask, patience: &Patience) -> Result<MarkedReply, Fault> {
+        if patience.seconds > 30 {
+            return Err(Fault::TurnsSpent);
+        }
+        let mark = match patience.seen {
+            Some(seen) => seen,
+            None => Key::read(b"first")?,
+        };
+        Ok(MarkedReply {
+            reply: answer_to(self.alloc, ask),
+            mark,
+        })
     }
 
     fn owners(&mut self) -> Result<Vec<HeldOwner>, Fault> {

@@ -8,6 +8,10 @@ mod answers;
 mod examples;
 #[cfg(test)]
 mod fixed;
+#[cfg(test)]
+mod parts;
+#[cfg(test)]
+mod writes;
 
 #[cfg(test)]
 use std::fmt::Debug;

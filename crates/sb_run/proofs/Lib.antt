@@ -14,3 +14,5 @@ pub mod StatusAnswers
 pub mod LeavingOut
 pub mod AskedDigests
 pub mod AuditedSeats
+pub mod WriteReplies
+pub mod HttpPolls

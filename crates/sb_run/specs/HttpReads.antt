@@ -1,5 +1,5 @@
 -- What a seat answers over HTTP.
-use Rattle.std.specs.Prelude.{◌≡◌, ℕ, List, length, map}
+use Rattle.std.specs.Prelude.{◌≡◌, ℕ, Bool, true, false, List, length, map}
 use Rattle.std.specs.FinMap.{entries}
 use Rattle.sb_types.specs.Records.{Settings}
 use Rattle.sb_holdings.specs.Nodes.{Node}
@@ -12,8 +12,10 @@ use Rattle.sb_views.specs.Publishing.{IsView}
 use Rattle.sb_directory.specs.Seats.{Seat}
 use Rattle.sb_directory.specs.Serving.{IsLater}
 use Rattle.sb_http.specs.declared.backend.HeldOwner.{HeldOwner}
-use Rattle.sb_http.specs.Acts.{Act, asks, lists, measures, fails}
-use Rattle.sb_run.specs.Control.{IsPageReply, IsUnknown}
+use Rattle.sb_http.specs.Acts.{Act, asks, polls, lists, measures, fails}
+use Rattle.sb_codec.specs.declared.message.ask.Ask as asking
+use Rattle.sb_run.specs.HttpMarks.{IsMark}
+use Rattle.sb_run.specs.Control.{IsPageReply, IsLookedUp, IsUnknown}
 use Rattle.sb_run.specs.StatusReplies.{IsStatusReply}
 
 -- an owner of a view: its name, the version up to which it is shown, and the number of its rows
@@ -23,7 +25,17 @@ held_owner p = record { owner = p.0; version = p.1.upto; rows = length (entries 
 abbrev pub IsListed : NodeView → List HeldOwner → Type 0
 IsListed view owners = owners ≡ map held_owner (entries view)
 
--- a question for rows is answered by a page, and one how the node is by its status; any other message is none
+-- the message names the version of a write, or a fault
+abbrev pub is_write_reply : Message → Bool
+is_write_reply (kinds.Done version) = true
+is_write_reply (kinds.Refused number) = true
+is_write_reply other = false
+
+abbrev pub IsWriteReply : Message → Type 0
+IsWriteReply message = is_write_reply message ≡ true
+
+-- a question for rows is answered by a page, and one how the node is by its status; a write by what the calling thread answers,
+-- and the seat stays as it was; any other message is none
 abbrev pub AnswersQuestion : Node → Settings → Seat → Message → Seat → Message → Type 0
 AnswersQuestion opening settings before (kinds.Ask ask) after reply = IsPageReply opening settings.budget before ask after reply
 AnswersQuestion opening settings before (kinds.AskStatus asked) after reply = IsStatusReply opening settings before asked after reply
@@ -31,7 +43,7 @@ AnswersQuestion opening settings before (kinds.Hello x) after reply = (after ≡
 AnswersQuestion opening settings before (kinds.Digest x) after reply = (after ≡ before) × IsUnknown reply
 AnswersQuestion opening settings before (kinds.Delta x) after reply = (after ≡ before) × IsUnknown reply
 AnswersQuestion opening settings before (kinds.Bye x) after reply = (after ≡ before) × IsUnknown reply
-AnswersQuestion opening settings before (kinds.Put x) after reply = (after ≡ before) × IsUnknown reply
+AnswersQuestion opening settings before (kinds.Put x) after reply = (after ≡ before) × IsWriteReply reply
 AnswersQuestion opening settings before (kinds.Rows x) after reply = (after ≡ before) × IsUnknown reply
 AnswersQuestion opening settings before (kinds.Done x) after reply = (after ≡ before) × IsUnknown reply
 AnswersQuestion opening settings before (kinds.Refused x) after reply = (after ≡ before) × IsUnknown reply
@@ -41,13 +53,19 @@ AnswersQuestion opening settings before (kinds.Notice x) after reply = (after �
 AnswersQuestion opening settings before kinds.AskAges after reply = (after ≡ before) × IsUnknown reply
 AnswersQuestion opening settings before (kinds.Ages x) after reply = (after ≡ before) × IsUnknown reply
 
+-- a poll is answered by a page of what the seat sees in the end, which is no less than before, with the mark of the same rows
+abbrev pub IsPolled : Node → ℕ → Seat → asking.Ask → Seat → Message → List ℕ → Type 0
+IsPolled opening budget before ask after reply mark =
+    IsLater before after × IsLookedUp opening budget after.seen ask reply × IsMark opening after.seen ask mark
+
 -- the owners of the view after these events
 abbrev pub AreOwnersAfter : Node → List Event → List HeldOwner → Type 0
 AreOwnersAfter opening seen owners = (view : NodeView) × IsView (node_after opening seen) view × IsListed view owners
 
--- what a call over HTTP reads, and what the seat has seen then
+-- what a call over HTTP reads or is answered, and what the seat has seen then
 abbrev pub Reads : Node → Settings → Seat → Act → Seat → Type 0
 Reads opening settings before (asks request reply) after = AnswersQuestion opening settings before request after reply
+Reads opening settings before (polls ask patience reply mark) after = IsPolled opening settings.budget before ask after reply mark
 Reads opening settings before (lists owners) after = IsLater before after × AreOwnersAfter opening after.seen owners
 Reads opening settings before (measures text) after = after ≡ before
 Reads opening settings before (fails fault) after = IsLater before after

@@ -15,4 +15,5 @@ pub mod Facts
 pub mod StatusReplies
 pub mod Auditing
 pub mod HttpPorts
+pub mod HttpMarks
 pub mod HttpReads

@@ -314,6 +314,7 @@ impl Acceptor {
                 thread::sleep(node.rt, Duration::from_millis(ACCEPT_PAUSE));
             }
             if node.ending.is_raised() {
+                backlog.handover.wake_owner(node.rt);
                 return backlog.faults;
             }
             for event in &events {

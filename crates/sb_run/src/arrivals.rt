@@ -5,14 +5,15 @@ ghost use Rattle.sb_run.specs.Sources.{IsNumbered};
 use crate::counts::Counts;
 use crate::dialer::has_come;
 use crate::first_hearing::FirstHearing;
+use crate::http_writes::AnswerSender;
 use crate::node::Pace;
 use crate::pool::{Source, Taken};
 use crate::sockets::{Timed, blocking_stream, limit};
 use crate::threads::EndFlag;
-use crossbeam_channel::{Receiver, RecvTimeoutError, Sender, bounded};
+use crossbeam_channel::{Receiver, RecvTimeoutError, Sender, TrySendError, bounded};
 use mio::net;
 use sb_codec::{Ask, Message};
-use sb_types::{Fault, Name};
+use sb_types::{Fault, Name, Write};
 use std::alloc::Global;
 use std::io::{Chain, Cursor, Read};
 use std::os::unix::net::UnixStream;
@@ -35,11 +36,20 @@ pub(crate) enum Job {
     Question(Ask, UnixStream),
 }
 
-/// What a caller asked, and the connection that gets the answer.
+/// What gets the answer to a request.
+#[derive(Drop)]
+pub(crate) enum Caller {
+    /// The connection of a caller at the control socket.
+    Stream(UnixStream),
+    /// A thread that answers over HTTP, which waits for the answer to a write.
+    Worker(AnswerSender),
+}
+
+/// What was asked, and what gets the answer.
 #[derive(Drop)]
 pub(crate) struct Request {
     pub(crate) message: Message,
-    pub(crate) stream: UnixStream,
+    pub(crate) caller: Caller,
 }
 
 /// How often workers asked for something to do.
@@ -77,6 +87,20 @@ struct OwnerSender {
     arrivals: Sender<()>,
 }
 
+/// What hands writes to the calling thread that came over HTTP.
+#[derive(Drop)]
+pub(crate) struct WriteSender {
+    writes: Sender<Request>,
+    arrivals: Sender<()>,
+}
+
+/// The ways to the calling thread: of the thread that accepts, and of those that answer over HTTP.
+#[derive(Drop)]
+struct OwnerWays {
+    accepted: OwnerSender,
+    over_http: WriteSender,
+}
+
 /// The end of the workers.
 #[derive(Drop)]
 pub(crate) struct Jobs {
@@ -96,29 +120,38 @@ pub(crate) struct Requests {
     held: u64,
 }
 
-/// The ways from the thread that accepts to the workers and to the calling thread. `NoMemory`.
-pub(crate) fn new_handover(alloc: Global) -> Result<(Handover, Jobs, Requests), Fault>
+/// The ways from the thread that accepts to the workers and to the calling thread, and that of writes over HTTP to the latter.
+/// `NoMemory`.
+pub(crate) fn new_handover(alloc: Global) -> Result<(Handover, Jobs, Requests, WriteSender), Fault>
     ensures { IfErr result (λ fault. fault ≡ Fault.NoMemory) }
 {
     let (to_workers, from_workers) = bounded::<Job, Global>(alloc, HANDED_MOST)?;
-    let (to_owner, requests) = new_owner_way(alloc)?;
+    let (to_owner, requests) = new_owner_ways(alloc)?;
+    let OwnerWays {
+        accepted,
+        over_http,
+    } = to_owner;
     let handover = Handover {
         to_workers,
-        to_owner,
+        to_owner: accepted,
         handed: 0,
     };
-    Ok((handover, Jobs { from: from_workers }, requests))
+    Ok((handover, Jobs { from: from_workers }, requests, over_http))
 }
 
-/// The way to the calling thread. `NoMemory`.
-fn new_owner_way(alloc: Global) -> Result<(OwnerSender, Requests), Fault>
+/// The ways to the calling thread. `NoMemory`.
+fn new_owner_ways(alloc: Global) -> Result<(OwnerWays, Requests), Fault>
     ensures { IfErr result (λ fault. fault ≡ Fault.NoMemory) }
 {
     let (to_writes, writes) = bounded::<Request, Global>(alloc, HANDED_MOST)?;
     let (to_questions, questions) = bounded::<Request, Global>(alloc, HANDED_MOST)?;
     let (to_others, others) = bounded::<Request, Global>(alloc, HANDED_MOST)?;
     let (to_arrivals, arrivals) = bounded::<(), Global>(alloc, 3 * HANDED_MOST)?;
-    let sender = OwnerSender {
+    let over_http = WriteSender {
+        writes: to_writes.clone()?,
+        arrivals: to_arrivals.clone()?,
+    };
+    let accepted = OwnerSender {
         writes: to_writes,
         questions: to_questions,
         others: to_others,
@@ -132,7 +165,11 @@ fn new_owner_way(alloc: Global) -> Result<(OwnerSender, Requests), Fault>
         takes_writes: false,
         held: 0,
     };
-    Ok((sender, requests))
+    let ways = OwnerWays {
+        accepted,
+        over_http,
+    };
+    Ok((ways, requests))
 }
 
 impl OwnerSender {
@@ -147,7 +184,38 @@ impl OwnerSender {
     }
 }
 
+impl WriteSender {
+    /// Hands a write to the calling thread. `TurnsSpent` if too many wait, or `NoMemory`: then the write is not made. `Closed` if the
+    /// calling thread has ended, or if nothing can report the arrival to it. Then nobody answers the write.
+    pub(crate) fn give<R: Wait>(
+        &self,
+        rt: &R,
+        write: Write,
+        to: AnswerSender,
+    ) -> Result<(), Fault> {
+        let request = Request {
+            message: Message::Put(write),
+            caller: Caller::Worker(to),
+        };
+        match self.writes.try_send(rt, request) {
+            Ok(()) => {}
+            Err(TrySendError::Full(_)) => return Err(Fault::TurnsSpent),
+            Err(TrySendError::OutOfMemory(_)) => return Err(Fault::NoMemory),
+            Err(TrySendError::Disconnected(_)) => return Err(Fault::Closed),
+        }
+        if self.arrivals.try_send(rt, ()).is_err() {
+            return Err(Fault::Closed);
+        }
+        Ok(())
+    }
+}
+
 impl Handover {
+    /// Wakes the calling thread for the end of the node. If there is no room for that, it does not wait.
+    pub(crate) fn wake_owner<R: Wait>(&self, rt: &R) {
+        let _ = self.to_owner.arrivals.try_send(rt, ());
+    }
+
     /// Hands a job to the workers, and says whether there was room.
     fn give<R: Wait>(&mut self, rt: &R, job: Job) -> bool {
         let is_given = self.to_workers.try_send(rt, job).is_ok();
@@ -159,7 +227,8 @@ impl Handover {
 
     /// Hands a request to the calling thread, and says whether there was room.
     fn give_owner<R: Wait>(&self, rt: &R, message: Message, stream: UnixStream) -> bool {
-        self.to_owner.give(rt, Request { message, stream })
+        let caller = Caller::Stream(stream);
+        self.to_owner.give(rt, Request { message, caller })
     }
 
     /// Hands the session of a peer to the workers, with its name if that is known, and with what has come of it. `ReadFailed` if
@@ -298,8 +367,18 @@ impl Requests {
         }
     }
 
+    /// Lets go of the writes that are left, so that nobody waits for an answer to one.
+    fn drop_writes<R: Wait>(&self, rt: &R) {
+        for _ in 0..HANDED_MOST {
+            if self.writes.try_recv(rt).is_err() {
+                return;
+            }
+        }
+    }
+
     /// What is to be done next: a beat once its moment has come, or a request, questions after all others. None once the node is to
-    /// end. Writes and beats wait until the peers were heard, and others are answered meanwhile.
+    /// end, and then the writes that are left are let go. Writes and beats wait until the peers were heard, and others are answered
+    /// meanwhile.
     pub(crate) fn next<R: Wait + Clock>(
         &mut self,
         rt: &R,
@@ -314,6 +393,7 @@ impl Requests {
             }
             let has_arrived = self.await_arrival(rt, takes_writes, beat)?;
             if ending.is_raised() {
+                self.drop_writes(rt);
                 return None;
             }
             if has_arrived {

@@ -55,7 +55,7 @@ fn done(version: u64) -> Message
 }
 
 /// The page that answers an Ask, or its refusal.
-fn look_up<S: NodeTag>(
+pub(crate) fn look_up<S: NodeTag>(
     alloc: Global,
     settings: &Settings,
     entered: &EnteredSeat<S>,
@@ -89,7 +89,7 @@ pub(crate) fn reply_to_ask<S: NodeTag>(
 }
 
 /// Answers a Put: the log takes the write before the directory does.
-fn reply_to_put<L: WriteLog, S: DirectoryTag, H: Wait + Drop, Q: Wait>(
+pub(crate) fn reply_to_put<L: WriteLog, S: DirectoryTag, H: Wait + Drop, Q: Wait>(
     serving: &Serving<S, H, Q>,
     writes: &mut OwnWrites<L>,
     seat: &mut ReaderSeat<S>,

@@ -9,9 +9,11 @@ ghost use Rattle.sb_run.specs.Control.{AnswersAll, AnswersTo};
 ghost use Rattle.sb_run.specs.OwnPurging.{MayPurge};
 ghost use Rattle.sb_run.specs.Running.{IsOpenedFrom};
 
-use crate::arrivals::{Request, Requests, Work};
+use crate::arrivals::{Caller, Request, Requests, Work};
 use crate::beating::BeatTurns;
+use crate::control::reply_to_put;
 use crate::dialer::{Dialing, RoundsTag};
+use crate::http_writes::AnswerSender;
 use crate::log_watch::AskObserver;
 use crate::node::OnLogFault;
 use crate::observer::{Observer, Status};
@@ -28,6 +30,7 @@ use sb_frames::send;
 use sb_log::{StoreCause, WriteLog};
 use sb_types::{Fault, Name, OWNERS_MOST};
 use std::io::Write;
+use std::os::unix::net::UnixStream;
 use std::sync::Wait;
 use std::time::Clock;
 
@@ -71,8 +74,55 @@ impl<S: RoundsTag, H: Wait + Drop, Q: Wait + Clock> NodeContext<'_, S, H, Q> {
         }
     }
 
-    /// Answers a request, and says whether that ended with a fault. The answer is taken within the node's `request`. If that
-    /// limit can't be set, nothing is done.
+    /// Answers a request that came at the control socket, and says whether that ended with a fault. The answer is taken within the
+    /// node's `request`. If that limit can't be set, nothing is done.
+    fn answer_caller<L: WriteLog, O: Observer>(
+        &self,
+        dialing: &Dialing<'_, O>,
+        writes: &mut OwnWrites<L>,
+        message: &Message,
+        stream: UnixStream,
+        seat: ReaderSeat<S>,
+    ) -> (ReaderSeat<S>, bool)
+        ensures closes { (L.seen writes.old.log).is_open ≡ true → (L.seen writes.new.log).is_open ≡ false → writes.new.has_failed ≡ true }
+        ensures answers { AnswersTo L.seen S.opening S.settings writes.old.log writes.old.owed seat message.now writes.new.log writes.new.owed result.0 result.1 }
+    {
+        let pace = &self.pace;
+        if limit(&stream, pace.idle).is_err() {
+            return (seat, true);
+        }
+        let mut output = Timed::new(self.rt, stream, pace.idle, pace.request);
+        let (seat, sent) = self.write_answer(&mut output, dialing, writes, seat, message);
+        (seat, sent.is_err())
+    }
+
+    /// Makes a write that came over HTTP, and hands the answer to the thread that waits for it. With any other message nothing is
+    /// done, which is a fault.
+    #[tactic(auto, using(crate::proofs::WriteReplies::write_reply))]
+    fn answer_worker<L: WriteLog>(
+        &self,
+        writes: &mut OwnWrites<L>,
+        message: &Message,
+        to: AnswerSender,
+        seat: ReaderSeat<S>,
+    ) -> (ReaderSeat<S>, bool)
+        ensures closes { (L.seen writes.old.log).is_open ≡ true → (L.seen writes.new.log).is_open ≡ false → writes.new.has_failed ≡ true }
+        ensures answers { AnswersTo L.seen S.opening S.settings writes.old.log writes.old.owed seat message.now writes.new.log writes.new.owed result.0 result.1 }
+        ensures still { result.1 ≡ true → (writes.new.log ≡ writes.old.log) × (writes.new.owed ≡ writes.old.owed) × (result.0 ≡ seat) }
+    {
+        match message {
+            Message::Put(write) => {
+                let mut seat = seat;
+                let (key, slot) = (&write.key, &write.slot);
+                let reply = reply_to_put(&self.serving(), writes, &mut seat, key, slot);
+                to.send(self.rt, reply);
+                (seat, false)
+            }
+            _ => (seat, true),
+        }
+    }
+
+    /// Answers a request, and says whether that ended with a fault.
     fn answer_one<L: WriteLog, O: Observer>(
         &self,
         dialing: &Dialing<'_, O>,
@@ -84,14 +134,13 @@ impl<S: RoundsTag, H: Wait + Drop, Q: Wait + Clock> NodeContext<'_, S, H, Q> {
         // This request was answered, or nothing came of it, which is a fault.
         ensures answers { AnswersTo L.seen S.opening S.settings writes.old.log writes.old.owed seat request.message writes.new.log writes.new.owed result.0 result.1 }
     {
-        let Request { message, stream } = request;
-        let pace = &self.pace;
-        if limit(&stream, pace.idle).is_err() {
-            return (seat, true);
+        let Request { message, caller } = request;
+        match caller {
+            Caller::Stream(stream) => {
+                self.answer_caller(dialing, writes, &message, stream, seat)
+            }
+            Caller::Worker(to) => self.answer_worker(writes, &message, to, seat),
         }
-        let mut output = Timed::new(self.rt, stream, pace.idle, pace.request);
-        let (seat, sent) = self.write_answer(&mut output, dialing, writes, seat, &message);
-        (seat, sent.is_err())
     }
 }
 

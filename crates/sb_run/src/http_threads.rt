@@ -1,8 +1,8 @@
-//! The threads that answer over HTTP, each from a seat of its own.
+//! The threads that answer over HTTP, each from a seat of its own. A write goes to the calling thread.
 ghost use Rattle.std.specs.Prelude.{◌≡◌, vec_len, IfOk, IfErr};
 ghost use Rattle.std.specs.Thread.{IsSend, IsSync};
 ghost use Rattle.sb_directory.specs.Serving.{IsLater};
-ghost use Rattle.sb_run.specs.HttpReads.{AnswersQuestion, AreOwnersAfter, IsListed};
+ghost use Rattle.sb_run.specs.HttpReads.{AnswersQuestion, AreOwnersAfter, IsListed, IsPolled, IsWriteReply};
 
 use crate::control::{refused_by, reply_to_ask};
 use crate::dialer::{Dialing, RoundsTag};
@@ -12,10 +12,10 @@ use crate::sockets::{Timed, limit};
 use crate::threads::NodeContext;
 use core::mem::replace_with;
 use http_server::Config;
-use sb_codec::Message;
+use sb_codec::{Ask, Message};
 use sb_directory::{EnteredSeat, ReaderSeat};
-use sb_http::{Backend, Door, HeldOwner, HttpService, serve_connection};
-use sb_types::Fault;
+use sb_http::{Backend, Door, HeldOwner, HttpService, MarkedReply, Patience, serve_connection};
+use sb_types::{Fault, Write};
 use sb_views::{NodeTag, Snapshot};
 use std::alloc::Global;
 use std::hash::RandomState;
@@ -31,7 +31,7 @@ use std::{io, thread};
 /// How many connections a node answers over HTTP at once, if it has seats for so many.
 pub const HTTP_WORKERS: u64 = 8;
 
-/// The longest body of a request. None needs one.
+/// The longest body of a request. That of the longest value is far shorter.
 const BODY_MOST: usize = 8_192;
 
 /// How many bytes a caller may still send after its answer, before the connection is closed.
@@ -80,7 +80,21 @@ fn owners_of<S: NodeTag>(alloc: Global, entered: &EnteredSeat<S>) -> Result<Vec<
 }
 
 impl<S: RoundsTag, H: Wait + Drop, Q: Wait + Clock> NodeContext<'_, S, H, Q> {
-    /// The answer to a question at the control socket; `UnknownKind` to any other message.
+    /// The answer of the calling thread to a write. `NoMemory`, before that is asked.
+    fn reply_to_write(&self, write: &Write) -> Message
+        ensures { IsWriteReply result }
+    {
+        match write.slot.copy(self.alloc) {
+            Ok(slot) => {
+                let key = write.key;
+                self.desk
+                    .put(self.rt, self.alloc, self.ending, Write { key, slot })
+            }
+            Err(_) => refused_by(Fault::NoMemory),
+        }
+    }
+
+    /// The answer to a question or to a write at the control socket; `UnknownKind` to any other message.
     fn reply_to_question<O: Observer>(
         &self,
         dialing: &Dialing<'_, O>,
@@ -92,6 +106,7 @@ impl<S: RoundsTag, H: Wait + Drop, Q: Wait + Clock> NodeContext<'_, S, H, Q> {
         match request {
             Message::Ask(ask) => reply_to_ask(self.alloc, self.directory.settings(), seat, ask),
             Message::AskStatus(asked) => self.reply_to_ask_status(dialing, asked, seat),
+            Message::Put(write) => (seat, self.reply_to_write(write)),
             other => (seat, refused_by(Fault::UnknownKind(other.kind()))),
         }
     }
@@ -148,6 +163,17 @@ impl<S: RoundsTag, H: Wait + Drop, Q: Wait + Clock, O: Observer> Backend
             |seat, (node, dialing, request)| -> (ReaderSeat<S>, Message)
                 ensures { AnswersQuestion S.opening S.settings seat request.entry.now result.0 result.1 }
             { node.reply_to_question(dialing, request, seat) },
+        )
+    }
+
+    fn poll(&mut self, ask: &Ask, patience: &Patience) -> Result<MarkedReply, Fault> {
+        replace_with(
+            &mut self.seat,
+            (self.node, ask, patience),
+            |seat, (node, ask, patience)| -> (ReaderSeat<S>, Result<MarkedReply, Fault>)
+                ensures polled { IfOk result.1 (λ found. IsPolled S.opening S.settings.budget seat ask.entry.now result.0 found.reply found.mark) }
+                ensures later { IsLater seat result.0 }
+            { node.poll(seat, ask, patience) },
         )
     }
 

@@ -39,6 +39,9 @@
 //! - A node does not end, or a node with endless rounds ends. Tests and `tools/check-node` refuse it.
 //! - A peer is dialed at another time, or news does not wake the threads that dial. Tests and
 //!   `tools/check-node` refuse it.
+//! - A thread that answers over HTTP hands in another write than it was asked for, or none. Or it gets the answer to
+//!   another write, or a version that no log gave. Tests and `tools/check-node` refuse it.
+//! - More writes over HTTP wait at once than may, or fewer. Tests and `tools/check-node` refuse it.
 //! - A node removes a socket at which somebody listens. Tests and `tools/check-node` refuse it.
 //! - `Timed::left` does not call `time_between`, or a read or a write waits longer than it grants. Tests refuse it.
 //! - The loop that accepts connections ends if one accept fails. Only `tools/check-node` refuses it.
@@ -144,8 +147,10 @@ mod facts;
 mod first_hearing;
 mod first_message;
 mod heard;
+mod http_polls;
 mod http_socket;
 mod http_threads;
+mod http_writes;
 mod laws;
 mod log_watch;
 mod node;

@@ -12,6 +12,7 @@ use crate::dialer::{Dialing, RoundsTag, rounds_channel};
 use crate::first_hearing::FirstHearing;
 use crate::heard::HeardTimes;
 use crate::http_threads::HTTP_WORKERS;
+use crate::http_writes::WriteDesk;
 use crate::observer::Observer;
 use crate::own_writes::{ClosableLog, OwnWrites};
 use crate::sockets::BoundSockets;
@@ -480,11 +481,12 @@ pub(crate) fn run_tagged<
     ensures failed { start.writes.has_failed ≡ true → pace.on_log_fault ≡ OnLogFault.Exit → IsErr result }
 {
     let rounds = rounds_channel::<S>(alloc)?;
-    let (handover, jobs, requests) = new_handover(alloc)?;
+    let (handover, jobs, requests, write_sender) = new_handover(alloc)?;
     let events = Acceptor::events(alloc)?;
     let http = http_seats(paths.http);
     let (directory, thread_seats) = seat_all::<S, R>(rt, alloc, start.directory, http)?;
     let threads = thread_seats.news.len();
+    let desk = WriteDesk::new(write_sender, thread_seats.http.len() as u64);
     let (bell, parkers) = Bell::new(alloc, threads == 0)?;
     let (dialing, turns) = Dialing::new(alloc, paths.peers, &pace, threads, observer, parkers)?;
     let hearing = FirstHearing::new(alloc, paths.peers.len(), deadline_after(rt, pace.hearing))?;
@@ -508,6 +510,7 @@ pub(crate) fn run_tagged<
         bell: &bell,
         counts: &counts,
         asked: &asked,
+        desk: &desk,
         forgotten: &forgotten,
         vain_offers: &vain_offers,
         hearing: &hearing,

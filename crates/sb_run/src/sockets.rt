@@ -176,9 +176,14 @@ impl<'a> BoundSockets<'a> {
         }
     }
 
-    /// Wakes the thread that accepts, and those that accept over HTTP.
+    /// Wakes the thread that accepts.
     pub(crate) fn wake(&self) {
         let _ = self.waker.wake();
+    }
+
+    /// Wakes all threads that accept, for the end of the node: from then on nobody can connect over HTTP.
+    pub(crate) fn wake_for_end(&self) {
+        self.wake();
         if let Some(http) = &self.http {
             http.wake();
         }

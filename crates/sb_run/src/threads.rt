@@ -12,6 +12,7 @@ use crate::counts::Counts;
 use crate::dialer::{Dialing, Rounds, RoundsReceiver, RoundsSender, RoundsTag, Turns};
 use crate::first_hearing::FirstHearing;
 use crate::heard::HeardTimes;
+use crate::http_writes::WriteDesk;
 use crate::log_watch::LogWatch;
 use crate::node::{Beat, OnLogFault, Pace, Runtime};
 use crate::observer::Observer;
@@ -536,6 +537,7 @@ pub(crate) struct NodeContext<'a, S: RoundsTag, H: Wait + Drop, Q> {
     pub(crate) bell: &'a Bell,
     pub(crate) counts: &'a Counts,
     pub(crate) asked: &'a Asked,
+    pub(crate) desk: &'a WriteDesk,
     pub(crate) forgotten: &'a ForgottenOwners,
     pub(crate) vain_offers: &'a VainOffers,
     /// Which peers were heard.
@@ -594,7 +596,7 @@ impl EndFlag {
     /// Ends the node: wakes the thread that accepts, and its end is that of what the workers and the calling thread wait for.
     pub(crate) fn raise(&self, sockets: &BoundSockets) {
         self.flag.store(true, Ordering::SeqCst);
-        sockets.wake();
+        sockets.wake_for_end();
     }
 }
 

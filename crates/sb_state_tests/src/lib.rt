@@ -23,6 +23,8 @@ mod stages;
 #[cfg(test)]
 mod status;
 #[cfg(test)]
+mod swaps;
+#[cfg(test)]
 mod table;
 #[cfg(test)]
 mod types;

@@ -602,7 +602,7 @@ fn a_floor_makes_room(rt: HostRuntime) {
 }
 
 /// Enters a write of a later version than the progress. Refuses all others as `OutOfTurn`.
-fn enter_staged(stage: &mut Stage, entry: Entry) -> Result<(), Fault> {
+pub fn enter_staged(stage: &mut Stage, entry: Entry) -> Result<(), Fault> {
     let version = entry.version();
     if version <= stage.progress() {
         return Err(Fault::OutOfTurn(version));
@@ -622,7 +622,7 @@ fn staged(rt: &impl Abort, alloc: Global, floor: u64, progress: u64, writes: &[L
 }
 
 /// Returns what is shown after the stage was swapped in, if it has reached its floor and what is held.
-fn swapped(alloc: Global, shown: &Table, stage: &Stage) -> Result<Table, Fault> {
+pub fn swapped(alloc: Global, shown: &Table, stage: &Stage) -> Result<Table, Fault> {
     if stage.progress() < stage.floor() || stage.progress() < shown.upto() {
         return Err(Fault::FloorTooHigh);
     }

@@ -1,0 +1,196 @@
+//! Writes and their answers.
+
+use crate::fixed::answer_at;
+use crate::parts::{body, status};
+use crate::same;
+use sb_http::Door;
+use std::alloc::Global;
+use std::process::Abort;
+use std::random::RandomSource;
+
+/// Compares the status and the body of the answer to a request for this target with this body.
+fn case<R: Abort + RandomSource>(
+    rt: &R,
+    alloc: Global,
+    line: &str,
+    sent: &str,
+    wanted: &str,
+    content: &str,
+) {
+    let length = sent.len();
+    let request = crate::got(
+        rt,
+        format!(in alloc; "{line} HTTP/1.1\r\nHost: x\r\nContent-Length: {length}\r\n\r\n{sent}"),
+    );
+    let found = answer_at(rt, alloc, Door::Socket, request.as_bytes());
+    same(rt, &status(&found), &wanted);
+    same(rt, &body(&found), &content);
+}
+
+#[test]
+fn each_kind_is_written(rt: HostRuntime) {
+    let alloc = rt.alloc();
+    let one = "{\"version\":1}\n";
+    let weight = "{\"kind\":\"weight\",\"value\":5}";
+    case(
+        &rt,
+        alloc,
+        "PUT /v1/keys/web/k",
+        weight,
+        "200",
+        "{\"version\":5}\n",
+    );
+    case(
+        &rt,
+        alloc,
+        "PUT /v1/keys/web%2Fk",
+        weight,
+        "200",
+        "{\"version\":5}\n",
+    );
+    case(
+        &rt,
+        alloc,
+        "PUT /v1/keys?key=web/k",
+        weight,
+        "200",
+        "{\"version\":5}\n",
+    );
+    let flag = " {\"value\" : true, \"kind\" : \"flag\"}\n";
+    case(&rt, alloc, "PUT /v1/keys/k", flag, "200", one);
+    let addr = "{\"kind\":\"addr\",\"value\":\"10.0.0.1:80\"}";
+    case(&rt, alloc, "PUT /v1/keys/k", addr, "200", one);
+    let text = "{\"kind\":\"text\",\"value\":\"Gr\\u00fc\\u00dfe\\n\"}";
+    case(&rt, alloc, "PUT /v1/keys/k", text, "200", one);
+    let twice = "{\"kind\":\"flag\",\"value\":4,\"kind\":\"weight\",\"value\":6}";
+    case(
+        &rt,
+        alloc,
+        "PUT /v1/keys/k",
+        twice,
+        "200",
+        "{\"version\":6}\n",
+    );
+}
+
+#[test]
+fn a_body_that_is_no_value_is_refused(rt: HostRuntime) {
+    let alloc = rt.alloc();
+    let form =
+        "{\"error\":\"the body is JSON of this form: {\\\"kind\\\":\\\"weight\\\",\\\"value\\\":5}\"}\n";
+    for sent in [
+        "",
+        "5",
+        "[]",
+        "{}",
+        "{\"kind\":\"weight\"}",
+        "{\"kind\":\"weight\",\"value\":5",
+        "{\"kind\":\"weight\",\"value\":5,\"x\":1}",
+        "{\"kind\":\"weight\",\"values\":5}",
+        "{\"kind\":\"text\",\"value\":\"\\ud800\"}",
+        "{\"kind\":\"weight\",\"value\":5}5",
+    ] {
+        case(&rt, alloc, "PUT /v1/keys/k", sent, "400", form);
+    }
+    let value =
+        "{\"error\":\"a value is addr with 1 to 128 printing bytes, weight below 2^63, flag true or false, or text of 1 to 512 UTF-8 bytes. In a text, a backslash and two digits, as \\\\0a, spell a control byte or a backslash\",\"fault\":4}\n";
+    for sent in [
+        "{\"kind\":\"x\",\"value\":5}",
+        "{\"kind\":5,\"value\":5}",
+        "{\"kind\":\"weight\",\"value\":\"5\"}",
+        "{\"kind\":\"weight\",\"value\":-1}",
+        "{\"kind\":\"weight\",\"value\":5.5}",
+        "{\"kind\":\"weight\",\"value\":5e0}",
+        "{\"kind\":\"weight\",\"value\":9223372036854775808}",
+        "{\"kind\":\"flag\",\"value\":\"true\"}",
+        "{\"kind\":\"addr\",\"value\":\"a b\"}",
+        "{\"kind\":\"text\",\"value\":\"\"}",
+        "{\"kind\":\"text\",\"value\":null}",
+    ] {
+        case(&rt, alloc, "PUT /v1/keys/k", sent, "400", value);
+    }
+}
+
+#[test]
+fn a_fault_of_a_write_has_its_status(rt: HostRuntime) {
+    let alloc = rt.alloc();
+    let gone = "{\"error\":\"there is nothing to remove under this key\",\"fault\":9}\n";
+    case(&rt, alloc, "DELETE /v1/keys/k", "", "404", gone);
+    case(&rt, alloc, "DELETE /v1/keys?key=k", "5", "404", gone);
+    let full =
+        "{\"error\":\"the owner has 4,096 keys, removed ones counted; write under a key that it has\",\"fault\":6}\n";
+    case(
+        &rt,
+        alloc,
+        "PUT /v1/keys/k",
+        "{\"kind\":\"text\",\"value\":\"fault 6\"}",
+        "507",
+        full,
+    );
+    let spent =
+        "{\"error\":\"the owner has used every version that the settings allow\",\"fault\":8}\n";
+    case(
+        &rt,
+        alloc,
+        "PUT /v1/keys/k",
+        "{\"kind\":\"text\",\"value\":\"fault 8\"}",
+        "507",
+        spent,
+    );
+    let conflict =
+        "{\"error\":\"another node writes under this name: its version 0 was seen; give each node a name of its own\",\"fault\":21}\n";
+    case(
+        &rt,
+        alloc,
+        "PUT /v1/keys/k",
+        "{\"kind\":\"text\",\"value\":\"fault 21\"}",
+        "409",
+        conflict,
+    );
+    let closed = "{\"error\":\"this is closed; open it again\",\"fault\":15}\n";
+    case(
+        &rt,
+        alloc,
+        "PUT /v1/keys/k",
+        "{\"kind\":\"text\",\"value\":\"fault 15\"}",
+        "503",
+        closed,
+    );
+}
+
+#[test]
+fn a_write_has_a_key_and_a_method(rt: HostRuntime) {
+    let alloc = rt.alloc();
+    let key =
+        "{\"error\":\"a key is 1 to 64 of the bytes a-z, 0-9, '.', '_', '/' and -; a prefix may be empty\",\"fault\":3}\n";
+    case(&rt, alloc, "PUT /v1/keys/K", "", "400", key);
+    case(&rt, alloc, "DELETE /v1/keys/", "", "400", key);
+    let parameters =
+        "{\"error\":\"the parameters are owner, prefix, after, wait and seen, or owner and key, or key for a write, each once\"}\n";
+    case(&rt, alloc, "PUT /v1/keys", "", "400", parameters);
+    case(
+        &rt,
+        alloc,
+        "PUT /v1/keys?key=k&owner=a",
+        "",
+        "400",
+        parameters,
+    );
+    let method = "{\"error\":\"this path is only written\"}\n";
+    case(&rt, alloc, "GET /v1/keys/k", "", "405", method);
+    case(&rt, alloc, "POST /v1/keys", "", "405", method);
+}
+
+#[test]
+fn a_port_takes_no_write(rt: HostRuntime) {
+    let refusal = "{\"error\":\"writes are taken at a Unix socket only\"}\n";
+    for line in ["PUT /v1/keys/k", "DELETE /v1/keys/k", "PUT /v1/keys?key=k"] {
+        let request = crate::got(
+            &rt,
+            format!(in rt.alloc(); "{line} HTTP/1.1\r\nHost: localhost\r\n\r\n"),
+        );
+        let found = answer_at(&rt, rt.alloc(), Door::Port, request.as_bytes());
+        same(&rt, &status(&found), &"403");
+        same(&rt, &body(&found), &refusal);
+    }
+}

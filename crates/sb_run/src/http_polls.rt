@@ -1,0 +1,207 @@
+//! How a thread that answers over HTTP waits until the rows that are asked for are others than those that were seen.
+ghost use Rattle.std.specs.Prelude.{◌≡◌, IfOk};
+ghost use Rattle.sb_directory.specs.Serving.{IsLater};
+ghost use Rattle.sb_run.specs.Control.{IsLookedUp};
+ghost use Rattle.sb_run.specs.HttpMarks as spec;
+ghost use Rattle.sb_run.specs.HttpReads.{IsPolled};
+
+use crate::accepting::deadline_after;
+use crate::control::look_up;
+use crate::dialer::{RoundsTag, has_come};
+use crate::threads::NodeContext;
+use sb_codec::Ask;
+use sb_directory::{DirectoryWatch, EnteredSeat, ReaderSeat};
+use sb_http::{MarkedReply, Patience};
+use sb_types::{Fault, Key};
+use sb_views::{LiveRows, Snapshot};
+use sb_watch::Filter;
+use std::alloc::Global;
+use std::hash::{BuildHasher, Hasher, RandomState};
+use std::sync::Wait;
+use std::thread;
+use std::time::{Clock, Duration, Instant};
+
+/// After how long a poll that waits looks whether something changed, in milliseconds.
+const CHANGE_PAUSE: u64 = 5;
+
+/// How many notes the watch of a poll has room for: one says that something changed.
+const NOTES_OF_ONE: usize = 1;
+
+/// The hash of the owner, the key and the version of each row.
+fn hash_of(keys: RandomState, rows: LiveRows<'_>) -> u64
+    ensures { result ≡ spec.hash_of keys rows.entry }
+{
+    let mut hasher = keys.build_hasher();
+    for row in rows {
+        hasher.write(row.owner.bytes());
+        hasher.write_u8(b' ');
+        hasher.write(row.key.bytes());
+        hasher.write_u8(b' ');
+        hasher.write_u64(row.live.version());
+    }
+    hasher.finish()
+}
+
+/// The mark of all rows that are asked for, by keys of this run. So in another run the same rows have another mark. `NoMemory`.
+fn mark_of(
+    alloc: Global,
+    keys: RandomState,
+    snapshot: &Snapshot<'_>,
+    ask: &Ask,
+) -> Result<Key, Fault>
+    ensures { IfOk result (λ mark. mark ≡ spec.mark_of keys ask.now snapshot.now) }
+{
+    let hash = hash_of(keys, snapshot.rows(ask.owner, ask.prefix));
+    let text = format!(in alloc; "{hash}")?;
+    Key::read(text.as_bytes())
+}
+
+/// Whether rows were found, and they are those of this mark.
+fn shows(found: &Result<MarkedReply, Fault>, seen: Key) -> bool {
+    match found {
+        Ok(found) => found.mark == seen,
+        Err(_) => false,
+    }
+}
+
+impl<S: RoundsTag, H: Wait + Drop, Q: Wait + Clock> NodeContext<'_, S, H, Q> {
+    /// The page of the snapshot that a seat has entered, with the mark of the same snapshot. `NoMemory`.
+    fn look(
+        &self,
+        keys: RandomState,
+        entered: &EnteredSeat<S>,
+        ask: &Ask,
+    ) -> Result<MarkedReply, Fault>
+        ensures page { IfOk result (λ found. IsLookedUp S.opening S.settings.budget entered.now.seen ask.now found.reply) }
+        ensures mark { IfOk result (λ found. spec.IsMark S.opening entered.now.seen ask.now found.mark) }
+    {
+        let mark = mark_of(self.alloc, keys, &entered.snapshot(), ask)?;
+        let reply = look_up(self.alloc, self.directory.settings(), entered, ask);
+        Ok(MarkedReply { reply, mark })
+    }
+
+    /// The same from a seat. `Closed` if it cannot enter; `NoMemory`.
+    fn look_from_seat(
+        &self,
+        keys: RandomState,
+        seat: ReaderSeat<S>,
+        ask: &Ask,
+    ) -> (ReaderSeat<S>, Result<MarkedReply, Fault>)
+        ensures polled { IfOk result.1 (λ found. IsPolled S.opening S.settings.budget seat ask.now result.0 found.reply found.mark) }
+        ensures later { IsLater seat result.0 }
+    {
+        match seat.enter() {
+            Ok(entered) => {
+                let found = self.look(keys, &entered, ask);
+                (entered.leave(), found)
+            }
+            Err(seat) => (seat, Err(Fault::Closed)),
+        }
+    }
+
+    /// Whether a poll waits no longer: its time is over, or the node is to end.
+    fn has_waited(&self, until: Option<Instant>) -> bool {
+        until.is_none() || has_come(self.rt, until) || self.ending.is_raised()
+    }
+
+    /// Waits until something changed that a watch is for, until this moment, or until the node is to end.
+    fn await_change(&self, watch: &DirectoryWatch<S>, until: Option<Instant>) {
+        for _ in self.rt.forever() {
+            if self.has_waited(until) {
+                return;
+            }
+            // What has no memory to be published is waited for.
+            match self.directory.has_note(self.rt, watch) {
+                Ok(false) | Err(Fault::NoMemory) => {}
+                _ => return,
+            }
+            thread::sleep(self.rt, Duration::from_millis(CHANGE_PAUSE));
+        }
+    }
+
+    /// Looks from a seat. If these are the rows that were seen, it then waits until one of them changes, or until this moment. The
+    /// faults of `watch`; `Closed` if the seat cannot enter; `NoMemory`.
+    fn look_and_wait(
+        &self,
+        keys: RandomState,
+        seat: ReaderSeat<S>,
+        ask: &Ask,
+        seen: Key,
+        until: Option<Instant>,
+    ) -> (ReaderSeat<S>, Result<MarkedReply, Fault>)
+        ensures polled { IfOk result.1 (λ found. IsPolled S.opening S.settings.budget seat ask.now result.0 found.reply found.mark) }
+        ensures later { IsLater seat result.0 }
+    {
+        let filter = Filter {
+            owner: ask.owner,
+            prefix: ask.prefix,
+        };
+        // The watch is older than the look, so a change after the look ends the wait.
+        let watch = match self.directory.watch(self.rt, filter, NOTES_OF_ONE) {
+            Ok(watch) => watch,
+            Err(fault) => return (seat, Err(fault)),
+        };
+        let (seat, found) = self.look_from_seat(keys, seat, ask);
+        if shows(&found, seen) {
+            self.await_change(&watch, until);
+        }
+        let _ = self.directory.unwatch(self.rt, &watch);
+        (seat, found)
+    }
+
+    /// Looks after each change, until the rows are others than those that were seen, or until this moment.
+    fn look_until(
+        &self,
+        keys: RandomState,
+        seat: ReaderSeat<S>,
+        ask: &Ask,
+        seen: Key,
+        until: Option<Instant>,
+    ) -> (ReaderSeat<S>, Result<MarkedReply, Fault>)
+        ensures polled { IfOk result.1 (λ found. IsPolled S.opening S.settings.budget seat ask.now result.0 found.reply found.mark) }
+        ensures later { IsLater seat result.0 }
+    {
+        let mut current = seat;
+        for _ in self.rt.forever() {
+            let (next, found) = self.look_and_wait(keys, current, ask, seen, until);
+            if !shows(&found, seen) || self.has_waited(until) {
+                return (next, found);
+            }
+            current = next;
+        }
+        unreachable!()
+    }
+
+    /// Answers a poll. One without a mark, or without time, looks once. Its faults, in this order:
+    ///
+    /// - `TurnsSpent` if too many wait.
+    /// - The faults of `watch`.
+    /// - `Closed` if the seat cannot enter.
+    /// - `NoMemory`.
+    pub(crate) fn poll(
+        &self,
+        seat: ReaderSeat<S>,
+        ask: &Ask,
+        patience: &Patience,
+    ) -> (ReaderSeat<S>, Result<MarkedReply, Fault>)
+        ensures polled { IfOk result.1 (λ found. IsPolled S.opening S.settings.budget seat ask.now result.0 found.reply found.mark) }
+        ensures later { IsLater seat result.0 }
+    {
+        let Some(socket) = &self.sockets.http else {
+            return (seat, Err(Fault::Closed));
+        };
+        let keys = socket.keys();
+        let until = deadline_after(self.rt, patience.seconds.saturating_mul(1_000));
+        match patience.seen {
+            Some(seen) if patience.seconds > 0 => {
+                if !self.desk.take_poll() {
+                    return (seat, Err(Fault::TurnsSpent));
+                }
+                let (seat, found) = self.look_until(keys, seat, ask, seen, until);
+                self.desk.leave_poll();
+                (seat, found)
+            }
+            _ => self.look_from_seat(keys, seat, ask),
+        }
+    }
+}

@@ -1,0 +1,66 @@
+#!/bin/sh
+# Reads a node of attrdir over HTTP, by curl alone:
+#
+#     attrdir_http.sh ADDRESS rows [PREFIX]     prints all rows, or those under a prefix
+#     attrdir_http.sh ADDRESS row OWNER KEY     prints one row
+#     attrdir_http.sh ADDRESS watch [PREFIX]    prints "+ ROW" for each row that comes and "- ROW" for each that goes, until Ctrl-C
+#
+# ADDRESS is that of the node's --http: 127.0.0.1:PORT, [::1]:PORT, or the path of a socket. A row is a line of JSON.
+# If the node refuses, the status is 3, and its answer is on standard error. If no node answers, the status is that of curl.
+set -u
+LC_ALL=C
+export LC_ALL
+line='
+'
+
+# Asks for a path, and puts the status of the answer into $code and its body into $body.
+ask() {
+    code='' body=''
+    case $address in
+        127.0.0.1:* | "[::1]:"*) set -- "http://$address$1" ;;
+        *) set -- "http://localhost$1" --unix-socket "$address" ;;
+    esac
+    answer=$(curl -sS -g -m 90 --noproxy '*' -w '\n%{http_code}' "$@") || return
+    code=${answer##*"$line"} body=${answer%"$line"*}
+    body=${body%"$line"}
+    [ "$code" = 200 ] || { printf '%s\n' "status $code: $body" >&2 && return 3; }
+}
+
+# Prints a word of $body, which the last member of this name has. A quote within a text has a backslash before it, so no text has such members.
+last() { printf '%s\n' "$body" | sed -n 's/.*[{,]"'"$1"'":"\{0,1\}\([^",}]*\).*/\1/p'; }
+
+# Prints the rows of the page in $body, a line each, and those of all pages after it.
+pages() {
+    while :; do
+        printf '%s\n' "$body" | sed -n 's/.*[{,]"rows":\[\(.*\)\].*/\1/p' | sed -e 's/},\({"[a-z_]*":\)/}\n\1/g' -e '/^$/d'
+        [ "$(last more)" = true ] || return 0
+        ask "/v1/rows?prefix=$1&after=$(last owner)/$(last key)" || return
+    done
+}
+
+# Waits until the mark of the rows is another, and compares all of them with those of before.
+watch() {
+    now=$(mktemp) old=$(mktemp) mark=''
+    trap 'rm -f "$now" "$old"' EXIT
+    trap 'exit 130' INT
+    trap 'exit 143' TERM
+    while :; do
+        if ask "/v1/rows?prefix=$1&wait=30s${mark:+&seen=$mark}" && seen=$(last seen) && pages "$1" > "$now"; then
+            sort -o "$now" "$now"
+            comm -3 "$old" "$now" | sed -e 's/^\t/+ /' -e t -e 's/^/- /'
+            cp "$now" "$old" && mark=$seen
+        elif [ "${code:-503}" = 503 ]; then
+            sleep 1 # the node does not run, or others wait in all its places
+        else
+            return 3
+        fi
+    done
+}
+
+address=${1-} command=${2-}
+case $#,$command in
+    2,rows | 3,rows) ask "/v1/rows?prefix=${3-}" && pages "${3-}" ;;
+    4,row) ask "/v1/rows?owner=$3&key=$4" && printf '%s\n' "$body" ;;
+    2,watch | 3,watch) watch "${3-}" ;;
+    *) sed -n '2,/^[^#]/s/^# \{0,1\}//p' "$0" >&2 && exit 2 ;;
+esac
