@@ -15,6 +15,8 @@ mod hearing;
 #[cfg(test)]
 mod making;
 #[cfg(test)]
+mod over_http;
+#[cfg(test)]
 mod peers;
 #[cfg(test)]
 mod pushing;
