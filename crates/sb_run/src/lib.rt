@@ -39,9 +39,11 @@
 //! - A node does not end, or a node with endless rounds ends. Tests and `tools/check-node` refuse it.
 //! - A peer is dialed at another time, or news does not wake the threads that dial. Tests and
 //!   `tools/check-node` refuse it.
-//! - A thread that answers over HTTP hands in another write than it was asked for, or none. Or it gets the answer to
-//!   another write, or a version that no log gave. Tests and `tools/check-node` refuse it.
-//! - More writes over HTTP wait at once than may, or fewer. Tests and `tools/check-node` refuse it.
+//! - A thread that answers over HTTP gets the answer to another write, or a version that no log gave, or a fault although
+//!   the write was made. Tests and `tools/check-node` refuse it.
+//! - A request over HTTP that only reads makes a write too. Or a `PUT` or `DELETE` makes another write, or makes it twice.
+//!   No contract sees what goes to the calling thread. Tests and `tools/check-node` refuse it.
+//! - All threads that answer over HTTP wait for writes, or fewer than may. Tests and `tools/check-node` refuse it.
 //! - A node removes a socket at which somebody listens. Tests and `tools/check-node` refuse it.
 //! - `Timed::left` does not call `time_between`, or a read or a write waits longer than it grants. Tests refuse it.
 //! - The loop that accepts connections ends if one accept fails. Only `tools/check-node` refuses it.
