@@ -2,7 +2,7 @@
 
 use crate::making::{new_log, settings_with};
 use crate::peers::{next_of, reach, talk};
-use crate::running::{Host, pace, paths_of};
+use crate::running::{Host, pace};
 use crate::waking::silent_b;
 use crate::{got, same};
 use sb_run::{Nobody, NodeConfig, Pace, Paths, Ran, run_node};
@@ -10,7 +10,7 @@ use sb_types::{BUDGET_LEAST, Fault};
 use std::alloc::Global;
 use std::io::Write;
 use std::net::{Net, TcpListener, TcpStream};
-use std::os::unix::net::{UnixListener, UnixStream};
+use std::os::unix::net::UnixListener;
 use std::process::Abort;
 use std::{fs, io, thread};
 
@@ -24,16 +24,25 @@ const DELETE_W: &str = "DELETE /v1/keys/w HTTP/1.1\r\nHost: x\r\n\r\n";
 /// The question for all rows.
 const GET_ROWS: &str = "GET /v1/rows HTTP/1.1\r\nHost: x\r\n\r\n";
 
-/// Runs the node a with so many seats. Three are for other threads, and each more is for one that answers over HTTP.
-fn run_with_seats<R: Host + Net<Listener = TcpListener, Stream = TcpStream>>(
+/// The paths of a node that answers over HTTP too, and of its peers.
+fn paths_with_http<'a>(peers: &'a [&'a str]) -> Paths<'a> {
+    Paths {
+        sock: "http.sock",
+        control: "http.control",
+        peers,
+        http: Some("http.socket"),
+    }
+}
+
+/// Runs the node a with four seats: three are for other threads, and one is for a thread that answers over HTTP.
+fn run_with_http<R: Host + Net<Listener = TcpListener, Stream = TcpStream>>(
     rt: &R,
     alloc: Global,
     paths: &Paths,
     pace: Pace,
-    seats: u64,
 ) -> Result<Ran, Fault> {
     let config = NodeConfig {
-        settings: settings_with(rt, BUDGET_LEAST, seats, 1),
+        settings: settings_with(rt, BUDGET_LEAST, 4, 1),
         paths: *paths,
         pace,
         beat: None,
@@ -42,15 +51,10 @@ fn run_with_seats<R: Host + Net<Listener = TcpListener, Stream = TcpStream>>(
     run_node(rt, alloc, config, new_log(rt, alloc, b"a"), &Nobody)
 }
 
-/// A request, on a connection that is still to be answered.
-fn asked<R: Net + Abort>(rt: &R, http: &str, request: &str) -> UnixStream {
+/// The status and the body of the answer to a request, with a space between.
+fn answer<R: Net + Abort>(rt: &R, alloc: Global, http: &str, request: &str) -> String {
     let mut stream = reach(rt, http);
     got(rt, stream.write_all(request.as_bytes()));
-    stream
-}
-
-/// The status and the body of an answer, with a space between.
-fn answer_on(rt: &impl Abort, alloc: Global, stream: UnixStream) -> String {
     let whole = got(rt, io::read_to_string(alloc, stream));
     let (head, body) = match whole.as_str().split_once("\r\n\r\n") {
         Some(parts) => parts,
@@ -61,11 +65,6 @@ fn answer_on(rt: &impl Abort, alloc: Global, stream: UnixStream) -> String {
         None => "",
     };
     got(rt, format!(in alloc; "{status} {body}"))
-}
-
-/// The same of a request.
-fn answer<R: Net + Abort>(rt: &R, alloc: Global, http: &str, request: &str) -> String {
-    answer_on(rt, alloc, asked(rt, http, request))
 }
 
 /// Writes, reads and removes while the first round with b goes on.
@@ -88,14 +87,12 @@ fn write_and_read<R: Net + Abort>(
 
 #[test]
 fn writes_over_http_are_made(rt: HostRuntime) {
-    let peers = ["http.b"];
-    let mut paths = paths_of("http.sock", "http.control", &peers);
-    paths.http = Some("http.socket");
+    let paths = paths_with_http(&["http.b"]);
     let alloc = rt.alloc();
     let listener = got(&rt, UnixListener::bind(&rt, "http.b"));
     let (ran, [put, rows, removed, again]) = thread::join(
         &rt,
-        || run_with_seats(&rt, alloc, &paths, pace(1, 0), 4),
+        || run_with_http(&rt, alloc, &paths, pace(1, 0)),
         || write_and_read(&rt, alloc, &listener, "http.socket"),
     );
     got(&rt, fs::remove_file(&rt, "http.b"));
@@ -106,50 +103,6 @@ fn writes_over_http_are_made(rt: HostRuntime) {
     same(&rt, &removed.as_str(), &"200 {\"version\":2}\n");
     let gone = "404 {\"error\":\"there is nothing to remove under this key\",\"fault\":9}\n";
     same(&rt, &again.as_str(), &gone);
-    same(&rt, &got(&rt, ran).events, &2);
-}
-
-/// Writes twice while the first round with b goes on, which both writes wait for. Of two threads only one may wait.
-fn write_in_the_first_round<R: Net + Abort>(
-    rt: &R,
-    alloc: Global,
-    listener: &UnixListener,
-    http: &str,
-) -> [String; 3] {
-    let dialed = next_of(rt, listener);
-    let one = asked(rt, http, PUT_W);
-    let other = asked(rt, http, PUT_W);
-    let rows = answer(rt, alloc, http, GET_ROWS);
-    talk(rt, alloc, &mut silent_b(rt, alloc), &dialed, None);
-    let answers = [answer_on(rt, alloc, one), answer_on(rt, alloc, other), rows];
-    let dialed = next_of(rt, listener);
-    talk(rt, alloc, &mut silent_b(rt, alloc), &dialed, None);
-    answers
-}
-
-/// How many of these answers begin with a status.
-fn count_of(answers: [&str; 2], status: &str) -> usize {
-    answers.iter().filter(|it| it.starts_with(status)).count()
-}
-
-#[test]
-fn writes_over_http_wait_for_the_first_round(rt: HostRuntime) {
-    let peers = ["wait.b"];
-    let mut paths = paths_of("wait.sock", "wait.control", &peers);
-    paths.http = Some("wait.socket");
-    let alloc = rt.alloc();
-    let listener = got(&rt, UnixListener::bind(&rt, "wait.b"));
-    let mut pace = pace(2, 0);
-    pace.hearing = 60_000;
-    let (ran, [one, other, rows]) = thread::join(
-        &rt,
-        || run_with_seats(&rt, alloc, &paths, pace, 5),
-        || write_in_the_first_round(&rt, alloc, &listener, "wait.socket"),
-    );
-    got(&rt, fs::remove_file(&rt, "wait.b"));
-    same(&rt, &rows.as_str(), &"200 {\"more\":false,\"rows\":[]}\n");
-    let answers = [one.as_str(), other.as_str()];
-    same(&rt, &count_of(answers, "503 "), &1);
-    same(&rt, &count_of(answers, "200 {\"version\":1}"), &1);
-    same(&rt, &got(&rt, ran).rounds, &2);
+    // The write, the removal, and the delta of b.
+    same(&rt, &got(&rt, ran).events, &3);
 }
