@@ -58,11 +58,7 @@ impl<'a, 'n, 'd, S: RoundsTag, H: Wait + Drop, Q, O> Model for SeatBackend<'a, '
 }
 
 /// The owners that a snapshot shows, with these ages. `NoMemory`.
-fn owners_in(
-    alloc: Global,
-    snapshot: &Snapshot<'_>,
-    ages: &Ages,
-) -> Result<Vec<HeldOwner>, Fault>
+fn owners_in(alloc: Global, snapshot: &Snapshot<'_>, ages: &Ages) -> Result<Vec<HeldOwner>, Fault>
     ensures owners { IfOk result (λ owners. IsListed ages.now snapshot.now owners.items) }
     ensures memory { IfErr result (λ fault. fault ≡ Fault.NoMemory) }
 {
