@@ -1,5 +1,5 @@
 -- A binary search among ages whose owners ascend.
-use Rattle.std.proofs.Common.{◌≡◌, ℕ, zero, suc, ◌+◌, ◌<◌, ◌≤◌, Bool, true, false, List, [], ◌∷◌, length, get_or, Some, None, Ok, Err, refl, sym, ap, ◌∙◌, arith, Ordering, Less, Equal, is_lt, nat_cmp, nat_eq, inl, inr}
+use Rattle.std.proofs.Common.{◌≡◌, ℕ, zero, suc, ◌+◌, ◌<◌, true, false, List, [], ◌∷◌, length, get_or, Some, None, Ok, Err, refl, sym, ap, ◌∙◌, arith, Ordering, Less, Equal, is_lt, nat_cmp, nat_eq, inl, inr}
 use Rattle.std.specs.Ordering.{on, ordering_index, ordering_reverse}
 use Rattle.std.specs.List.{AllByRecursion}
 use Rattle.std.specs.Option.{option_map}
@@ -14,7 +14,7 @@ use Rattle.std.proofs.lemmas.Map.Keys.{Less-from_sorted, sorted_tail}
 use Rattle.sb_types.specs.Limits.{text_lt}
 use Rattle.sb_types.proofs.Texts.{Less-from_text_lt, text_lt-trans, apart-from_Less, apart-from_Greater, same-from_Equal}
 use Rattle.sb_codec.specs.declared.message.ages.OwnerAge.{OwnerAge}
-use Rattle.sb_codec.specs.Limits.{is_age, are_ages_above, are_owner_ages, are_ages}
+use Rattle.sb_codec.specs.Limits.{are_ages_above, are_owner_ages, are_ages}
 use Rattle.sb_run.specs.HttpReads.{age_of}
 
 abbrev by_owner : OwnerAge → OwnerAge → Ordering
