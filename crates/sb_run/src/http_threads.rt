@@ -2,17 +2,18 @@
 ghost use Rattle.std.specs.Prelude.{◌≡◌, vec_len, IfOk, IfErr};
 ghost use Rattle.std.specs.Thread.{IsSend, IsSync};
 ghost use Rattle.sb_directory.specs.Serving.{IsLater};
-ghost use Rattle.sb_run.specs.HttpReads.{AnswersQuestion, AreOwnersAfter, IsListed, IsPolled, IsWriteReply};
+ghost use Rattle.sb_run.specs.HttpReads.{AnswersQuestion, AreOwnersAfter, AreOwnersSeen, IsListed, IsPolled, IsWriteReply};
 
 use crate::control::{refused_by, reply_to_ask};
 use crate::dialer::{Dialing, RoundsTag};
+use crate::heard::age_of;
 use crate::http_socket::HttpSocket;
 use crate::observer::Observer;
 use crate::sockets::{Timed, limit};
 use crate::threads::NodeContext;
 use core::mem::replace_with;
 use http_server::Config;
-use sb_codec::{Ask, Message};
+use sb_codec::{Ages, Ask, Message};
 use sb_directory::{EnteredSeat, ReaderSeat};
 use sb_http::{Backend, Door, HeldOwner, HttpService, MarkedReply, Patience, serve_connection};
 use sb_types::{Fault, Write};
@@ -56,9 +57,9 @@ impl<'a, 'n, 'd, S: RoundsTag, H: Wait + Drop, Q, O> Model for SeatBackend<'a, '
     ghost view = { λ s. s.seat };
 }
 
-/// The owners that a snapshot shows. `NoMemory`.
-fn owners_in(alloc: Global, snapshot: &Snapshot<'_>) -> Result<Vec<HeldOwner>, Fault>
-    ensures owners { IfOk result (λ owners. IsListed snapshot.now owners.items) }
+/// The owners that a snapshot shows, with these ages. `NoMemory`.
+fn owners_in(alloc: Global, snapshot: &Snapshot<'_>, ages: &Ages) -> Result<Vec<HeldOwner>, Fault>
+    ensures owners { IfOk result (λ owners. IsListed ages.now snapshot.now owners.items) }
     ensures memory { IfErr result (λ fault. fault ≡ Fault.NoMemory) }
 {
     let mut owners = Vec::new(alloc);
@@ -67,16 +68,21 @@ fn owners_in(alloc: Global, snapshot: &Snapshot<'_>) -> Result<Vec<HeldOwner>, F
             owner: *owner,
             version: view.upto(),
             rows: view.len() as u64,
+            age: age_of(ages, owner),
         })?;
     }
     Ok(owners)
 }
 
-/// The owners of the snapshot that a seat has entered. `NoMemory`.
-fn owners_of<S: NodeTag>(alloc: Global, entered: &EnteredSeat<S>) -> Result<Vec<HeldOwner>, Fault>
-    ensures { IfOk result (λ owners. AreOwnersAfter S.opening entered.now.seen owners.items) }
+/// The owners of the snapshot that a seat has entered, with these ages. `NoMemory`.
+fn owners_of<S: NodeTag>(
+    alloc: Global,
+    entered: &EnteredSeat<S>,
+    ages: &Ages,
+) -> Result<Vec<HeldOwner>, Fault>
+    ensures { IfOk result (λ owners. AreOwnersAfter S.opening entered.now.seen ages.now owners.items) }
 {
-    owners_in(alloc, &entered.snapshot())
+    owners_in(alloc, &entered.snapshot(), ages)
 }
 
 impl<S: RoundsTag, H: Wait + Drop, Q: Wait + Clock> NodeContext<'_, S, H, Q> {
@@ -111,14 +117,18 @@ impl<S: RoundsTag, H: Wait + Drop, Q: Wait + Clock> NodeContext<'_, S, H, Q> {
         }
     }
 
-    /// The owners that a seat sees. `NoMemory`; `Closed` if it cannot enter.
+    /// The owners that a seat sees, with the ages from before it entered. `NoMemory`; `Closed` if it cannot enter.
     fn owners_seen(&self, seat: ReaderSeat<S>) -> (ReaderSeat<S>, Result<Vec<HeldOwner>, Fault>)
-        ensures owners { IfOk result.1 (λ owners. AreOwnersAfter S.opening result.0.seen owners.items) }
+        ensures owners { IfOk result.1 (λ owners. AreOwnersSeen S.opening result.0.seen owners.items) }
         ensures later { IsLater seat result.0 }
     {
+        let ages = match self.ages() {
+            Ok(ages) => ages,
+            Err(fault) => return (seat, Err(fault)),
+        };
         match seat.enter() {
             Ok(entered) => {
-                let owners = owners_of(self.alloc, &entered);
+                let owners = owners_of(self.alloc, &entered, &ages);
                 (entered.leave(), owners)
             }
             Err(seat) => (seat, Err(Fault::Closed)),
@@ -182,7 +192,7 @@ impl<S: RoundsTag, H: Wait + Drop, Q: Wait + Clock, O: Observer> Backend
             &mut self.seat,
             self.node,
             |seat, node| -> (ReaderSeat<S>, Result<Vec<HeldOwner>, Fault>)
-                ensures owners { IfOk result.1 (λ owners. AreOwnersAfter S.opening result.0.seen owners.items) }
+                ensures owners { IfOk result.1 (λ owners. AreOwnersSeen S.opening result.0.seen owners.items) }
                 ensures later { IsLater seat result.0 }
             { node.owners_seen(seat) },
         )

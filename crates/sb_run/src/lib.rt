@@ -112,7 +112,7 @@
 //!   first rounds are not made at once. The tests of `sb_run` and `tools/check-node` refuse it.
 //! - A caller that waits for a change never hears of one, hears of one that did not come, or hears too late. Or a watch for
 //!   it stays after it left. The tests of `sb_run` and `tools/check-node` refuse it.
-//! - An owner has a wrong age or none: no clause is about when an owner was heard. The tests of `sb_run` and
+//! - An owner has a wrong age or none, also over HTTP: no clause is about when an owner was heard. The tests of `sb_run` and
 //!   `tools/check-node` refuse it.
 //! - A beat is missing, comes too often, or is another write than its key and true. The tests of `sb_run` and
 //!   `tools/check-node` refuse it.
