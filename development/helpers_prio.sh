@@ -1,6 +1,6 @@
 #!/bin/bash
 # helpers_prio.sh: keeps the autogroup of helpers' provers at the number in /work/scratch/hprio
-end=$(date -d '17:25' +%s)
+end=$(date -d '21:12' +%s)
 while [ $(date +%s) -lt $end ]; do
   n=$(cat /work/scratch/hprio)
   for p in $(pgrep -f 'rattle'); do

@@ -1,7 +1,7 @@
 #!/bin/bash
 # edits and tests of rt ci wait for what others stand on
 echo -15 > /proc/self/autogroup
-end=$(date -d '17:25' +%s)
+end=$(date -d '21:12' +%s)
 while [ $(date +%s) -lt $end ]; do
   for p in $(pgrep -f 'rattle (check|build)'); do
     c=$(readlink /proc/$p/cwd 2>/dev/null) || continue
@@ -9,7 +9,7 @@ while [ $(date +%s) -lt $end ]; do
       /tmp/rt-edit-*) n=17;;
       /tmp/rt-copy-*/sb_run_tests|/tmp/rt-copy-*/sb_serving_tests) n=0;;
       /tmp/rt-copy-*/attrdir) n=-16;;
-      /tmp/rt-copy-*_tests|/tmp/rt-copy-*/attrdir_bench) n=12;;
+      /tmp/rt-copy-*_tests|/tmp/rt-copy-*/attrdir_bench) n=2;;
       /tmp/rt-copy-*/sb_digest|/tmp/rt-copy-*/sb_codec|/tmp/rt-copy-*/sb_frames|/tmp/rt-copy-*/sb_session|/tmp/rt-copy-*/sb_node|/tmp/rt-copy-*/sb_directory|/tmp/rt-copy-*/sb_handlers|/tmp/rt-copy-*/sb_run) n=-16;;
       /tmp/rt-copy-*/sb_listing|/tmp/rt-copy-*/sb_http|/tmp/rt-copy-*/sb_control) n=-12;;
       /tmp/rt-copy-*/sb_views|/tmp/rt-copy-*/sb_budget|/tmp/rt-copy-*/sb_commands) n=3;;
