@@ -1,6 +1,6 @@
 #!/bin/bash
 # page's provers first among helpers; attacks and builds last
-end=$(date -d '21:12' +%s)
+end=$(date -d '2026-11-30 00:46' +%s)
 while [ $(date +%s) -lt $end ]; do
   for p in $(pgrep -f 'rattle'); do
     c=$(readlink /proc/$p/cwd 2>/dev/null) || continue

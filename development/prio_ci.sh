@@ -1,7 +1,7 @@
 #!/bin/bash
 # edits and tests of rt ci wait for what others stand on
 echo -15 > /proc/self/autogroup
-end=$(date -d '21:12' +%s)
+end=$(date -d '2026-11-30 00:46' +%s)
 while [ $(date +%s) -lt $end ]; do
   for p in $(pgrep -f 'rattle (check|build)'); do
     c=$(readlink /proc/$p/cwd 2>/dev/null) || continue
