@@ -3,6 +3,7 @@ use Rattle.std.specs.Prelude.{◌≡◌, ℕ, Bool, true, false, List, length, m
 use Rattle.std.specs.Option.{option_map}
 use Rattle.std.specs.Cmp.Lexicographic.{pointwise}
 use Rattle.std.specs.FinMap.{entries}
+use Rattle.std.specs.declared.random_state.RandomState.{RandomState}
 use Rattle.sb_types.specs.Records.{Settings}
 use Rattle.sb_holdings.specs.Nodes.{Node}
 use Rattle.sb_codec.specs.declared.message.Message.{Message}
@@ -61,9 +62,10 @@ AnswersQuestion opening settings before kinds.AskAges after reply = (after ≡ b
 AnswersQuestion opening settings before (kinds.Ages x) after reply = (after ≡ before) × IsUnknown reply
 
 -- a poll is answered by a page of what the seat sees in the end, which is no less than before, with the mark of the same rows
-abbrev pub IsPolled : Node → ℕ → Seat → asking.Ask → Seat → Message → List ℕ → Type 0
-IsPolled opening budget before ask after reply mark =
-    IsLater before after × IsLookedUp opening budget after.seen ask reply × IsMark opening after.seen ask mark
+-- by these keys
+abbrev pub IsPolled : Node → ℕ → RandomState → Seat → asking.Ask → Seat → Message → List ℕ → Type 0
+IsPolled opening budget keys before ask after reply mark =
+    IsLater before after × IsLookedUp opening budget after.seen ask reply × IsMark opening keys after.seen ask mark
 
 -- the owners of the view after these events, with these ages
 abbrev pub AreOwnersAfter : Node → List Event → List OwnerAge → List HeldOwner → Type 0
@@ -74,9 +76,19 @@ abbrev pub AreOwnersSeen : Node → List Event → List HeldOwner → Type 0
 AreOwnersSeen opening seen owners = (ages : List OwnerAge) × AreOwnersAfter opening seen ages owners
 
 -- what a call over HTTP reads or is answered, and what the seat has seen then
-abbrev pub Reads : Node → Settings → Seat → Act → Seat → Type 0
-Reads opening settings before (asks request reply) after = AnswersQuestion opening settings before request after reply
-Reads opening settings before (polls ask patience reply mark) after = IsPolled opening settings.budget before ask after reply mark
-Reads opening settings before (lists owners) after = IsLater before after × AreOwnersSeen opening after.seen owners
-Reads opening settings before (measures text) after = after ≡ before
-Reads opening settings before (fails fault) after = IsLater before after
+abbrev pub Reads : Node → Settings → RandomState → Seat → Act → Seat → Type 0
+Reads opening settings keys before (asks request reply) after = AnswersQuestion opening settings before request after reply
+Reads opening settings keys before (polls ask patience reply mark) after =
+    IsPolled opening settings.budget keys before ask after reply mark
+Reads opening settings keys before (lists owners) after = IsLater before after × AreOwnersSeen opening after.seen owners
+Reads opening settings keys before (measures text) after = after ≡ before
+Reads opening settings keys before (fails fault) after = IsLater before after
+
+-- a seat that answers over HTTP, with the keys of its marks
+record pub HttpSeat : Type 0 where
+  seat : Seat
+  keys : RandomState
+
+-- each call reads so, and leaves the keys
+abbrev pub SeatReads : Node → Settings → HttpSeat → Act → HttpSeat → Type 0
+SeatReads opening settings before act after = (after.keys ≡ before.keys) × Reads opening settings before.keys before.seat act after.seat

@@ -41,20 +41,22 @@ const REST_MOST: usize = 65_536;
 /// How long the next accept waits after one that failed, in milliseconds.
 const ACCEPT_PAUSE: u64 = 20;
 
-/// A node, as a seat of it asks it. Contracts see it as the seat.
+/// A node, as a seat of it asks it. Contracts see it as the seat and the keys.
 #[derive(Drop)]
 pub(crate) struct SeatBackend<'a, 'n, 'd, S: RoundsTag, H: Wait + Drop, Q, O> {
     node: &'a NodeContext<'n, S, H, Q>,
     dialing: &'a Dialing<'d, O>,
     seat: ReaderSeat<S>,
+    /// Those of the marks that polls get.
+    keys: RandomState,
 }
 
 impl<'a, 'n, 'd, S: RoundsTag, H: Wait + Drop, Q, O> Model for SeatBackend<'a, 'n, 'd, S, H, Q, O> {
-    ghost use Rattle.sb_directory.specs.Seats as spec;
+    ghost use Rattle.sb_run.specs.HttpReads as spec;
 
-    ghost Value = { spec.Seat };
+    ghost Value = { spec.HttpSeat };
 
-    ghost view = { λ s. s.seat };
+    ghost view = { λ s. record { seat = s.seat; keys = s.keys } };
 }
 
 /// The owners that a snapshot shows, with these ages. `NoMemory`.
@@ -147,12 +149,13 @@ impl<S: RoundsTag, H: Wait + Drop, Q: Wait + Clock, O: Observer> SeatBackend<
 > {
     /// The seat, once the connection is over.
     fn into_seat(self) -> ReaderSeat<S>
-        ensures { result ≡ self.entry }
+        ensures { result ≡ self.entry.seat }
     {
         let SeatBackend {
             node: _,
             dialing: _,
             seat,
+            keys: _,
         } = self;
         seat
     }
@@ -160,10 +163,10 @@ impl<S: RoundsTag, H: Wait + Drop, Q: Wait + Clock, O: Observer> SeatBackend<
 
 impl<S: RoundsTag, H: Wait + Drop, Q: Wait + Clock, O: Observer> Backend
     for SeatBackend<'_, '_, '_, S, H, Q, O> {
-    ghost use Rattle.sb_run.specs.HttpReads.{Reads};
+    ghost use Rattle.sb_run.specs.HttpReads.{SeatReads};
 
     // Other seats may have entered anything since the last call.
-    ghost step = { Reads S.opening S.settings };
+    ghost step = { SeatReads S.opening S.settings };
 
     fn ask(&mut self, request: &Message) -> Message {
         let (node, dialing) = (self.node, self.dialing);
@@ -179,11 +182,11 @@ impl<S: RoundsTag, H: Wait + Drop, Q: Wait + Clock, O: Observer> Backend
     fn poll(&mut self, ask: &Ask, patience: &Patience) -> Result<MarkedReply, Fault> {
         replace_with(
             &mut self.seat,
-            (self.node, ask, patience),
-            |seat, (node, ask, patience)| -> (ReaderSeat<S>, Result<MarkedReply, Fault>)
-                ensures polled { IfOk result.1 (λ found. IsPolled S.opening S.settings.budget seat ask.entry.now result.0 found.reply found.mark) }
+            (self.node, self.keys, ask, patience),
+            |seat, (node, keys, ask, patience)| -> (ReaderSeat<S>, Result<MarkedReply, Fault>)
+                ensures polled { IfOk result.1 (λ found. IsPolled S.opening S.settings.budget keys.entry seat ask.entry.now result.0 found.reply found.mark) }
                 ensures later { IsLater seat result.0 }
-            { node.poll(seat, ask, patience) },
+            { node.poll(keys, seat, ask, patience) },
         )
     }
 
@@ -266,6 +269,7 @@ impl<S: RoundsTag, H: Wait + Drop, Q: Wait + Clock> NodeContext<'_, S, H, Q> {
                 node: self,
                 dialing,
                 seat,
+                keys: socket.keys(),
             },
         };
         let _ = self.answer_stream(socket.keys(), &mut service, stream);

@@ -123,6 +123,8 @@
 //! - A peer that dials counts as one that is not known, although its Hello has its name. `tools/check-node` refuses it.
 //! - A node answers nobody over HTTP, or each question by the number of `Closed`. `tools/check-node` refuses it.
 //! - Over HTTP the owners or the metrics are a fault each time, or the metrics are others. `tools/check-node` refuses it.
+//! - A poll over HTTP answers at once, or only once its time is over. Or each connection makes its marks by other keys.
+//!   `tools/check-node` refuses it.
 //! - `HttpSocket::bind` takes an address that `is_own_port` refuses. Nothing refuses it: `attrdir` asks that before.
 //! - A port counts as a socket, so a request may name any host there. `tools/check-node` refuses it.
 //! - A connection over HTTP has other limits, of bytes or of time. `tools/check-node` refuses it.
