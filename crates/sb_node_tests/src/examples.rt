@@ -88,7 +88,7 @@ fn example_of_sb_depth(rt: HostRuntime) {
     same(&rt, &ordered.as_slice(), &wanted.as_slice());
 }
 
-/// Makes an own write: it is in the log before the node enters it.
+/// Makes an own write: it stands in the log before the node enters it.
 fn write<L: WriteLog>(
     node: &mut NodeCore,
     log: &mut L,

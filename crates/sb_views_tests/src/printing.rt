@@ -79,7 +79,7 @@ fn a_row_is_added(rt: HostRuntime) {
     );
 }
 
-/// The line of what is under a key: the key, the version and the two words of the value.
+/// The line of what stands under a key: the key, the version and the two words of the value.
 fn key_line(alloc: Global, key: &Key, version: u64, value: &Value) -> Result<Vec<u8>, Fault> {
     let mut line = Vec::new(alloc);
     add_word(&mut line, key.bytes(), b' ')?;
