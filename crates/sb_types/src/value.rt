@@ -17,6 +17,7 @@ use crate::format::{BYTE_LENGTH, COUNT_LENGTH, NUMBER_LENGTH, VALUE_LENGTH_MOST}
 use crate::kind::{ContentRef, Kind};
 use crate::limits::{ADDR_MOST, TEXT_MOST, WEIGHT_MOST};
 use crate::spelled::Spelled;
+use smallvec::SmallVec;
 use std::alloc::Global;
 use std::fmt;
 use std::marker::Model;
@@ -32,9 +33,13 @@ pub enum ValueRef<'a> {
     Text(&'a [u8]),
 }
 
+/// How many bytes of an address are kept in the value itself. With 24 an entry would be longer than 128 bytes, and each
+/// move of it a call.
+const ADDR_INLINE: usize = 16;
+
 #[derive(Debug, Drop, PartialEq, Eq)]
 enum Content {
-    Addr(Vec<u8>),
+    Addr(SmallVec<u8, ADDR_INLINE>),
     Weight(u64),
     Flag(bool),
     Text(Vec<u8>),
@@ -104,7 +109,7 @@ impl Value {
             return Err(Fault::BadValue);
         }
         Ok(Value {
-            content: Content::Addr(Vec::from_slice(alloc, text)?),
+            content: Content::Addr(SmallVec::from_slice(alloc, text)?),
         })
     }
 
@@ -207,7 +212,7 @@ impl Value {
         ensures value { values.is_value self.now ≡ true }
     {
         match &self.content {
-            Content::Addr(text) => ContentRef::Word(text),
+            Content::Addr(text) => ContentRef::Word(text.as_slice()),
             Content::Weight(weight) => ContentRef::Number(*weight),
             Content::Flag(flag) => ContentRef::Truth(*flag),
             Content::Text(text) => ContentRef::Text(text),
@@ -244,7 +249,7 @@ impl Value {
         ensures value { values.is_value self.now ≡ true }
     {
         match &self.content {
-            Content::Addr(text) => ValueRef::Addr(text),
+            Content::Addr(text) => ValueRef::Addr(text.as_slice()),
             Content::Weight(weight) => ValueRef::Weight(*weight),
             Content::Flag(flag) => ValueRef::Flag(*flag),
             Content::Text(text) => ValueRef::Text(text),
@@ -303,7 +308,9 @@ impl Value {
     {
         Ok(Value {
             content: match &self.content {
-                Content::Addr(text) => Content::Addr(Vec::from_slice(alloc, text)?),
+                Content::Addr(text) => {
+                    Content::Addr(SmallVec::from_slice(alloc, text.as_slice())?)
+                }
                 Content::Weight(weight) => Content::Weight(*weight),
                 Content::Flag(flag) => Content::Flag(*flag),
                 Content::Text(text) => Content::Text(Vec::from_slice(alloc, text)?),
