@@ -6,7 +6,7 @@ ghost use Rattle.sb_types.specs.Runs.{are_ascending, last_version};
 ghost use Rattle.sb_types.specs.Lengths.{entries_length, block_length};
 ghost use Rattle.sb_types.specs.Limits.{is_entry, are_block_parts, block_of_parts, is_delta_block};
 
-use crate::distinct::are_keys_distinct;
+use crate::distinct::are_keys_of_list_distinct;
 use crate::entry::Entry;
 use crate::fault::Fault;
 use crate::format::{
@@ -111,7 +111,7 @@ impl Block {
             || upto <= after
             || !are_versions_ascending(after, &entries)
             || last_version(after, &entries) > upto
-            || !are_keys_distinct(&mut entries)
+            || !are_keys_of_list_distinct(&mut entries)
         {
             return Err(Fault::Malformed(KIND_DELTA));
         }
