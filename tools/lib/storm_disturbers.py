@@ -6,9 +6,9 @@ import socket
 import time
 
 from histories import DISTURBED, HOSTILE
-from nodes import BYE, SECONDS, Difference, ask, bytes_by, connect, delta, digest, frame, hello, number, put, throw, weight
+from nodes import BYE, SECONDS, Difference, ask, bytes_by, connect, delta, digest, frame, hello, number, put, read_exactly, throw, weight
 from storm_http import connect_to
-from storm_posts import WORKERS
+from storm_posts import IDLE, WORKERS
 
 STORE_FAILED = 18
 
@@ -83,6 +83,39 @@ class Silent:
                     pass
             self.post.tally.count("idle-connections", len(streams))
         time.sleep(self.chance.uniform(2, 6))
+
+
+class Slow:
+    """A caller that sends its request byte by byte, and reads the answer in pieces. It is answered, as long as it keeps within the times of the node."""
+
+    share = 0
+
+    def __init__(self, post, chance):
+        self.post, self.chance = post, chance
+
+    def step(self):
+        mark, gap = self.post.mark(), self.chance.uniform(0, 0.05)
+        began = time.monotonic()
+        slowest = 0
+        try:
+            with connect(self.post.node.control) as stream:
+                for byte in ASK:
+                    last = time.monotonic()
+                    stream.sendall(bytes([byte]))
+                    time.sleep(gap)
+                    slowest = max(slowest, time.monotonic() - last)
+                head = read_exactly(stream, 6)
+                left = int.from_bytes(head[2:], "big") if head else 1
+                while left and (piece := stream.recv(min(left, 4096))):
+                    left -= len(piece)
+                    time.sleep(gap / 4)
+        except OSError:
+            left = 1
+        if not left:
+            self.post.tally.count("slow-callers-answered")
+        elif slowest < 0.8 * IDLE / 1000 and time.monotonic() - began < 1.5 and self.post.was_calm(mark):
+            self.post.tally.tell(f"{self.post.name} did not answer a slow caller, after {time.monotonic() - began:.2f} s")
+        time.sleep(self.chance.uniform(0.5, 2))
 
 
 def hold(held, path, count):

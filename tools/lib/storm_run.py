@@ -13,7 +13,7 @@ from nodes import SECONDS, Difference, Nodes, run
 from program import is_unproved
 from slow_proxy import SlowProxy
 from storm_callers import HttpReader, Reader, Writer, WriterOnce
-from storm_disturbers import ASK, PUT, SESSION, STRAY, Cutter, Filler, Greedy, Hostile, Killer, Silent
+from storm_disturbers import ASK, PUT, SESSION, STRAY, Cutter, Filler, Greedy, Hostile, Killer, Silent, Slow
 from storm_http import DELETE, GET, OWNERS, Poller
 from storm_names import Restorer, TwinMaker
 from storm_posts import PACE, Post
@@ -105,7 +105,7 @@ class Storm(Nodes):
             workers += [Writer(post, history, at) for at in range(WRITERS)]
             workers += [WriterOnce(post, history)] if self.given.purge_removals else []
             crowd = (CROWD, CROWD) if post is self.steady else ()
-            workers += [Reader(post, self.histories), Silent(post, self.another(), *crowd)]
+            workers += [Reader(post, self.histories), Silent(post, self.another(), *crowd), Slow(post, self.another())]
             workers.append(Hostile(post, post.node.sock, self.another(), (SESSION, PUT, STRAY)))
             workers.append(Hostile(post, post.node.control, self.another(), (PUT, ASK, SESSION, STRAY)))
             workers += [HttpReader(post, self.histories), Poller(post, NAMES[at - 1], self.histories)]
@@ -282,7 +282,7 @@ class Storm(Nodes):
         self.print_counts("kills", "restarts", "purges", "lost-logs", "cuts", "hostile-exchanges", "came-back", "false-alarms")
         happened = ["times-without-room", "writes-refused-for-room", "times-without-descriptors", "idle-connections", "times-the-slow-peer-agreed"]
         self.print_counts("late-callers", "starts-refused-for-room", "writes-refused-as-closed", *happened)
-        more = ["polls-that-waited", "polls-at-once", "lines-of-watches", "watches-that-agreed", "beats-read", "runs-that-forget", "restores", "rows-restored"]
+        more = ["slow-callers-answered", "polls-that-waited", "polls-at-once", "lines-of-watches", "watches-that-agreed", "beats-read", "runs-that-forget", "restores", "rows-restored"]
         more += ["twins", "twins-told", "twins-healed"] if self.given.audit else []
         more += ["keys-used-once", "keys-used-once-removed", "purges-while-running"] if self.given.purge_removals else []
         self.print_counts("restores-put-off", *more)
