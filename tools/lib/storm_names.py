@@ -1,6 +1,7 @@
 """Those of tools/storm who take a node's log away and restore it, and who run a second node under its name."""
 import shutil
 import time
+from concurrent.futures import ThreadPoolExecutor
 
 from histories import APART, row_of
 from nodes import DONE, REFUSED, SECONDS, Difference, exchange, put, run, weight
@@ -102,7 +103,7 @@ class TwinMaker:
     share = 0
 
     def __init__(self, post, twin, restorer, chance):
-        self.post, self.twin, self.restorer, self.turns = post, twin, restorer, Turns(chance, 10, 60)
+        self.post, self.twin, self.restorer, self.chance, self.turns = post, twin, restorer, chance, Turns(chance, 10, 60)
         self.history, self.tally = restorer.history, post.tally
 
     def step(self):
@@ -134,20 +135,27 @@ class TwinMaker:
         """Has both write, until one is told that it is not alone."""
         began = time.monotonic()
         self.tally.count("twins")
+        both = list(zip((self.post, self.twin), APART))
         for _ in range(WRITES_APART):
             self.history.apart += 1
-            answers = [exchange(it.node.control, put(f"{front}{self.history.apart}", weight(self.history.apart))) for it, front in zip((self.post, self.twin), APART)]
-            if any(self.is_told(it, answer) for it, answer in zip((self.post, self.twin), answers)):
-                self.tally.count("twins-told")
-                self.tally.arrive(time.monotonic() - began, "twin-told")
-                return
+            self.chance.shuffle(both)
+            with ThreadPoolExecutor(2) as pool:
+                # (one after the other, or both at once, so that each gives the same version)
+                if any((pool.map if self.chance.randrange(2) else map)(self.is_told, both)):
+                    self.tally.count("twins-told")
+                    self.tally.arrive(time.monotonic() - began, "twin-told")
+                    return
             time.sleep(0.2)
         self.tally.tell(f"{self.post.name} and its twin both wrote for {time.monotonic() - began:.0f} s, and neither was told: {self.twin.node.lines()}")
 
-    def is_told(self, post, answer):
+    def is_told(self, side):
+        """Has one of them write. Whether it was told by then."""
+        post, front = side
+        answer = exchange(post.node.control, put(f"{front}{self.history.apart}", weight(self.history.apart)))
         kind, body = answer or (None, b"")
         if kind not in (DONE, REFUSED) or kind == REFUSED and body[0] != OWNER_CONFLICT:
             raise Difference(f"a write beside a twin was answered by {answer!r}")
+        self.tally.count("writes-beside-twins", kind == DONE)
         return kind == REFUSED or any(CONFLICT in it for it in post.node.lines())
 
     def heal(self, helper):

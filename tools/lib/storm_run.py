@@ -283,7 +283,7 @@ class Storm(Nodes):
         happened = ["times-without-room", "writes-refused-for-room", "times-without-descriptors", "idle-connections", "times-the-slow-peer-agreed"]
         self.print_counts("late-callers", "starts-refused-for-room", "writes-refused-as-closed", *happened)
         more = ["slow-callers-answered", "polls-that-waited", "polls-at-once", "lines-of-watches", "watches-that-agreed", "beats-read", "runs-that-forget", "restores", "rows-restored"]
-        more += ["twins", "twins-told", "twins-healed"] if self.given.audit else []
+        more += ["twins", "writes-beside-twins", "twins-told", "twins-healed"] if self.given.audit else []
         more += ["keys-used-once", "keys-used-once-removed", "purges-while-running"] if self.given.purge_removals else []
         self.print_counts("restores-put-off", *more)
         for what, times in sorted(self.tally.times.items()):
