@@ -4,7 +4,7 @@ import time
 from histories import BEAT, LEFT, ONCE, REMOVED, WRITERS, Sight, row_of, wrong_rows
 from nodes import DONE, REFUSED, Difference, connect, long_text, put, read_frame, text, weight
 from storm_http import asked, later_pages, write_over_http
-from storm_posts import IDLE
+from storm_posts import is_late
 
 # one write of so many is made by the program's command, and one of so many over HTTP
 BY_COMMAND, BY_HTTP = 40, 4
@@ -12,11 +12,6 @@ NOTHING_THERE, CLOSED, STORE_FAILED = 9, 15, 18
 # so many keys used once are there at a time
 ONCE_MOST = 20
 LATE = "the caller was late"
-
-
-def is_late(began, sent):
-    """Whether a request came so late, on a machine with much to do, that a node may have ended the connection as idle."""
-    return sent - began > 0.8 * IDLE / 1000
 
 
 def call(path, request):

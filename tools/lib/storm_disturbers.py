@@ -8,7 +8,7 @@ import time
 from histories import DISTURBED, HOSTILE
 from nodes import BYE, SECONDS, Difference, ask, bytes_by, connect, delta, digest, frame, hello, number, put, read_exactly, throw, weight
 from storm_http import connect_to
-from storm_posts import IDLE, WORKERS
+from storm_posts import WORKERS, is_late
 
 STORE_FAILED = 18
 
@@ -113,7 +113,7 @@ class Slow:
             left = 1
         if not left:
             self.post.tally.count("slow-callers-answered")
-        elif slowest < 0.8 * IDLE / 1000 and time.monotonic() - began < 1.5 and self.post.was_calm(mark):
+        elif not is_late(0, slowest) and time.monotonic() - began < 1.5 and self.post.was_calm(mark):
             self.post.tally.tell(f"{self.post.name} did not answer a slow caller, after {time.monotonic() - began:.2f} s")
         time.sleep(self.chance.uniform(0.5, 2))
 

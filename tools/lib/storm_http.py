@@ -5,6 +5,7 @@ import time
 
 from histories import REMOVED, Row, Sight, wrong_rows
 from nodes import DONE, REFUSED, SECONDS, Difference, connect, spelled
+from storm_posts import is_late
 
 # how long a poll may wait, in seconds, and how much earlier than that it may come
 POLL_SECONDS, EARLIER = 5, 0.2
@@ -17,15 +18,22 @@ class Unanswered(OSError):
     """The connection ended before an answer was whole."""
 
 
+class Late(OSError):
+    """There is no answer, and the request came late."""
+
+
 def connect_to(place):
     """A connection to a socket, or to a port of this machine."""
     return socket.create_connection(("127.0.0.1", place), timeout=SECONDS) if isinstance(place, int) else connect(place)
 
 
-def answer_of(stream, method, path, body=b""):
-    """The status and the object of an answer; no object where it has no body."""
+def request(method, path, body=b""):
     length = f"Content-Length: {len(body)}\r\n" if body else ""
-    stream.sendall(f"{method} {path} HTTP/1.1\r\n{length}".encode() + HOST + b"\r\n" + body)
+    return f"{method} {path} HTTP/1.1\r\n{length}".encode() + HOST + b"\r\n" + body
+
+
+def answer_of(stream):
+    """The status and the object of an answer; no object where it has no body."""
     found = b""
     while piece := stream.recv(65536):
         found += piece
@@ -38,8 +46,15 @@ def answer_of(stream, method, path, body=b""):
 
 
 def asked(place, path):
+    """The status and the object of the answer to a GET."""
+    began, sent = time.monotonic(), None
     with connect_to(place) as stream:
-        return answer_of(stream, "GET", path)
+        try:
+            stream.sendall(request("GET", path))
+            sent = time.monotonic()
+            return answer_of(stream)
+        except OSError as it:
+            raise Late(repr(it)) if is_late(began, sent or time.monotonic()) else it
 
 
 def json_value(write):
@@ -55,7 +70,8 @@ def write_over_http(place, write):
     method, body = ("DELETE", b"") if write.kind == REMOVED else ("PUT", json.dumps({"kind": write.kind, "value": json_value(write)}).encode())
     with stream:
         try:
-            status, found = answer_of(stream, method, f"/v1/keys/{write.key}", body)
+            stream.sendall(request(method, f"/v1/keys/{write.key}", body))
+            status, found = answer_of(stream)
         except OSError as it:
             return None, repr(it), True
     if status == 200:
@@ -108,6 +124,8 @@ class Poller:
                 page = self.answered(began, asked_at, took, page, found) if status == 200 else found
             if status != 200 and self.post.was_calm(mark):
                 self.post.tally.tell(f"a poll at {self.post.name} was answered by {status} {page}")
+        except Late:
+            self.post.tally.count("late-callers")
         except (OSError, ValueError) as it:
             if self.post.was_calm(mark):
                 self.post.tally.tell(f"a poll at {self.post.name} was not answered: {it!r}")

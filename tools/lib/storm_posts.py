@@ -16,6 +16,11 @@ LOST_OF, FORGETS_OF = 24, 3
 CONFLICT = "fault 21"
 
 
+def is_late(began, sent):
+    """Whether a request came so late, on a machine with much to do, that a node may have ended the connection as idle."""
+    return sent - began > 0.8 * IDLE / 1000
+
+
 class Gate:
     """Those who write pass it one write at a time. While it is shut none does, so that nobody asks for a write."""
 
