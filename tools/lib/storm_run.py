@@ -1,13 +1,14 @@
 """The storm of tools/storm: its nodes, who writes and reads at them, and who disturbs them; what is judged at its end."""
+import contextlib
 import random
 import shutil
+import socket
 import statistics
 import subprocess
 import threading
 import time
 import traceback
 
-from check_http import free_port
 from histories import AFTER, BEAT, LEFT, LEFT_ROWS, WRITERS, History, Sight, left_key, once_numbers, row_of
 from nodes import SECONDS, Difference, Nodes, run
 from program import is_unproved
@@ -41,6 +42,19 @@ BEHIND_LINK = ("--idle", "20000")
 # what a row may take in memory, and what may first be kept for reuse in the last part: for each of the five peers that a pushes to the buffer of a
 # longest frame, 64 KiB, and as much for pages of the allocator of which only a piece is used
 ROW_BYTES, REUSED_BYTES = 1024, 6 * 64 * 1024
+
+
+# among these no system takes a port for a connection by itself, as it could while the node of the port is down
+PORTS = range(20000, 30000)
+
+
+def free_port(chance):
+    """A port of this machine at which nobody listens."""
+    while True:
+        port = chance.choice(PORTS)
+        with contextlib.suppress(OSError), socket.socket() as it:
+            it.bind(("127.0.0.1", port))
+            return port
 
 
 class Pace:
@@ -82,7 +96,7 @@ class Storm(Nodes):
         self.watchers = [Watcher(it, self.histories) for it in self.posts]
 
     def post(self, name, peers):
-        http = free_port() if name == AT_PORT else self.place / f"{name}.http"
+        http = free_port(self.another()) if name == AT_PORT else self.place / f"{name}.http"
         address = f"127.0.0.1:{http}" if name == AT_PORT else str(http)
         node = self.node(name, *self.options(name), "--http", address, folder=self.place, peers=peers)
         return Post(node, self.another(), self.tally, http)
