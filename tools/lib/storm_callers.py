@@ -189,7 +189,7 @@ class Reader:
         return rows, None if status == 0 else f"ended with {status}: {said!r}"
 
     def step(self):
-        began, mark = self.post.runs, self.post.mark()
+        began, mark, forgets = self.post.runs, self.post.mark(), self.post.forgets
         if self.run != began:
             self.sight, self.run = Sight(self.histories, (self.post.name,)), began
         own, started = self.histories[self.post.name].last, time.monotonic()
@@ -202,7 +202,7 @@ class Reader:
                 self.post.tally.tell(f"{self.way} at {self.post.name} {why}")
         else:
             self.sight.holds(self.post.name, own)
-            wrong = [*self.sight.look(rows), *self.forgotten(rows)]
+            wrong = [*self.sight.look(rows), *(self.forgotten(rows) if forgets else ())]
             self.post.tally.count(f"reads-checked{self.suffix}")
             self.time(rows)
         for it in wrong:
@@ -215,8 +215,8 @@ class Reader:
         return "" if self.way == "get" else "-over-http"
 
     def forgotten(self, rows):
-        """The rows of who has left, at a node that forgets it."""
-        return [f"a row of {LEFT}, which it forgets: {' '.join(map(str, it))}" for it in rows if it.owner == LEFT and self.post.forgets]
+        """The rows of who has left, which the node forgets."""
+        return [f"a row of {LEFT}, which it forgets: {' '.join(map(str, it))}" for it in rows if it.owner == LEFT]
 
     def time(self, rows):
         """Enters how long the newest row of each other node took from its answer until now, where it was not read before."""

@@ -10,8 +10,8 @@ from storm_posts import CONFLICT, files_of, move
 OWNER_CONFLICT = 21
 # what restore adds to the last version that a node heard of
 MORE = 1_048_576
-# so many writes a node and its twin make at most until one of them is told, one after another
-WRITES_APART = 200
+# what the line of an audit that found another node has
+AUDITED = "writes under this name: peer"
 
 
 class Turns:
@@ -102,9 +102,11 @@ class TwinMaker:
 
     share = 0
 
-    def __init__(self, post, twin, restorer, chance):
+    def __init__(self, post, twin, restorer, chance, audit):
         self.post, self.twin, self.restorer, self.chance, self.turns = post, twin, restorer, chance, Turns(chance, 10, 60)
         self.history, self.tally = restorer.history, post.tally
+        # within so many seconds it has audited each of its peers, also where one of them can't be reached for a while
+        self.seconds = (1 + len(twin.node.peers)) * audit / 1000 + SECONDS / 2
 
     def step(self):
         if not self.turns.come():
@@ -132,31 +134,42 @@ class TwinMaker:
         self.post.start()
 
     def write_apart(self):
-        """Has both write, until one is told that it is not alone."""
-        began = time.monotonic()
+        """Has both write, again and again or only once, until one is told that it is not alone."""
+        began, writes_on = time.monotonic(), self.chance.randrange(2)
         self.tally.count("twins")
-        both = list(zip((self.post, self.twin), APART))
-        for _ in range(WRITES_APART):
-            self.history.apart += 1
-            self.chance.shuffle(both)
-            with ThreadPoolExecutor(2) as pool:
-                # (one after the other, or both at once, so that each gives the same version)
-                if any((pool.map if self.chance.randrange(2) else map)(self.is_told, both)):
-                    self.tally.count("twins-told")
-                    self.tally.arrive(time.monotonic() - began, "twin-told")
-                    return
+        is_told = self.both_write()
+        while not is_told and time.monotonic() < began + self.seconds:
             time.sleep(0.2)
-        self.tally.tell(f"{self.post.name} and its twin both wrote for {time.monotonic() - began:.0f} s, and neither was told: {self.twin.node.lines()}")
+            is_told = self.is_said() or writes_on and self.both_write()
+        if not is_told:
+            self.tally.tell(f"{self.post.name} and its twin both wrote, and neither was told within {self.seconds} s: {self.twin.node.lines()}")
+            return
+        self.tally.count("twins-told")
+        self.tally.count("twins-told-by-audits", any(CONFLICT in it and AUDITED in it for it in self.lines()))
+        self.tally.arrive(time.monotonic() - began, "twin-told")
 
-    def is_told(self, side):
-        """Has one of them write. Whether it was told by then."""
+    def both_write(self):
+        """Has both write one after the other, or at once, so that each gives the same version. Whether one was refused or told."""
+        self.history.apart += 1
+        both = list(zip((self.post, self.twin), APART))
+        self.chance.shuffle(both)
+        with ThreadPoolExecutor(2) as pool:
+            return any((pool.map if self.chance.randrange(2) else map)(self.is_refused, both)) or self.is_said()
+
+    def is_refused(self, side):
         post, front = side
         answer = exchange(post.node.control, put(f"{front}{self.history.apart}", weight(self.history.apart)))
         kind, body = answer or (None, b"")
         if kind not in (DONE, REFUSED) or kind == REFUSED and body[0] != OWNER_CONFLICT:
             raise Difference(f"a write beside a twin was answered by {answer!r}")
         self.tally.count("writes-beside-twins", kind == DONE)
-        return kind == REFUSED or any(CONFLICT in it for it in post.node.lines())
+        return kind == REFUSED
+
+    def lines(self):
+        return [*self.post.node.lines(), *self.twin.node.lines()]
+
+    def is_said(self):
+        return any(CONFLICT in it for it in self.lines())
 
     def heal(self, helper):
         """The first one's log is moved away while it runs, and restored with the rows that it shows: then others get these, in later versions."""

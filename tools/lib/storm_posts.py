@@ -62,7 +62,7 @@ class Post:
         self.runs, self.changes, self.in_trouble, self.closed_in = 0, 0, False, None
         # how often its log was lost, and what is told of that, where it may be
         self.losses, self.lost = 0, None
-        # its words without those by chance; whether it forgets who has left, and whether it may
+        # its words without those by chance; whether the run that answers forgets who has left, and whether it may
         self.options, self.forgets, self.may_forget = node.options, False, False
         # whether its audits and its peers may tell it of a twin
         self.has_twin = False
@@ -106,6 +106,7 @@ class Post:
         # (twice: what is asked for in between may still be answered by the run that ends)
         self.runs += 1
         self.node.kill()
+        self.forgets = False
         self.runs += 1
         self.look_back()
 
@@ -119,9 +120,10 @@ class Post:
                 self.tally.count("purges-while-running")
 
     def start(self):
-        self.forgets = self.may_forget and not self.chance.randrange(FORGETS_OF)
-        self.node.options = (*self.options, *(("--forget", LEFT) if self.forgets else ()))
+        forgets = self.may_forget and not self.chance.randrange(FORGETS_OF)
+        self.node.options = (*self.options, *(("--forget", LEFT) if forgets else ()))
         self.node.start(with_left=True)
+        self.forgets = forgets
         self.tally.count("restarts")
         if self.forgets:
             self.tally.count("runs-that-forget")

@@ -136,7 +136,7 @@ class Storm(Nodes):
         folder = self.folder()
         node = self.node(self.named.name, *self.options(self.named.name), folder=folder, peers=self.named.node.peers)
         twin = Post(node, self.another(), self.tally)
-        return [restorer, *([TwinMaker(self.named, twin, restorer, self.another())] if self.given.audit else [])]
+        return [restorer, *([TwinMaker(self.named, twin, restorer, self.another(), self.given.audit)] if self.given.audit else [])]
 
     def samplers(self):
         return [Sampler(self.steady, self.given.samples)] if self.given.samples else []
@@ -297,7 +297,7 @@ class Storm(Nodes):
         happened = ["times-without-room", "writes-refused-for-room", "times-without-descriptors", "idle-connections", "times-the-slow-peer-agreed"]
         self.print_counts("late-callers", "starts-refused-for-room", "writes-refused-as-closed", *happened)
         more = ["slow-callers-answered", "polls-that-waited", "polls-at-once", "lines-of-watches", "watches-that-agreed", "beats-read", "runs-that-forget", "restores", "rows-restored"]
-        more += ["twins", "writes-beside-twins", "twins-told", "twins-healed"] if self.given.audit else []
+        more += ["twins", "writes-beside-twins", "twins-told", "twins-told-by-audits", "twins-healed"] if self.given.audit else []
         more += ["keys-used-once", "keys-used-once-removed", "purges-while-running"] if self.given.purge_removals else []
         self.print_counts("restores-put-off", *more)
         for what, times in sorted(self.tally.times.items()):
