@@ -117,6 +117,11 @@ class KeysUsedOnce:
             self.unclear.add(number)
             return number
 
+    def doubtful(self):
+        """The number of the oldest key that may have a row, or may have none; none where there is no such key."""
+        with self.lock:
+            return min(self.unclear, default=None)
+
     def settle(self, number, is_written):
         """What became of the key is clear."""
         with self.lock:

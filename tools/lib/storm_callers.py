@@ -9,8 +9,8 @@ from storm_posts import is_late
 # one write of so many is made by the program's command, and one of so many over HTTP
 BY_COMMAND, BY_HTTP = 40, 4
 NOTHING_THERE, CLOSED, STORE_FAILED = 9, 15, 18
-# so many keys used once are there at a time
-ONCE_MOST = 20
+# so many keys used once are there at a time, and one write of so many is for a key of which nothing is known
+ONCE_MOST, DOUBTFUL = 20, 8
 LATE = "the caller was late"
 
 
@@ -144,12 +144,12 @@ class Writer:
 
 
 class WriterOnce:
-    """Writes one key after another, each once, and removes each some writes later."""
+    """Writes one key after another, each once, and removes each some writes later. At times it removes one again of which it had no answer."""
 
     share = 1
 
     def __init__(self, post, history):
-        self.post, self.keys = post, history.once
+        self.post, self.keys, self.turn = post, history.once, 0
 
     def step(self):
         with self.post.gate.passed():
@@ -157,16 +157,19 @@ class WriterOnce:
         time.sleep(0.005 if kind == DONE else 0.02)
 
     def write(self):
-        removes = len(self.keys) >= ONCE_MOST
-        number, mark, losses = self.keys.oldest() if removes else self.keys.next(), self.post.mark(), self.post.losses
+        self.turn += 1
+        doubtful = self.keys.doubtful() if self.turn % DOUBTFUL == 0 else None
+        removes = doubtful is not None or len(self.keys) >= ONCE_MOST
+        number = doubtful or (self.keys.oldest() if removes else self.keys.next())
+        mark, losses = self.post.mark(), self.post.losses
         kind, answer, *_ = call(self.post.node.control, put(f"{ONCE}{number}", SLOTS[REMOVED]("-") if removes else weight(number)))
         if losses == self.post.losses:
             if kind == DONE:
                 self.keys.settle(number, not removes)
                 self.post.tally.count("keys-used-once" if not removes else "keys-used-once-removed")
-            elif kind == REFUSED and answer == CLOSED:
-                self.keys.settle(number, removes)
-            elif answer not in (LATE, STORE_FAILED) and self.post.was_calm(mark):
+            elif kind == REFUSED and answer == (NOTHING_THERE if doubtful else CLOSED):
+                self.keys.settle(number, removes and not doubtful)
+            elif answer not in (LATE, STORE_FAILED, CLOSED) and self.post.was_calm(mark):
                 self.post.tally.tell(f"{'the removal' if removes else 'the write'} of {ONCE}{number} at {self.post.name}: {kind} {answer}")
         return kind
 
