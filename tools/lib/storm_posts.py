@@ -148,10 +148,12 @@ class Post:
             self.tally.count("purges")
 
     def lose_log(self):
-        """Takes the log of a node that does not run away, and has one begin behind what another heard of it, unless that can't be asked now."""
-        sock, history = self.lost
+        """Takes the log of a node that does not run away, and has one begin behind what the one of the others heard of it that heard most, unless that
+        can't be asked now."""
+        others, history = self.lost
+        most = max(others, key=lambda it: it.held(self.name))
         with contextlib.suppress(Difference):
-            history.lose(self.node.begin(sock))
+            history.lose(self.node.begin(most.node.sock))
             self.losses += 1
             self.tally.count("lost-logs")
 

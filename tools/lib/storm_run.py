@@ -88,7 +88,7 @@ class Storm(Nodes):
         peers["a"].append(self.link.path)
         self.posts = [self.post(name, peers[name]) for name in NAMES]
         self.steady, self.small, lost, _, self.named = self.posts
-        lost.lost = self.steady.node.sock, self.histories[lost.name]
+        lost.lost = [it for it in self.posts if it is not lost], self.histories[lost.name]
         for post in self.posts[1:]:
             post.may_forget = True
         self.disk = disk
