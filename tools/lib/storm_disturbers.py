@@ -11,6 +11,8 @@ from storm_http import connect_to
 from storm_posts import WORKERS, is_late
 
 STORE_FAILED = 18
+# after so many seconds a node has ended a silent connection
+ENDED_WITHIN = 10
 
 
 def disturbed(chance, good):
@@ -67,22 +69,27 @@ class Silent:
     def step(self):
         mark = self.post.mark()
         with contextlib.ExitStack() as held:
-            streams = hold(held, self.post.node.sock, self.peers) + hold(held, self.post.node.control, self.callers)
-            streams += hold(held, self.post.http, self.over_http)
-            for stream in streams[::2]:
+            places = ((self.post.node.sock, self.peers), (self.post.node.control, self.callers), (self.post.http, self.over_http))
+            streams = [(place, it) for place, count in places for it in hold(held, place, count)]
+            for _, stream in streams[::2]:
                 with contextlib.suppress(OSError):
                     stream.sendall(SESSION[: self.chance.randrange(1, 10)])
-            for stream in streams:
-                try:
-                    while stream.recv(65536):
-                        pass
-                except socket.timeout:
-                    if self.post.was_calm(mark):
-                        self.post.tally.tell(f"{self.post.name} let a silent connection stand for {SECONDS} s")
-                except OSError:
-                    pass
+            for at, (place, stream) in enumerate(streams):
+                self.want_end(mark, stream, f"silent connection at {place}, which sent {'nothing' if at % 2 else 'something'},")
             self.post.tally.count("idle-connections", len(streams))
         time.sleep(self.chance.uniform(2, 6))
+
+    def want_end(self, mark, stream, what):
+        """Waits until the node ends a connection."""
+        stream.settimeout(ENDED_WITHIN)
+        try:
+            while stream.recv(65536):
+                pass
+        except socket.timeout:
+            if self.post.was_calm(mark):
+                self.post.tally.tell(f"{self.post.name} let a {what} stand for {ENDED_WITHIN} s")
+        except OSError:
+            pass
 
 
 class Slow:
