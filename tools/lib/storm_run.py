@@ -244,8 +244,11 @@ class Storm(Nodes):
                     self.tally.tell(f"sqlite3 says of the log of {post.name}: {tested.stdout}{tested.stderr}")
 
     def measured(self):
-        """Of the node that is never started again: its descriptors, its memory and how many rows it has."""
-        return self.least_descriptors(), self.steady.node.resident(), len(self.steady.node.get())
+        """Of the node that is never started again: its descriptors, its memory and how many rows it has. Meanwhile nobody watches it."""
+        self.watchers[0].stop()
+        found = self.least_descriptors(), self.steady.node.resident(), len(self.steady.node.get())
+        self.watchers[0].start()
+        return found
 
     def compare(self, sizes):
         """What was measured after the warm-up and after each of the three parts."""
