@@ -39,9 +39,10 @@ CROWD = 200
 # how long the link to the slow peer takes each way, in seconds, and the options of that peer
 LINK_SECONDS = 0.5
 BEHIND_LINK = ("--idle", "20000")
-# what a row may take in memory, and what may first be kept for reuse in the last part: for each of the five peers that a pushes to the buffer of a
-# longest frame, 64 KiB, and as much for pages of the allocator of which only a piece is used
-ROW_BYTES, REUSED_BYTES = 1024, 6 * 64 * 1024
+# what a row may take in memory, since each of the 18 seats may hold a state of its own of the part of a table in which it is; and what may first be
+# kept for reuse in the last part: for each of the five peers that a pushes to the buffer of a longest frame, 64 KiB, and as much for pages of the
+# allocator of which only a piece is used
+ROW_BYTES, REUSED_BYTES = 3072, 6 * 64 * 1024
 
 
 # among these no system takes a port for a connection by itself, as it could while the node of the port is down
