@@ -12,8 +12,8 @@ WRITERS, KEYS = 2, 24
 REMOVED = "removed"
 # the keys that are written once, removed once and never written again begin so
 ONCE = "once/"
-# a key of none of the writers, under which hostile callers have an owner write
-DISTURBED = "changed"
+# a key of none of the writers, under which hostile callers have an owner write; it is short, so that it is few others with a byte changed
+DISTURBED = "x"
 # the name of hostile peers, who write as nobody else
 HOSTILE = "zz"
 # the key of beats, and the one that each node writes after everything

@@ -3,7 +3,7 @@ import json
 import socket
 import time
 
-from histories import REMOVED, Row, Sight, wrong_rows
+from histories import DISTURBED, REMOVED, Row, Sight, wrong_rows
 from nodes import DONE, REFUSED, SECONDS, Difference, connect, spelled
 from storm_posts import is_late
 
@@ -11,7 +11,8 @@ from storm_posts import is_late
 POLL_SECONDS, EARLIER = 5, 0.2
 HOST = b"Host: localhost\r\n"
 # what is no good request where it is disturbed. A write is not: with more bytes it would be one of another key
-GET, OWNERS, DELETE = (front + HOST + b"\r\n" for front in (b"GET /v1/rows?prefix=k/ HTTP/1.1\r\n", b"GET /v1/owners HTTP/1.1\r\n", b"DELETE /v1/keys/changed HTTP/1.1\r\n"))
+TARGETS = ("GET /v1/rows?prefix=k/", "GET /v1/owners", f"DELETE /v1/keys/{DISTURBED}")
+GET, OWNERS, DELETE = (f"{it} HTTP/1.1\r\n".encode() + HOST + b"\r\n" for it in TARGETS)
 
 
 class Unanswered(OSError):

@@ -4,7 +4,7 @@ import time
 from concurrent.futures import ThreadPoolExecutor
 
 from histories import APART, row_of
-from nodes import DONE, REFUSED, SECONDS, Difference, exchange, put, run, weight
+from nodes import DONE, REFUSED, SECONDS, Difference, exchange, put, run, want, weight
 from storm_posts import CONFLICT, files_of, move
 
 OWNER_CONFLICT = 21
@@ -183,6 +183,14 @@ class TwinMaker:
         self.post.start()
         if made:
             self.want_healed(helper, len(rows))
+            self.clear(rows)
+
+    def clear(self, rows):
+        """Removes what was written beside the twin."""
+        for row in rows:
+            if row.key.startswith(APART[0]):
+                kind, _ = exchange(self.post.node.control, put(row.key, b"\x00")) or (None, b"")
+                want(f"the removal of {row.key}", kind, DONE)
 
     def want_healed(self, helper, count):
         """The helper comes to show the rows of the first one."""
