@@ -1,5 +1,6 @@
 """The storm of tools/storm: its nodes, who writes and reads at them, and who disturbs them; what is judged at its end."""
 import contextlib
+import os
 import random
 import shutil
 import socket
@@ -44,6 +45,8 @@ BEHIND_LINK = ("--idle", "20000")
 # allocator of which only a piece is used
 ROW_BYTES, REUSED_BYTES = 3072, 6 * 64 * 1024
 
+# what the C library is told at the node whose memory is judged: else it keeps for each thread twice the longest buffer that it ever took back
+ALLOCATOR = {"MALLOC_TRIM_THRESHOLD_": "131072", "MALLOC_MMAP_THRESHOLD_": "131072"}
 
 # among these no system takes a port for a connection by itself, as it could while the node of the port is down
 PORTS = range(20000, 30000)
@@ -90,6 +93,7 @@ class Storm(Nodes):
         self.posts = [self.post(name, peers[name]) for name in NAMES]
         self.steady, self.small, lost, _, self.named = self.posts
         lost.lost = [it for it in self.posts if it is not lost], self.histories[lost.name]
+        self.steady.node.how["env"] = {**os.environ, **ALLOCATOR}
         for post in self.posts[1:]:
             post.may_forget = True
         self.disk = disk
@@ -301,9 +305,9 @@ class Storm(Nodes):
         happened = ["times-without-room", "writes-refused-for-room", "times-without-descriptors", "idle-connections", "times-the-slow-peer-agreed"]
         self.print_counts("late-callers", "starts-refused-for-room", "writes-refused-as-closed", *happened)
         more = ["slow-callers-answered", "polls-that-waited", "polls-at-once", "lines-of-watches", "watches-that-agreed", "beats-read", "runs-that-forget", "restores", "rows-restored"]
-        more += ["twins", "writes-beside-twins", "twins-told", "twins-told-by-audits", "twins-healed"] if self.given.audit else []
+        more += ["twins", "twins-told", "twins-told-by-audits", "twins-healed"] if self.given.audit else []
         more += ["keys-used-once", "keys-used-once-removed", "purges-while-running"] if self.given.purge_removals else []
-        self.print_counts("restores-put-off", *more)
+        self.print_counts("restores-put-off", "writes-beside-twins", *more)
         for what, times in sorted(self.tally.times.items()):
             if len(times) > 1:
                 for name, of_hundred in (("median", 50), ("95th", 95)):
