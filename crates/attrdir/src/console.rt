@@ -329,7 +329,7 @@ impl Observer for Console<'_, '_> {
         let (rt, head) = (self.rt, self.head(Level::Error));
         let fault = Fault::OwnerConflict(version);
         let _ = eprintln!(rt;
-            "{head} node {}: fault {}: {fault}; no more writes are taken; where there is no other node of this name, its log is new, an older copy, or began too low: see `attrdir begin --help`",
+            "{head} node {}: fault {}: {fault}; no more writes are taken; if no other node has this name, its log is new, an older copy, or began too low: see RUNBOOK, An older copy of a log",
             self.name,
             fault.number()
         );

@@ -85,9 +85,9 @@ Reads opening settings keys before (measures text) after = after ≡ before
 Reads opening settings keys before (fails fault) after = IsLater before after
 
 -- a seat that answers over HTTP, with the keys of its marks
-record pub HttpSeat : Type 0 where
-  seat : Seat
-  keys : RandomState
+pub record HttpSeat : Type 0 where
+  pub seat : Seat
+  pub keys : RandomState
 
 -- each call reads so, and leaves the keys
 abbrev pub SeatReads : Node → Settings → HttpSeat → Act → HttpSeat → Type 0

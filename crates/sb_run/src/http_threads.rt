@@ -184,7 +184,7 @@ impl<S: RoundsTag, H: Wait + Drop, Q: Wait + Clock, O: Observer> Backend
             &mut self.seat,
             (self.node, self.keys, ask, patience),
             |seat, (node, keys, ask, patience)| -> (ReaderSeat<S>, Result<MarkedReply, Fault>)
-                ensures polled { IfOk result.1 (λ found. IsPolled S.opening S.settings.budget keys.entry seat ask.entry.now result.0 found.reply found.mark) }
+                ensures polled { IfOk result.1 (λ found. IsPolled S.opening S.settings.budget keys seat ask.entry.now result.0 found.reply found.mark) }
                 ensures later { IsLater seat result.0 }
             { node.poll(keys, seat, ask, patience) },
         )
