@@ -40,13 +40,13 @@ CROWD = 200
 # how long the link to the slow peer takes each way, in seconds, and the options of that peer
 LINK_SECONDS = 0.5
 BEHIND_LINK = ("--idle", "20000")
-# what a row may take in memory, since each of the 18 seats may hold a state of its own of the part of a table in which it is; and what may first be
-# kept for reuse in the last part: for each of the five peers that a pushes to the buffer of a longest frame, 64 KiB, and as much for pages of the
-# allocator of which only a piece is used
-ROW_BYTES, REUSED_BYTES = 3072, 6 * 64 * 1024
+# what a row may take in memory, and what may first be kept for reuse in the last part: for each of the five peers that a pushes to the buffer of a
+# longest frame, 64 KiB, and as much for pages of the allocator of which only a piece is used
+ROW_BYTES, REUSED_BYTES = 1024, 6 * 64 * 1024
 
-# what the C library is told at the node whose memory is judged: else it keeps for each thread twice the longest buffer that it ever took back
-ALLOCATOR = {"MALLOC_TRIM_THRESHOLD_": "131072", "MALLOC_MMAP_THRESHOLD_": "131072"}
+# what the C library is told at the node whose memory is judged. Else it keeps freed pieces for each thread, up to 240 kB of small ones and twice
+# the longest buffer, so that the process grows for an hour
+GIVES_BACK = {"GLIBC_TUNABLES": "glibc.malloc.tcache_count=0:glibc.malloc.trim_threshold=131072:glibc.malloc.mmap_threshold=131072"}
 
 # among these no system takes a port for a connection by itself, as it could while the node of the port is down
 PORTS = range(20000, 30000)
@@ -93,7 +93,7 @@ class Storm(Nodes):
         self.posts = [self.post(name, peers[name]) for name in NAMES]
         self.steady, self.small, lost, _, self.named = self.posts
         lost.lost = [it for it in self.posts if it is not lost], self.histories[lost.name]
-        self.steady.node.how["env"] = {**os.environ, **ALLOCATOR}
+        self.steady.node.how["env"] = {**os.environ, **GIVES_BACK}
         for post in self.posts[1:]:
             post.may_forget = True
         self.disk = disk
