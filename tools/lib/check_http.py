@@ -137,17 +137,34 @@ def http_rows(check):
 
 
 def http_owners(check):
-    """The owners that a node shows, with the version and the number of rows of each, in the order of their names."""
+    """The owners that a node shows, in the order of their names, with the version and the number of rows of each, and how long ago it heard each."""
     if lacks_curl(check):
         return
     folder = check.folder()
     node, place = node_at(check, "a", folder / "a.http", folder=folder)
     want("no owner yet", place.curl("/v1/owners")[2], b'{"owners":[]}\n')
     other = check.node("b", "--pause", "100", folder=folder, peers=[node.sock]).start()
+    began = time.monotonic()
     node.put("k", 5), node.put("l", 6), other.put("k", 7)
     want("a removal", node.command("del", "l")[0], 0)
     node.awaits("the row of b", lambda rows: len(rows) == 2)
-    want("the owners", place.curl("/v1/owners")[2], b'{"owners":[{"owner":"a","rows":1,"version":3},{"owner":"b","rows":1,"version":1}]}\n')
+    ended = time.monotonic()
+    time.sleep(1)
+    asked = time.monotonic()
+    node.put("k", 8)
+    body = place.curl("/v1/owners")[2].decode()
+    answered = time.monotonic()
+    want("the owners", with_no_ages(body), '{"owners":[{"age":N,"owner":"a","rows":1,"version":4},{"age":N,"owner":"b","rows":1,"version":1}]}\n')
+    of_a, of_b = (it["age"] for it in json.loads(body)["owners"])
+    if of_a > (answered - asked) * 1000 + 1:
+        raise Difference(f"the age of a is {of_a}, and it wrote {answered - asked} s ago at most")
+    if not (asked - ended) * 1000 - 1 <= of_b <= (answered - began) * 1000 + 1:
+        raise Difference(f"the age of b is {of_b}, and it was heard from {asked - ended} to {answered - began} s ago")
+
+
+def with_no_ages(body):
+    """A body with N in the place of each age, since ages are others each time."""
+    return re.sub(r'"age":\d+', '"age":N', body)
 
 
 def put(place, key, kind, value, *words):
@@ -545,7 +562,7 @@ def http_places(check):
 
 
 def http_examples(check):
-    """Each example of docs/FORMATS.md, `curl` and the answer below it, is what a node answers that has these rows, at a port and at a socket."""
+    """Each example of docs/FORMATS.md, `curl` and the answer below it, is what a node answers that has these rows, at a port and at a socket; ages aside."""
     if lacks_curl(check):
         return
     section = (ROOT / "docs/FORMATS.md").read_text().split("\n## HTTP\n")[1].split("\n## ")[0]
@@ -564,7 +581,8 @@ def http_examples(check):
             at = words.index("--unix-socket")
             words = words[:at] + words[at + 2 :]
         path = address.split("://")[1].partition("/")[2]
-        want(f"the example {line}", place.curl(f"/{path}", *[it for it in words if it != "-s"])[2].decode(), wanted + "\n")
+        found = place.curl(f"/{path}", *[it for it in words if it != "-s"])[2].decode()
+        want(f"the example {line}", with_no_ages(found), with_no_ages(wanted) + "\n")
 
 
 PARTS = (http_rows, http_owners, http_writes, http_first_writes, http_health, http_metrics, http_scrape, http_polls, http_page, http_refusals, http_bounds, http_silence, http_crowd, http_places, http_examples)

@@ -12,10 +12,16 @@ WRITERS, KEYS = 2, 24
 REMOVED = "removed"
 # the keys that are written once, removed once and never written again begin so
 ONCE = "once/"
-# a key of none of the writers, under which hostile callers have an owner write
-DISTURBED = "changed"
+# a key of none of the writers, under which hostile callers have an owner write; it is short, so that it is few others with a byte changed
+DISTURBED = "x"
 # the name of hostile peers, who write as nobody else
 HOSTILE = "zz"
+# the key of beats, and the one that each node writes after everything
+BEAT, AFTER = "beat", "after/all"
+# the keys of the writes that a node and its twin make beside one another begin so
+APART = ("right/", "twin/")
+# the name of a node that has left for good, and how many rows it wrote: each row has its version as its key and value
+LEFT, LEFT_ROWS = "w", 5
 
 Asked = namedtuple("Asked", "key kind value")
 Row = namedtuple("Row", "owner key version words")
@@ -36,6 +42,43 @@ def row_of(line):
 def could_be_disturbed(word, of):
     """Whether a word is another one with at most one of its bytes changed."""
     return len(word) == len(of) and sum(a != b for a, b in zip(word, of)) <= 1
+
+
+def left_key(version):
+    return f"left/{version}"
+
+
+def is_of_left(row):
+    """Whether the node that has left wrote this row."""
+    return 0 < row.version <= LEFT_ROWS and row.key == left_key(row.version) and row.words == f"weight {row.version}"
+
+
+class Numbers:
+    """The number of the write of each version, 0 where it is not known. Versions skip a million where a log is lost, so they are in pieces."""
+
+    def __init__(self):
+        # the first version of each piece, and its numbers
+        self.firsts, self.pieces = [1], [array("Q")]
+
+    def place(self, version):
+        at = bisect_right(self.firsts, version) - 1
+        return self.pieces[at], version - self.firsts[at]
+
+    def skip_to(self, version):
+        """The versions from this one on are in a piece of their own."""
+        if version > self.firsts[-1]:
+            self.firsts.append(version)
+            self.pieces.append(array("Q"))
+
+    def __getitem__(self, version):
+        piece, at = self.place(version)
+        return piece[at] if at < len(piece) else 0
+
+    def __setitem__(self, version, number):
+        piece, at = self.place(version)
+        if at >= len(piece):
+            piece.frombytes(bytes(piece.itemsize * (at + 1 - len(piece))))
+        piece[at] = number
 
 
 class Open:
@@ -73,6 +116,11 @@ class KeysUsedOnce:
             self.written.remove(number)
             self.unclear.add(number)
             return number
+
+    def doubtful(self):
+        """The number of the oldest key that may have a row, or may have none; none where there is no such key."""
+        with self.lock:
+            return min(self.unclear, default=None)
 
     def settle(self, number, is_written):
         """What became of the key is clear."""
@@ -113,26 +161,46 @@ class History:
         self.lock = threading.Lock()
         # the greatest version that was acknowledged, and how many were
         self.last, self.count = 0, 0
-        # the versions behind which its log began anew: what was written before is gone there
-        self.begun = []
-        # the number of the write of each version, 0 where it is not known
-        self.numbers = array("Q", [0])
+        # the versions behind which its log began anew: what was written before is gone there, or was written again where it was restored
+        self.begun, self.restored = [], []
+        self.numbers = Numbers()
         # when each version was answered
         self.answered = {}
         self.versions = {key: array("Q") for key in self.keys}
         self.open = {key: {} for key in self.keys}
         self.once = KeysUsedOnce()
+        # how many writes it and its twin made beside one another
+        self.apart = 0
 
     def lose(self, version):
         """Its log was lost, and begins anew behind this version."""
         self.once.lose()
         with self.lock:
             self.begun.append(version)
+            self.numbers.skip_to(version + 1)
             self.last = max(self.last, version)
+
+    def restore(self, version, rows):
+        """Its log was lost while nothing was written, and has all of these rows again, in the versions after this one."""
+        with self.lock:
+            self.restored.append(version)
+            self.numbers.skip_to(version + 1)
+            self.last = max(self.last, version + len(rows))
+            for at, row in enumerate(rows, version + 1):
+                number = self.number_of(row)
+                if number:
+                    self.numbers[at] = number
+                    insort(self.versions[row.key], at)
+
+    def number_of(self, row):
+        """The number of the write that a row is; 0 where it is of none of the writers."""
+        if row.key not in self.open:
+            return 0
+        return self.numbers[row.version] or next((number for number, it in self.open[row.key].items() if it.may_be(row.version, row.words)), 0)
 
     def lost_before(self, upto):
         """The last version up to this one behind which its log began anew; 0 where there is none."""
-        return max((it for it in self.begun if it <= upto), default=0)
+        return max((it for it in (*self.begun, *self.restored) if it <= upto), default=0)
 
     def asked(self, number):
         """What write NUMBER is. Each number is of one writer, and each key of one writer too. Some keys are written often, some hardly."""
@@ -165,8 +233,6 @@ class History:
                 return f"was acknowledged as version {version}, when {it.after} was the last one"
             if it.seen not in (0, version):
                 return f"was acknowledged as version {version}, and was read as version {it.seen}"
-            if version >= len(self.numbers):
-                self.numbers.frombytes(bytes(self.numbers.itemsize * (version + 1 - len(self.numbers))))
             if self.numbers[version]:
                 return f"was acknowledged as version {version}, and so was write {self.numbers[version]}"
             self.numbers[version] = number
@@ -183,9 +249,9 @@ class History:
         if row.key.startswith(ONCE):
             return self.once.has(row)
         if row.key not in self.open:
-            return could_be_disturbed(row.key, DISTURBED)
+            return self.is_of_no_writer(row)
         with self.lock:
-            if row.version < len(self.numbers) and self.numbers[row.version]:
+            if self.numbers[row.version]:
                 asked = self.asked(self.numbers[row.version])
                 return asked.key == row.key and f"{asked.kind} {asked.value}" == row.words
             for it in self.open[row.key].values():
@@ -193,6 +259,13 @@ class History:
                     it.seen = row.version
                     return True
             return False
+
+    def is_of_no_writer(self, row):
+        """Whether a row is a write that none of the writers asks for."""
+        if row.key.startswith(APART):
+            count = row.key.split("/")[1]
+            return count.isdecimal() and int(count) <= self.apart and row.words == f"weight {count}"
+        return could_be_disturbed(row.key, DISTURBED) or (row.key, row.words) in ((BEAT, "flag true"), (AFTER, "weight 1"))
 
     def newest(self, key, upto):
         """The last version up to this one that was acknowledged under the key; 0 where there is none, or where it was lost."""
@@ -286,12 +359,17 @@ def once_numbers(rows, owner):
     return {int(it.key.removeprefix(ONCE)) for it in rows if it.owner == owner and it.key.startswith(ONCE)}
 
 
+def is_written(histories, row):
+    """Whether somebody was asked for a row. Hostile peers write as HOSTILE, or as that with a byte changed."""
+    history = histories.get(row.owner)
+    return history.has(row) if history else is_of_left(row) if row.owner == LEFT else could_be_disturbed(row.owner, HOSTILE)
+
+
 def wrong_rows(histories, rows):
-    """Rows that are out of order, or that nobody was asked for. Hostile peers write as HOSTILE, or as that with a byte changed."""
+    """Rows that are out of order, or that nobody was asked for."""
     places = [(it.owner, it.key) for it in rows]
     if places != sorted(set(places)):
         yield f"rows do not ascend by owner and key: {places}"
     for it in rows:
-        history = histories.get(it.owner)
-        if not (history.has(it) if history else could_be_disturbed(it.owner, HOSTILE)):
+        if not is_written(histories, it):
             yield f"nobody was asked for {' '.join(map(str, it))}"

@@ -62,7 +62,7 @@ def limits_of(kind, numbers):
     if not found:
         return ""
     bounds = [str(numbers[it]) if it in numbers else it for it in re.split(r",\s*", found[2])]
-    return " to ".join(["workers and 2", *bounds] if found[1] == "Seats" else bounds)
+    return " to ".join(["workers and 2 (3 with --http)", *bounds] if found[1] == "Seats" else bounds)
 
 
 def numbers_of_limits():

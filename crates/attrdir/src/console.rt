@@ -71,6 +71,8 @@ pub(crate) struct Console<'r, 'a> {
     pub(crate) watch: LogWatch<'a>,
     pub(crate) sock: &'a str,
     pub(crate) control: &'a str,
+    /// Where it answers over HTTP.
+    pub(crate) http: Option<&'a str>,
     /// Whether each line begins with the time.
     pub(crate) has_time: bool,
     /// The file of metrics.
@@ -293,10 +295,15 @@ impl Observer for Console<'_, '_> {
 
     fn listening(&self) {
         let (rt, head) = (self.rt, self.head(Level::Info));
-        let _ = eprintln!(rt;
-            "{head} node {}: listens on {}, and for set, del, get and watch on {}",
-            self.name, self.sock, self.control
-        );
+        let (name, sock, control) = (self.name, self.sock, self.control);
+        let _ = match self.http {
+            Some(address) => eprintln!(rt;
+                "{head} node {name}: listens on {sock}, for set, del, get and watch on {control}, and for HTTP on {address}"
+            ),
+            None => eprintln!(rt;
+                "{head} node {name}: listens on {sock}, and for set, del, get and watch on {control}"
+            ),
+        };
     }
 
     fn dialed(&self, peer: &str, state: PeerState) {
@@ -322,7 +329,7 @@ impl Observer for Console<'_, '_> {
         let (rt, head) = (self.rt, self.head(Level::Error));
         let fault = Fault::OwnerConflict(version);
         let _ = eprintln!(rt;
-            "{head} node {}: fault {}: {fault}; no more writes are taken; where there is no other node of this name, its log is new, an older copy, or began too low: see `attrdir begin --help`",
+            "{head} node {}: fault {}: {fault}; no more writes are taken; if no other node has this name, its log is new, an older copy, or began too low: see RUNBOOK, An older copy of a log",
             self.name,
             fault.number()
         );

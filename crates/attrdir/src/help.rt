@@ -2,8 +2,8 @@
 
 pub(crate) const EXAMPLE: &str =
     "`serve` runs a node. `set`, `del`, `get`, `watch`, `status` and `owners` ask a node that runs. `log` reads the log of a node that does not
-run, and `purge` drops its tombstones. `begin` makes a log for a name whose log is lost. `sim` plays many nodes in memory. `attrdir COMMAND --help` explains
-a command.
+run, and `purge` drops its tombstones. `restore` makes a log for a name whose log is lost, with the rows that another node shows, and `begin` one
+without rows. `sim` plays many nodes in memory. `attrdir COMMAND --help` explains a command.
 
 Example of a node, which is then asked from a second terminal:
   $ touch a.log
@@ -177,7 +177,7 @@ Example, in which the file of node a is gone, and node b heard of its version 4 
 pub(crate) const BEGIN: &str =
     "A node whose log is lost must not use its old versions again. Others hold what it wrote, and would ignore new writes under these versions. This
 command makes a log that begins after a version V. The log holds nothing, and its next write has the version after V. Once the node runs with it, the
-others drop what they hold of the name, and take what it writes then.
+others drop what they hold of the name, and take what it writes then. To keep the rows that another node shows, use `attrdir restore`.
 
 First end the node, if it still runs: a process keeps a file that was removed, and takes writes that are lost. V has to be at least 4,096 above the
 last version of the lost log, since the lost log may have had so many keys. With --from, V is the last version that the node at PATH heard of, plus
@@ -418,8 +418,8 @@ output is closed, the command ends before it asks again.
 
 With --retry it goes on if the node cannot be reached, ends or refuses. It prints a line on standard error when the node stops answering, and one when it
 answers again. A node that was started again may know less for a while. So the command waits with `gone` until the node has shown a row of that owner
-with the same version or a later one. Only rows that it asks for count. It never prints a row with an earlier version than before. --count counts
-the askings that the node answered.
+with the same version or a later one. Only rows that it asks for count. It prints a row with an earlier version than before only while that node gets
+the rows of the owner in pieces. --count counts the askings that the node answered.
 
 With --hold, --floor, --settle, --listings or --render it is careful. It goes on as with --retry, and takes no rows before the node is caught up, as
 `attrdir status` reports. It shows nothing before there is a row. A row that went stays for --hold, and changes are gathered for --settle. Rows that went

@@ -285,6 +285,7 @@ fn console_of<'r, 'a>(rt: &'r HostRuntime, given: &ServeArguments<'a>) -> Consol
         watch: LogWatch::new(rt, given.log),
         sock: given.sock,
         control: given.control,
+        http: given.http,
         has_time: given.has_time,
         metrics,
         metrics_text: match given.http {

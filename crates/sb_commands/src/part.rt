@@ -31,7 +31,7 @@ impl fmt::Display for Range {
         match self {
             Range::Any => f.write_str("any number"),
             Range::Within(least, most) => write!(f, "{least} to {most}"),
-            Range::Seats(most) => write!(f, "workers and 2 to {most}"),
+            Range::Seats(most) => write!(f, "workers and 2 (3 with --http) to {most}"),
         }
     }
 }

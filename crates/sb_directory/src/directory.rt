@@ -14,7 +14,7 @@ ghost use Rattle.sb_views.specs.declared.event.Event.TheVariants as events;
 ghost use Rattle.sb_watch.specs.declared.note.Polled.TheVariants as answers;
 ghost use Rattle.sb_watch.specs.declared.note.Note.{Note};
 ghost use Rattle.sb_watch.specs.Records.{Hub};
-ghost use Rattle.sb_watch.specs.Hubs.{new_hub, has_watch, answer_at};
+ghost use Rattle.sb_watch.specs.Hubs.{new_hub, has_watch, answer_at, with_answer};
 ghost use Rattle.sb_directory.specs.Audits.{Audits};
 ghost use Rattle.sb_directory.specs.Purging as purging;
 ghost use Rattle.sb_directory.specs.Seats as spec;
@@ -404,7 +404,7 @@ impl<S: DirectoryTag, R: Wait + Drop> Directory<S, R> {
         ensures answer { OnOk result ((hub : Hub) × (result ≡ answer_at hub watch.old.id)) }
         ensures says { IfOk result (λ polled. SaysOf S.opening seat.new.last_call watch.old (reports polled)) }
         ensures fault { IfErr result (λ fault. fault ≢ Fault.NoWatch → fault ≡ Fault.NoMemory) }
-        ensures watch { OnOk result ((hub : Hub) × (watch.new ≡ watch_after hub seat.new.last_call watch.old)) }
+        ensures watch { OnOk result ((hub : Hub) × (result ≡ answer_at hub watch.old.id) × (watch.new ≡ watch_after (with_answer hub watch.old.id) seat.new.last_call watch.old)) }
         ensures err { OnErr result (watch.new ≡ watch.old) }
         ensures seat { result ≡ Err Fault.NoWatch → seat.new ≡ spec.with_last_call seat.old seat.new.last_call }
         ensures held { (note : Note) → result ≡ Ok (answers.Note note) → note.version ≤ (shown_of (node_after S.opening seat.new.seen).held note.owner).held }

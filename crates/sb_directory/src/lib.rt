@@ -59,12 +59,14 @@
 //! - A directory adds events to its history that no call made. Only `close` counts events, and a node that runs
 //!   forever never calls it. Clauses of `ViewedNode` and tests refuse it.
 //! - A refused `Directory::close` adds a watch of its own. Nothing refuses it.
-//! - `Directory::watch` drops the watch again by a second call, so `has_note` and `poll` return `NoWatch`. Private clauses
-//!   refuse it within one call, and tests in `crates/sb_directory_tests` refuse the rest.
+//! - `Directory::watch` gives a watch that reports from another moment on. Or it drops the watch again by a second call, so
+//!   `has_note` and `poll` return `NoWatch`. Private clauses refuse it within one call, and tests in
+//!   `crates/sb_directory_tests` refuse the rest.
 //! - `Directory::unwatch` drops nothing and returns `Ok`. Tests refuse it.
 //! - `Directory::poll` gives another note than the oldest, or drops its watch. Tests refuse it. Private clauses cover one
 //!   call under the lock, not a second that nobody asked for.
-//! - `Directory::has_note` answers for a past moment, and `has_notes` anything. Private clauses and tests refuse it.
+//! - `Directory::has_note` and `has_notes` answer anything: the clause of the first holds for some history, which may be any.
+//!   Private clauses and tests refuse it.
 //! - `Directory::take_news` leaves out an owner whose held version rose, has one whose version did not rise, or has a
 //!   wrong version. A delta for any backlog is honest. Clauses of `add_risen` and tests in
 //!   `crates/sb_directory_tests` refuse it.

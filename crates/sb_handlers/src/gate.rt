@@ -67,10 +67,23 @@ fn has_entered(end: &BlockEnd) -> bool {
     }
 }
 
-/// Whether a block that ended so raised the version up to which its owner is held. A block of a stage does that once the stage is
-/// whole: once it goes up to the floor.
+/// A version up to which a block that ended so was entered, at least; none if nothing was. Of a block that was entered in part, entries
+/// that were held before may come first.
+fn last_entered(block: &Block, end: &BlockEnd) -> Option<u64> {
+    match end {
+        BlockEnd::Taken(_) => Some(block.upto()),
+        BlockEnd::TooManyKeys(count) | BlockEnd::NoMemory(count) => {
+            let index = count.checked_sub(1)? as usize;
+            Some(block.entries().get(index)?.version())
+        }
+        _ => None,
+    }
+}
+
+/// Whether a block that ended so is sure to have raised the version up to which its owner is held. A block of a stage does that once
+/// the stage is whole: once it goes up to the floor.
 fn is_risen(block: &Block, end: &BlockEnd) -> bool {
-    has_entered(end) && block.upto() >= block.floor()
+    last_entered(block, end).is_some_and(|version| version >= block.floor())
 }
 
 /// Whether writes are missing before those of a block that ended so.

@@ -1,6 +1,6 @@
 -- The bodies of responses.
 use Rattle.std.specs.Prelude.{ℕ, Bool, ◌==◌, List, [], ◌∷◌, ◌++◌, map, codes, Option, Some, None, unwrap_or}
-use Rattle.serde_json.specs.Data.{Data, boolean, number, unsigned, string, array, object, member, no_members}
+use Rattle.serde_json.specs.Data.{Data, boolean, number, unsigned, string, array, object, Members, member, no_members}
 use Rattle.serde_json.specs.Written.{compact_text}
 use Rattle.sb_codec.specs.Records.{Row, Rows, Figure, NodeStatus}
 use Rattle.sb_codec.specs.Figures.{number_of, value_at}
@@ -23,11 +23,16 @@ unfoldable pub marked_page_data : List ℕ → Rows → Data
 marked_page_data mark page =
     object (member (codes "more") (boolean page.more) (member (codes "rows") (rows_data page.rows) (member (codes "seen") (string mark) no_members)))
 
+-- the members with the age before them, if it is known
+abbrev pub aged : Option ℕ → Members → Members
+aged (Some age) members = member (codes "age") (number (unsigned age)) members
+aged None members = members
+
 -- the members are in the order of their names
 unfoldable pub owner_data : HeldOwner → Data
 owner_data held =
-    object (member (codes "owner") (string held.owner) (member (codes "rows") (number (unsigned held.rows))
-    (member (codes "version") (number (unsigned held.version)) no_members)))
+    object (aged held.age (member (codes "owner") (string held.owner) (member (codes "rows") (number (unsigned held.rows))
+    (member (codes "version") (number (unsigned held.version)) no_members))))
 
 unfoldable pub owners_data : List HeldOwner → Data
 owners_data owners = object (member (codes "owners") (array (items_of (map owner_data owners))) no_members)

@@ -14,6 +14,8 @@ pub struct HeldOwner {
     pub version: u64,
     /// How many rows it has.
     pub rows: u64,
+    /// How many milliseconds ago the node heard it, if it knows that.
+    pub age: Option<u64>,
 }
 
 /// What answers an Ask, with the mark of all rows that are asked for. Another mark says that they are others.

@@ -102,7 +102,12 @@ fn object_of_owner(alloc: Global, held: &HeldOwner) -> Result<Value, AllocError>
     ensures plain { IfOk result (λ json. has_float (view json) ≡ false) }
 {
     let owner = name_text(&held.owner);
-    json!(in alloc; {"owner": owner, "rows": held.rows, "version": held.version})
+    match held.age {
+        Some(age) => {
+            json!(in alloc; {"age": age, "owner": owner, "rows": held.rows, "version": held.version})
+        }
+        None => json!(in alloc; {"owner": owner, "rows": held.rows, "version": held.version}),
+    }
 }
 
 /// Adds an owner. `NoMemory`.

@@ -22,7 +22,8 @@
 //! - `asked_by` returns `NoMemory` for each request, or `HttpService::call` an error. Tests with ample memory refuse it.
 //! - `HttpService::call` answers 503 without a body, as if there were no memory, after the backend was asked. Tests with
 //!   ample memory refuse it.
-//! - `serve_connection` ends with an error before it has read anything. Tests refuse it.
+//! - `serve_connection` ends with an error before it has read anything. Or it reads a request, answers nothing and returns
+//!   `Ok`, as if there were no memory. Tests refuse both.
 //! - `serve_connection` never flushes its writer. Nothing refuses it: a socket needs no flush.
 //! - The page is any other text, and so is its policy: the contract has the constants themselves. `tools/check-node` and
 //!   `tools/check-page` look at both.

@@ -4,7 +4,7 @@
 /// What a browser allows the page: its own script and style, by their hashes, and to ask its own node. `tools/check-node` looks at
 /// the hashes.
 pub(crate) const POLICY: &str =
-    "default-src 'none'; script-src 'sha256-Y9ZSWI9IA4X/+Z9/+HTP9mfFeLo4SUZ6AxwRvpjobKs='; \
+    "default-src 'none'; script-src 'sha256-Bnj4FVOW80KHoyUZ3AbC5iJo0Z0+MduIr/49KFA5V5s='; \
      style-src 'sha256-RCZlzCfX4MB/yl9pyvZ9kw7xah8LcCjJxZQ4xbn2aoo='; \
      img-src data:; connect-src 'self'; \
      base-uri 'none'; form-action 'none'; frame-ancestors 'none'";
@@ -48,7 +48,7 @@ li { padding: .15rem 0; border-top: 1px solid var(--line); overflow-wrap: anywhe
 <h2>Owners <span id="owner-count"></span></h2>
 <form id="find"><input id="owner-part" placeholder="a part of a name" aria-label="a part of a name" autocomplete="off"></form>
 <nav><button id="owners-back" type="button">‹</button><span id="owners-at"></span><button id="owners-on" type="button">›</button></nav>
-<div class="scroll"><table><thead><tr id="owner-heads"></tr></thead><tbody id="owners"></tbody></table></div>
+<div class="scroll"><table><thead><tr><th>Owner<th class="number">Version<th class="number">Rows<th class="number">Age</tr></thead><tbody id="owners"></tbody></table></div>
 </section>
 <section>
 <h2>Rows <span id="row-count"></span></h2>
@@ -66,7 +66,7 @@ li { padding: .15rem 0; border-top: 1px solid var(--line); overflow-wrap: anywhe
 // Whatever comes from a node is put in as text, never as markup.
 const find = id => document.getElementById(id);
 const OWNERS_SHOWN = 25, ROWS_SHOWN = 100, ROWS_READ = 5000, CHANGES_SHOWN = 50, WAIT = 25;
-let owners = [], rows = new Map(), isMore = false, seen = null, canWait = true, ownersFrom = 0, rowsFrom = 0;
+let owners = [], ownersAt = 0, rows = new Map(), isMore = false, seen = null, canWait = true, ownersFrom = 0, rowsFrom = 0;
 let filter = { owner: "", prefix: "" }, asking = new AbortController(), fresh = new Set(), isFirst = true;
 
 function element(name, text, kind) {
@@ -168,18 +168,30 @@ function showRows() {
   }));
 }
 
+// The age that an owner has by now, in the largest unit of which it has two. A node knows none of an owner that it has not heard.
+function ageText(age) {
+  if (age === undefined) return "";
+  const seconds = Math.floor((age + performance.now() - ownersAt) / 1000);
+  for (const [unit, size] of [["d", 86400], ["h", 3600], ["min", 60]]) if (seconds >= 2 * size) return Math.floor(seconds / size) + " " + unit;
+  return seconds + " s";
+}
+
+// Shows how the owners grow older, until the node is asked again.
+function growOlder() {
+  for (const cell of document.querySelectorAll("[data-age]")) cell.textContent = ageText(Number(cell.dataset.age));
+}
+
 function showOwners() {
   const text = find("owner-part").value.trim(), list = owners.filter(it => it.owner.includes(text));
-  const heads = ["owner", ...new Set(owners.flatMap(Object.keys))].filter((it, at, all) => all.indexOf(it) === at);
   ownersFrom = part(list, ownersFrom, OWNERS_SHOWN, "owners-at", "owners-back", "owners-on");
   find("owner-count").textContent = "(" + owners.length + ")";
-  find("owner-heads").replaceChildren(...heads.map(it => element("th", it[0].toUpperCase() + it.slice(1), it === "owner" ? "" : "number")));
   find("owners").replaceChildren(...list.slice(ownersFrom, ownersFrom + OWNERS_SHOWN).map(held => {
-    const line = element("tr", ""), name = element("button", held.owner), cell = element("td", "");
+    const line = element("tr", ""), name = element("button", held.owner), cell = element("td", ""), age = element("td", ageText(held.age), "number");
     name.type = "button";
     name.addEventListener("click", () => { find("owner").value = held.owner; choose(); });
     cell.append(name);
-    line.append(cell, ...heads.slice(1).map(it => element("td", held[it] === undefined ? "" : String(held[it]), "number")));
+    if (held.age !== undefined) age.dataset.age = held.age;
+    line.append(cell, element("td", String(held.version), "number"), element("td", String(held.rows), "number"), age);
     return line;
   }));
 }
@@ -206,6 +218,7 @@ async function turn() {
     showRows();
     const health = await get("/healthz");
     owners = (await get("/v1/owners")).owners;
+    ownersAt = performance.now();
     showOwners();
     say("ready", health.ready ? "ready" : "not ready", health.ready ? "good" : "bad");
     say("live", "live", "good");
@@ -223,6 +236,7 @@ find("find").addEventListener("submit", event => event.preventDefault());
 find("owner-part").addEventListener("input", () => { ownersFrom = 0; showOwners(); });
 for (const [id, move] of [["owners-back", -OWNERS_SHOWN], ["owners-on", OWNERS_SHOWN]]) find(id).addEventListener("click", () => { ownersFrom += move; showOwners(); });
 for (const [id, move] of [["rows-back", -ROWS_SHOWN], ["rows-on", ROWS_SHOWN]]) find(id).addEventListener("click", () => { rowsFrom += move; showRows(); });
+setInterval(growOlder, 1000);
 follow();
 </script>
 </html>

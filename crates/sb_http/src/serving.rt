@@ -44,9 +44,9 @@ fn answer_all<S: Service, R: Read, W: Write>(
 }
 
 /// Answers the requests that are read, and writes the answers. Each answer is one of the service to a whole request, in
-/// their order, or a refusal of `http_server` with its reason. After an `Ok` no request is left without an answer: the
-/// last one closed the connection, or the input is at its end. After an `Err` the same holds of what was written until
-/// then, but more may be left.
+/// their order, or a refusal of `http_server` with its reason. After an `Ok` the last answer closed the connection, or the
+/// input is at its end, or there was no memory. In that case what was not written yet is lost, and the service may have
+/// been called for it. After an `Err` the same holds of what was written until then, but more may be left.
 pub fn serve_connection<S: Service, R: Read, W: Write>(
     alloc: Global,
     keys: RandomState,

@@ -19,7 +19,7 @@ fn case<R: Abort + RandomSource>(rt: &R, alloc: Global, target: &str, wanted: &s
 fn an_answer_has_its_fields_in_order(rt: HostRuntime) {
     let found = answer(&rt, rt.alloc(), "/v1/owners");
     let wanted =
-        "HTTP/1.1 200 OK\r\nconnection: close\r\ncache-control: no-store\r\nx-content-type-options: nosniff\r\ncontent-type: application/json\r\ncontent-length: 48\r\n\r\n{\"owners\":[{\"owner\":\"a\",\"rows\":2,\"version\":6}]}\n";
+        "HTTP/1.1 200 OK\r\nconnection: close\r\ncache-control: no-store\r\nx-content-type-options: nosniff\r\ncontent-type: application/json\r\ncontent-length: 94\r\n\r\n{\"owners\":[{\"age\":1500,\"owner\":\"a\",\"rows\":2,\"version\":6},{\"owner\":\"b\",\"rows\":0,\"version\":7}]}\n";
     same(&rt, &str::from_utf8(&found).unwrap_or(""), &wanted);
 }
 

@@ -1,4 +1,4 @@
-//! A backend with two rows that takes writes, and what comes out of a connection for the bytes that come in.
+//! A backend with two rows and two owners that takes writes, and what comes out of a connection for the bytes that come in.
 
 use sb_codec::{Ask, Done, Message, Refused, Row, Rows};
 use sb_http::{Backend, Door, HeldOwner, HttpService, MarkedReply, Patience, serve_connection};
@@ -103,13 +103,18 @@ impl Backend for FixedBackend {
     }
 
     fn owners(&mut self) -> Result<Vec<HeldOwner>, Fault> {
-        let owner = Name::read(b"a")?;
-        let version = 6;
         let mut owners = Vec::new(self.alloc);
         owners.push(HeldOwner {
-            owner,
-            version,
+            owner: Name::read(b"a")?,
+            version: 6,
             rows: 2,
+            age: Some(1_500),
+        })?;
+        owners.push(HeldOwner {
+            owner: Name::read(b"b")?,
+            version: 7,
+            rows: 0,
+            age: None,
         })?;
         Ok(owners)
     }

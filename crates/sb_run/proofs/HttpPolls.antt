@@ -1,6 +1,7 @@
 -- What a poll finds from a seat that it entered.
 use Rattle.std.proofs.Common.{◌≡◌, ℕ, ◌≤◌, List, Result, Ok, Err, IfOk, sym, subst, arith}
 use mathlib.Core.List.{IsPrefix}
+use Rattle.std.specs.declared.random_state.RandomState.{RandomState}
 use Rattle.sb_types.specs.declared.fault.Fault.{Fault}
 use Rattle.sb_codec.specs.declared.message.ask.Ask as asking
 use Rattle.sb_holdings.specs.Nodes.{Node}
@@ -21,10 +22,10 @@ entered_later before entered seen last_call events = record {
   events = omega (arith, events);
 }
 
-pub polled_at : (opening : Node) (budget : ℕ) (before entered after : Seat) (ask : asking.Ask) (found : Result MarkedReply Fault)
+pub polled_at : (opening : Node) (budget : ℕ) (keys : RandomState) (before entered after : Seat) (ask : asking.Ask) (found : Result MarkedReply Fault)
     → IsPrefix before.seen entered.seen → entered.last_call ≡ before.last_call → entered.events ≡ before.events → after ≡ entered
-    → IfOk found (λ it. IsLookedUp opening budget entered.seen ask it.reply) → IfOk found (λ it. IsMark opening entered.seen ask it.mark)
-    → IfOk found (λ it. IsPolled opening budget before ask after it.reply it.mark)
-polled_at opening budget before entered after ask (Ok it) begins last_call events same page mark =
-    subst (λ (seat : Seat). IsPolled opening budget before ask seat it.reply it.mark) (sym same) (entered_later before entered begins last_call events, page, mark)
-polled_at opening budget before entered after ask (Err fault) begins last_call events same page mark = tt
+    → IfOk found (λ it. IsLookedUp opening budget entered.seen ask it.reply) → IfOk found (λ it. IsMark opening keys entered.seen ask it.mark)
+    → IfOk found (λ it. IsPolled opening budget keys before ask after it.reply it.mark)
+polled_at opening budget keys before entered after ask (Ok it) begins last_call events same page mark =
+    subst (λ (seat : Seat). IsPolled opening budget keys before ask seat it.reply it.mark) (sym same) (entered_later before entered begins last_call events, page, mark)
+polled_at opening budget keys before entered after ask (Err fault) begins last_call events same page mark = tt

@@ -16,3 +16,4 @@ pub mod AskedDigests
 pub mod AuditedSeats
 pub mod WriteReplies
 pub mod HttpPolls
+pub mod Ages

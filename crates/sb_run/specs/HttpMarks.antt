@@ -23,6 +23,5 @@ hash_of keys rows = sip.finish (fold sip.write (initial_hasher keys) (flat_map h
 abbrev pub mark_of : RandomState → asking.Ask → NodeView → List ℕ
 mark_of keys ask view = decimal (hash_of keys (rows_in ask.owner ask.prefix view))
 
--- it is made by some keys, which are those of the run
-abbrev pub IsMark : Node → List Event → asking.Ask → List ℕ → Type 0
-IsMark opening seen ask mark = (keys : RandomState) × (view : NodeView) × IsView (node_after opening seen) view × (mark ≡ mark_of keys ask view)
+abbrev pub IsMark : Node → RandomState → List Event → asking.Ask → List ℕ → Type 0
+IsMark opening keys seen ask mark = (view : NodeView) × IsView (node_after opening seen) view × (mark ≡ mark_of keys ask view)

@@ -1,10 +1,14 @@
 -- What a seat answers over HTTP.
-use Rattle.std.specs.Prelude.{◌≡◌, ℕ, Bool, true, false, List, length, map}
+use Rattle.std.specs.Prelude.{◌≡◌, ℕ, Bool, true, false, List, length, map, find, nat_eq, Option}
+use Rattle.std.specs.Option.{option_map}
+use Rattle.std.specs.Cmp.Lexicographic.{pointwise}
 use Rattle.std.specs.FinMap.{entries}
+use Rattle.std.specs.declared.random_state.RandomState.{RandomState}
 use Rattle.sb_types.specs.Records.{Settings}
 use Rattle.sb_holdings.specs.Nodes.{Node}
 use Rattle.sb_codec.specs.declared.message.Message.{Message}
 use Rattle.sb_codec.specs.declared.message.Message.TheVariants as kinds
+use Rattle.sb_codec.specs.declared.message.ages.OwnerAge.{OwnerAge}
 use Rattle.sb_views.specs.declared.event.Event.{Event}
 use Rattle.sb_views.specs.NodeViews.{NodeView, OwnerView}
 use Rattle.sb_views.specs.Histories.{node_after}
@@ -18,12 +22,16 @@ use Rattle.sb_run.specs.HttpMarks.{IsMark}
 use Rattle.sb_run.specs.Control.{IsPageReply, IsLookedUp, IsUnknown}
 use Rattle.sb_run.specs.StatusReplies.{IsStatusReply}
 
--- an owner of a view: its name, the version up to which it is shown, and the number of its rows
-abbrev pub held_owner : List ℕ × OwnerView → HeldOwner
-held_owner p = record { owner = p.0; version = p.1.upto; rows = length (entries p.1.rows) }
+-- how long ago an owner was heard, if these ages say that
+abbrev pub age_of : List ℕ → List OwnerAge → Option ℕ
+age_of owner ages = option_map (λ heard. heard.age) (find (λ heard. pointwise nat_eq heard.owner owner) ages)
 
-abbrev pub IsListed : NodeView → List HeldOwner → Type 0
-IsListed view owners = owners ≡ map held_owner (entries view)
+-- an owner of a view: its name, the version up to which it is shown, the number of its rows, and how long ago it was heard
+abbrev pub held_owner : List OwnerAge → List ℕ × OwnerView → HeldOwner
+held_owner ages p = record { owner = p.0; version = p.1.upto; rows = length (entries p.1.rows); age = age_of p.0 ages }
+
+abbrev pub IsListed : List OwnerAge → NodeView → List HeldOwner → Type 0
+IsListed ages view owners = owners ≡ map (held_owner ages) (entries view)
 
 -- the message names the version of a write, or a fault
 abbrev pub is_write_reply : Message → Bool
@@ -54,18 +62,33 @@ AnswersQuestion opening settings before kinds.AskAges after reply = (after ≡ b
 AnswersQuestion opening settings before (kinds.Ages x) after reply = (after ≡ before) × IsUnknown reply
 
 -- a poll is answered by a page of what the seat sees in the end, which is no less than before, with the mark of the same rows
-abbrev pub IsPolled : Node → ℕ → Seat → asking.Ask → Seat → Message → List ℕ → Type 0
-IsPolled opening budget before ask after reply mark =
-    IsLater before after × IsLookedUp opening budget after.seen ask reply × IsMark opening after.seen ask mark
+-- by these keys
+abbrev pub IsPolled : Node → ℕ → RandomState → Seat → asking.Ask → Seat → Message → List ℕ → Type 0
+IsPolled opening budget keys before ask after reply mark =
+    IsLater before after × IsLookedUp opening budget after.seen ask reply × IsMark opening keys after.seen ask mark
 
--- the owners of the view after these events
-abbrev pub AreOwnersAfter : Node → List Event → List HeldOwner → Type 0
-AreOwnersAfter opening seen owners = (view : NodeView) × IsView (node_after opening seen) view × IsListed view owners
+-- the owners of the view after these events, with these ages
+abbrev pub AreOwnersAfter : Node → List Event → List OwnerAge → List HeldOwner → Type 0
+AreOwnersAfter opening seen ages owners = (view : NodeView) × IsView (node_after opening seen) view × IsListed ages view owners
+
+-- the same with some ages
+abbrev pub AreOwnersSeen : Node → List Event → List HeldOwner → Type 0
+AreOwnersSeen opening seen owners = (ages : List OwnerAge) × AreOwnersAfter opening seen ages owners
 
 -- what a call over HTTP reads or is answered, and what the seat has seen then
-abbrev pub Reads : Node → Settings → Seat → Act → Seat → Type 0
-Reads opening settings before (asks request reply) after = AnswersQuestion opening settings before request after reply
-Reads opening settings before (polls ask patience reply mark) after = IsPolled opening settings.budget before ask after reply mark
-Reads opening settings before (lists owners) after = IsLater before after × AreOwnersAfter opening after.seen owners
-Reads opening settings before (measures text) after = after ≡ before
-Reads opening settings before (fails fault) after = IsLater before after
+abbrev pub Reads : Node → Settings → RandomState → Seat → Act → Seat → Type 0
+Reads opening settings keys before (asks request reply) after = AnswersQuestion opening settings before request after reply
+Reads opening settings keys before (polls ask patience reply mark) after =
+    IsPolled opening settings.budget keys before ask after reply mark
+Reads opening settings keys before (lists owners) after = IsLater before after × AreOwnersSeen opening after.seen owners
+Reads opening settings keys before (measures text) after = after ≡ before
+Reads opening settings keys before (fails fault) after = IsLater before after
+
+-- a seat that answers over HTTP, with the keys of its marks
+pub record HttpSeat : Type 0 where
+  pub seat : Seat
+  pub keys : RandomState
+
+-- each call reads so, and leaves the keys
+abbrev pub SeatReads : Node → Settings → HttpSeat → Act → HttpSeat → Type 0
+SeatReads opening settings before act after = (after.keys ≡ before.keys) × Reads opening settings before.keys before.seat act after.seat

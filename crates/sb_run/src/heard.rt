@@ -1,7 +1,8 @@
 //! When each owner was heard last: when the version rose up to which the node holds it.
 ghost use Rattle.std.specs.Prelude.{◌≡◌, IfErr};
+ghost use Rattle.sb_run.specs.HttpReads as spec;
 
-use sb_codec::OwnerAge;
+use sb_codec::{Ages, OwnerAge};
 use sb_types::{Fault, Name, OWNERS_MOST};
 use std::alloc::Global;
 use std::sync::{Mutex, Wait};
@@ -49,6 +50,17 @@ impl HeardList {
             })?;
         }
         Ok(ages)
+    }
+}
+
+/// How many milliseconds ago an owner was heard, if these ages say that.
+pub(crate) fn age_of(ages: &Ages, owner: &Name) -> Option<u64>
+    ensures { result ≡ spec.age_of owner.now ages.now }
+{
+    let list = ages.list();
+    match list.binary_search_by_key(owner, |heard| heard.owner) {
+        Ok(place) => Some(list[place].age),
+        Err(_) => None,
     }
 }
 

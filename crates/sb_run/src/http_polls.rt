@@ -73,7 +73,7 @@ impl<S: RoundsTag, H: Wait + Drop, Q: Wait + Clock> NodeContext<'_, S, H, Q> {
         ask: &Ask,
     ) -> Result<MarkedReply, Fault>
         ensures page { IfOk result (λ found. IsLookedUp S.opening S.settings.budget entered.now.seen ask.now found.reply) }
-        ensures mark { IfOk result (λ found. spec.IsMark S.opening entered.now.seen ask.now found.mark) }
+        ensures mark { IfOk result (λ found. spec.IsMark S.opening keys entered.now.seen ask.now found.mark) }
     {
         let mark = mark_of(self.alloc, keys, &entered.snapshot(), ask)?;
         let reply = look_up(self.alloc, self.directory.settings(), entered, ask);
@@ -87,7 +87,7 @@ impl<S: RoundsTag, H: Wait + Drop, Q: Wait + Clock> NodeContext<'_, S, H, Q> {
         seat: ReaderSeat<S>,
         ask: &Ask,
     ) -> (ReaderSeat<S>, Result<MarkedReply, Fault>)
-        ensures polled { IfOk result.1 (λ found. IsPolled S.opening S.settings.budget seat ask.now result.0 found.reply found.mark) }
+        ensures polled { IfOk result.1 (λ found. IsPolled S.opening S.settings.budget keys seat ask.now result.0 found.reply found.mark) }
         ensures later { IsLater seat result.0 }
     {
         match seat.enter() {
@@ -129,7 +129,7 @@ impl<S: RoundsTag, H: Wait + Drop, Q: Wait + Clock> NodeContext<'_, S, H, Q> {
         seen: Key,
         until: Option<Instant>,
     ) -> (ReaderSeat<S>, Result<MarkedReply, Fault>)
-        ensures polled { IfOk result.1 (λ found. IsPolled S.opening S.settings.budget seat ask.now result.0 found.reply found.mark) }
+        ensures polled { IfOk result.1 (λ found. IsPolled S.opening S.settings.budget keys seat ask.now result.0 found.reply found.mark) }
         ensures later { IsLater seat result.0 }
     {
         let filter = Filter {
@@ -158,7 +158,7 @@ impl<S: RoundsTag, H: Wait + Drop, Q: Wait + Clock> NodeContext<'_, S, H, Q> {
         seen: Key,
         until: Option<Instant>,
     ) -> (ReaderSeat<S>, Result<MarkedReply, Fault>)
-        ensures polled { IfOk result.1 (λ found. IsPolled S.opening S.settings.budget seat ask.now result.0 found.reply found.mark) }
+        ensures polled { IfOk result.1 (λ found. IsPolled S.opening S.settings.budget keys seat ask.now result.0 found.reply found.mark) }
         ensures later { IsLater seat result.0 }
     {
         let mut current = seat;
@@ -172,7 +172,7 @@ impl<S: RoundsTag, H: Wait + Drop, Q: Wait + Clock> NodeContext<'_, S, H, Q> {
         unreachable!()
     }
 
-    /// Answers a poll. One without a mark, or without time, looks once. Its faults, in this order:
+    /// Answers a poll, with marks by these keys. One without a mark, or without time, looks once. Its faults, in this order:
     ///
     /// - `TurnsSpent` if too many wait.
     /// - The faults of `watch`.
@@ -180,17 +180,14 @@ impl<S: RoundsTag, H: Wait + Drop, Q: Wait + Clock> NodeContext<'_, S, H, Q> {
     /// - `NoMemory`.
     pub(crate) fn poll(
         &self,
+        keys: RandomState,
         seat: ReaderSeat<S>,
         ask: &Ask,
         patience: &Patience,
     ) -> (ReaderSeat<S>, Result<MarkedReply, Fault>)
-        ensures polled { IfOk result.1 (λ found. IsPolled S.opening S.settings.budget seat ask.now result.0 found.reply found.mark) }
+        ensures polled { IfOk result.1 (λ found. IsPolled S.opening S.settings.budget keys seat ask.now result.0 found.reply found.mark) }
         ensures later { IsLater seat result.0 }
     {
-        let Some(socket) = &self.sockets.http else {
-            return (seat, Err(Fault::Closed));
-        };
-        let keys = socket.keys();
         let until = deadline_after(self.rt, patience.seconds.saturating_mul(1_000));
         match patience.seen {
             Some(seen) if patience.seconds > 0 => {

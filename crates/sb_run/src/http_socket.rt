@@ -111,7 +111,9 @@ impl<'a> HttpSocket<'a> {
     }
 
     /// The keys of its hashes.
-    pub(crate) fn keys(&self) -> RandomState {
+    pub(crate) fn keys(&self) -> RandomState
+        ensures { result ≡ self.now.keys }
+    {
         self.keys
     }
 

@@ -2,17 +2,18 @@
 ghost use Rattle.std.specs.Prelude.{◌≡◌, vec_len, IfOk, IfErr};
 ghost use Rattle.std.specs.Thread.{IsSend, IsSync};
 ghost use Rattle.sb_directory.specs.Serving.{IsLater};
-ghost use Rattle.sb_run.specs.HttpReads.{AnswersQuestion, AreOwnersAfter, IsListed, IsPolled, IsWriteReply};
+ghost use Rattle.sb_run.specs.HttpReads.{AnswersQuestion, AreOwnersAfter, AreOwnersSeen, IsListed, IsPolled, IsWriteReply};
 
 use crate::control::{refused_by, reply_to_ask};
 use crate::dialer::{Dialing, RoundsTag};
+use crate::heard::age_of;
 use crate::http_socket::HttpSocket;
 use crate::observer::Observer;
 use crate::sockets::{Timed, limit};
 use crate::threads::NodeContext;
 use core::mem::replace_with;
 use http_server::Config;
-use sb_codec::{Ask, Message};
+use sb_codec::{Ages, Ask, Message};
 use sb_directory::{EnteredSeat, ReaderSeat};
 use sb_http::{Backend, Door, HeldOwner, HttpService, MarkedReply, Patience, serve_connection};
 use sb_types::{Fault, Write};
@@ -40,25 +41,27 @@ const REST_MOST: usize = 65_536;
 /// How long the next accept waits after one that failed, in milliseconds.
 const ACCEPT_PAUSE: u64 = 20;
 
-/// A node, as a seat of it asks it. Contracts see it as the seat.
+/// A node, as a seat of it asks it. Contracts see it as the seat and the keys.
 #[derive(Drop)]
 pub(crate) struct SeatBackend<'a, 'n, 'd, S: RoundsTag, H: Wait + Drop, Q, O> {
     node: &'a NodeContext<'n, S, H, Q>,
     dialing: &'a Dialing<'d, O>,
     seat: ReaderSeat<S>,
+    /// Those of the marks that polls get.
+    keys: RandomState,
 }
 
 impl<'a, 'n, 'd, S: RoundsTag, H: Wait + Drop, Q, O> Model for SeatBackend<'a, 'n, 'd, S, H, Q, O> {
-    ghost use Rattle.sb_directory.specs.Seats as spec;
+    ghost use Rattle.sb_run.specs.HttpReads as spec;
 
-    ghost Value = { spec.Seat };
+    ghost Value = { spec.HttpSeat };
 
-    ghost view = { λ s. s.seat };
+    ghost view = { λ s. record { seat = s.seat; keys = s.keys } };
 }
 
-/// The owners that a snapshot shows. `NoMemory`.
-fn owners_in(alloc: Global, snapshot: &Snapshot<'_>) -> Result<Vec<HeldOwner>, Fault>
-    ensures owners { IfOk result (λ owners. IsListed snapshot.now owners.items) }
+/// The owners that a snapshot shows, with these ages. `NoMemory`.
+fn owners_in(alloc: Global, snapshot: &Snapshot<'_>, ages: &Ages) -> Result<Vec<HeldOwner>, Fault>
+    ensures owners { IfOk result (λ owners. IsListed ages.now snapshot.now owners.items) }
     ensures memory { IfErr result (λ fault. fault ≡ Fault.NoMemory) }
 {
     let mut owners = Vec::new(alloc);
@@ -67,16 +70,21 @@ fn owners_in(alloc: Global, snapshot: &Snapshot<'_>) -> Result<Vec<HeldOwner>, F
             owner: *owner,
             version: view.upto(),
             rows: view.len() as u64,
+            age: age_of(ages, owner),
         })?;
     }
     Ok(owners)
 }
 
-/// The owners of the snapshot that a seat has entered. `NoMemory`.
-fn owners_of<S: NodeTag>(alloc: Global, entered: &EnteredSeat<S>) -> Result<Vec<HeldOwner>, Fault>
-    ensures { IfOk result (λ owners. AreOwnersAfter S.opening entered.now.seen owners.items) }
+/// The owners of the snapshot that a seat has entered, with these ages. `NoMemory`.
+fn owners_of<S: NodeTag>(
+    alloc: Global,
+    entered: &EnteredSeat<S>,
+    ages: &Ages,
+) -> Result<Vec<HeldOwner>, Fault>
+    ensures { IfOk result (λ owners. AreOwnersAfter S.opening entered.now.seen ages.now owners.items) }
 {
-    owners_in(alloc, &entered.snapshot())
+    owners_in(alloc, &entered.snapshot(), ages)
 }
 
 impl<S: RoundsTag, H: Wait + Drop, Q: Wait + Clock> NodeContext<'_, S, H, Q> {
@@ -111,14 +119,18 @@ impl<S: RoundsTag, H: Wait + Drop, Q: Wait + Clock> NodeContext<'_, S, H, Q> {
         }
     }
 
-    /// The owners that a seat sees. `NoMemory`; `Closed` if it cannot enter.
+    /// The owners that a seat sees, with the ages from before it entered. `NoMemory`; `Closed` if it cannot enter.
     fn owners_seen(&self, seat: ReaderSeat<S>) -> (ReaderSeat<S>, Result<Vec<HeldOwner>, Fault>)
-        ensures owners { IfOk result.1 (λ owners. AreOwnersAfter S.opening result.0.seen owners.items) }
+        ensures owners { IfOk result.1 (λ owners. AreOwnersSeen S.opening result.0.seen owners.items) }
         ensures later { IsLater seat result.0 }
     {
+        let ages = match self.ages() {
+            Ok(ages) => ages,
+            Err(fault) => return (seat, Err(fault)),
+        };
         match seat.enter() {
             Ok(entered) => {
-                let owners = owners_of(self.alloc, &entered);
+                let owners = owners_of(self.alloc, &entered, &ages);
                 (entered.leave(), owners)
             }
             Err(seat) => (seat, Err(Fault::Closed)),
@@ -137,12 +149,13 @@ impl<S: RoundsTag, H: Wait + Drop, Q: Wait + Clock, O: Observer> SeatBackend<
 > {
     /// The seat, once the connection is over.
     fn into_seat(self) -> ReaderSeat<S>
-        ensures { result ≡ self.entry }
+        ensures { result ≡ self.entry.seat }
     {
         let SeatBackend {
             node: _,
             dialing: _,
             seat,
+            keys: _,
         } = self;
         seat
     }
@@ -150,10 +163,10 @@ impl<S: RoundsTag, H: Wait + Drop, Q: Wait + Clock, O: Observer> SeatBackend<
 
 impl<S: RoundsTag, H: Wait + Drop, Q: Wait + Clock, O: Observer> Backend
     for SeatBackend<'_, '_, '_, S, H, Q, O> {
-    ghost use Rattle.sb_run.specs.HttpReads.{Reads};
+    ghost use Rattle.sb_run.specs.HttpReads.{SeatReads};
 
     // Other seats may have entered anything since the last call.
-    ghost step = { Reads S.opening S.settings };
+    ghost step = { SeatReads S.opening S.settings };
 
     fn ask(&mut self, request: &Message) -> Message {
         let (node, dialing) = (self.node, self.dialing);
@@ -169,11 +182,11 @@ impl<S: RoundsTag, H: Wait + Drop, Q: Wait + Clock, O: Observer> Backend
     fn poll(&mut self, ask: &Ask, patience: &Patience) -> Result<MarkedReply, Fault> {
         replace_with(
             &mut self.seat,
-            (self.node, ask, patience),
-            |seat, (node, ask, patience)| -> (ReaderSeat<S>, Result<MarkedReply, Fault>)
-                ensures polled { IfOk result.1 (λ found. IsPolled S.opening S.settings.budget seat ask.entry.now result.0 found.reply found.mark) }
+            (self.node, self.keys, ask, patience),
+            |seat, (node, keys, ask, patience)| -> (ReaderSeat<S>, Result<MarkedReply, Fault>)
+                ensures polled { IfOk result.1 (λ found. IsPolled S.opening S.settings.budget keys seat ask.entry.now result.0 found.reply found.mark) }
                 ensures later { IsLater seat result.0 }
-            { node.poll(seat, ask, patience) },
+            { node.poll(keys, seat, ask, patience) },
         )
     }
 
@@ -182,7 +195,7 @@ impl<S: RoundsTag, H: Wait + Drop, Q: Wait + Clock, O: Observer> Backend
             &mut self.seat,
             self.node,
             |seat, node| -> (ReaderSeat<S>, Result<Vec<HeldOwner>, Fault>)
-                ensures owners { IfOk result.1 (λ owners. AreOwnersAfter S.opening result.0.seen owners.items) }
+                ensures owners { IfOk result.1 (λ owners. AreOwnersSeen S.opening result.0.seen owners.items) }
                 ensures later { IsLater seat result.0 }
             { node.owners_seen(seat) },
         )
@@ -256,6 +269,7 @@ impl<S: RoundsTag, H: Wait + Drop, Q: Wait + Clock> NodeContext<'_, S, H, Q> {
                 node: self,
                 dialing,
                 seat,
+                keys: socket.keys(),
             },
         };
         let _ = self.answer_stream(socket.keys(), &mut service, stream);

@@ -39,9 +39,11 @@
 //! - A node does not end, or a node with endless rounds ends. Tests and `tools/check-node` refuse it.
 //! - A peer is dialed at another time, or news does not wake the threads that dial. Tests and
 //!   `tools/check-node` refuse it.
-//! - A thread that answers over HTTP hands in another write than it was asked for, or none. Or it gets the answer to
-//!   another write, or a version that no log gave. Tests and `tools/check-node` refuse it.
-//! - More writes over HTTP wait at once than may, or fewer. Tests and `tools/check-node` refuse it.
+//! - A thread that answers over HTTP gets the answer to another write, or a version that no log gave, or a fault although
+//!   the write was made. Tests and `tools/check-node` refuse it.
+//! - A request over HTTP that only reads makes a write too. Or a `PUT` or `DELETE` makes another write, or makes it twice.
+//!   No contract sees what goes to the calling thread. Tests and `tools/check-node` refuse it.
+//! - All threads that answer over HTTP wait for writes, or fewer than may. Tests and `tools/check-node` refuse it.
 //! - A node removes a socket at which somebody listens. Tests and `tools/check-node` refuse it.
 //! - `Timed::left` does not call `time_between`, or a read or a write waits longer than it grants. Tests refuse it.
 //! - The loop that accepts connections ends if one accept fails. Only `tools/check-node` refuses it.
@@ -110,7 +112,7 @@
 //!   first rounds are not made at once. The tests of `sb_run` and `tools/check-node` refuse it.
 //! - A caller that waits for a change never hears of one, hears of one that did not come, or hears too late. Or a watch for
 //!   it stays after it left. The tests of `sb_run` and `tools/check-node` refuse it.
-//! - An owner has a wrong age or none: no clause is about when an owner was heard. The tests of `sb_run` and
+//! - An owner has a wrong age or none, also over HTTP: no clause is about when an owner was heard. The tests of `sb_run` and
 //!   `tools/check-node` refuse it.
 //! - A beat is missing, comes too often, or is another write than its key and true. The tests of `sb_run` and
 //!   `tools/check-node` refuse it.
@@ -121,6 +123,8 @@
 //! - A peer that dials counts as one that is not known, although its Hello has its name. `tools/check-node` refuses it.
 //! - A node answers nobody over HTTP, or each question by the number of `Closed`. `tools/check-node` refuses it.
 //! - Over HTTP the owners or the metrics are a fault each time, or the metrics are others. `tools/check-node` refuses it.
+//! - A poll over HTTP answers at once, or only once its time is over. Or each connection makes its marks by other keys.
+//!   `tools/check-node` refuses it.
 //! - `HttpSocket::bind` takes an address that `is_own_port` refuses. Nothing refuses it: `attrdir` asks that before.
 //! - A port counts as a socket, so a request may name any host there. `tools/check-node` refuses it.
 //! - A connection over HTTP has other limits, of bytes or of time. `tools/check-node` refuses it.

@@ -210,14 +210,22 @@ impl<S: RoundsTag, H: Wait + Drop, Q: Wait + Clock> NodeContext<'_, S, H, Q> {
         }
     }
 
+    /// How long ago each owner was heard. `NoMemory`.
+    pub(crate) fn ages(&self) -> Result<Ages, Fault>
+        ensures { IfErr result (λ fault. fault ≡ Fault.NoMemory) }
+    {
+        let ages = self.heard.ages(self.rt)?;
+        match Ages::new(ages) {
+            Ok(ages) => Ok(ages),
+            Err(_) => Err(Fault::NoMemory),
+        }
+    }
+
     /// The answer to an AskAges: how long ago each owner was heard, or that there is no memory for it.
     pub(crate) fn reply_to_ask_ages(&self) -> Message
         ensures { IsAgesReply result }
     {
-        let Ok(ages) = self.heard.ages(self.rt) else {
-            return refused_by(Fault::NoMemory);
-        };
-        match Ages::new(ages) {
+        match self.ages() {
             Ok(ages) => Message::Ages(ages),
             Err(_) => refused_by(Fault::NoMemory),
         }

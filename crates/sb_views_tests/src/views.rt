@@ -85,7 +85,7 @@ fn before_removal(rt: &impl Abort, alloc: Global) -> Holdings {
     holdings
 }
 
-/// What it holds behind the removal.
+/// What it holds after the removal.
 pub(crate) fn all_written(rt: &impl Abort, alloc: Global) -> Holdings {
     let mut holdings = before_removal(rt, alloc);
     enter(rt, &mut holdings, NET_B_REMOVED);
@@ -114,7 +114,7 @@ pub(crate) fn is_upto(rt: &impl Abort, snapshot: &Snapshot<'_>, owner: &[u8], up
     same(rt, &snapshot.upto(&name(rt, owner)), &upto);
 }
 
-/// This weight and its version stand under an owner's key.
+/// This weight and its version are under an owner's key.
 pub(crate) fn is_found(
     rt: &impl Abort,
     snapshot: &Snapshot<'_>,
@@ -126,7 +126,7 @@ pub(crate) fn is_found(
     same(rt, &weight_of(snapshot.get(&owner, &key)), &found);
 }
 
-/// How far each owner is shown, and what stands under keys.
+/// How far each owner is shown, and what is under keys.
 fn keys_are_shown(rt: &impl Abort, snapshot: &Snapshot<'_>) {
     is_upto(rt, snapshot, b"a", 4);
     is_upto(rt, snapshot, b"b", 1);
@@ -247,7 +247,7 @@ fn a_removal_is_shown_once_published(rt: HostRuntime) {
 /// What a reader sees of a key, and of how many events.
 pub(crate) type ReaderFindings = (KeyFindings, u64);
 
-/// What is seen under the key of a write behind what is held, before it is published and then.
+/// What is seen under the key of a write after what is held, before it is published and then.
 fn publish_behind<R: Wait + Abort>(
     rt: &R,
     alloc: Global,

@@ -4,4 +4,4 @@ use Rattle.sb_run.specs.HttpReads.{held_owner}
 use Rattle.sb_run.proofs.http_threads.owners_in.Given as goal
 
 abbrev pub invariant-loop-owner : goal.invariant-loop-owner
-invariant-loop-owner l = l.owners.items ++ map held_owner l.owner-iterator ≡ map held_owner (entries l.snapshot)
+invariant-loop-owner l = l.owners.items ++ map (held_owner l.ages) l.owner-iterator ≡ map (held_owner l.ages) (entries l.snapshot)
