@@ -10,7 +10,7 @@ use Rattle.sb_codec.specs.declared.message.Message.{Message}
 use Rattle.sb_codec.specs.declared.message.Message.TheVariants as kinds
 use Rattle.sb_codec.specs.declared.message.ages.OwnerAge.{OwnerAge}
 use Rattle.sb_views.specs.declared.event.Event.{Event}
-use Rattle.sb_views.specs.NodeViews.{NodeView, OwnerView}
+use Rattle.sb_views.specs.NodeViews.{NodeView, OwnerView, shown_owners}
 use Rattle.sb_views.specs.Histories.{node_after}
 use Rattle.sb_views.specs.Publishing.{IsView}
 use Rattle.sb_directory.specs.Seats.{Seat}
@@ -31,7 +31,7 @@ abbrev pub held_owner : List OwnerAge → List ℕ × OwnerView → HeldOwner
 held_owner ages p = record { owner = p.0; version = p.1.upto; rows = length (entries p.1.rows); age = age_of p.0 ages }
 
 abbrev pub IsListed : List OwnerAge → NodeView → List HeldOwner → Type 0
-IsListed ages view owners = owners ≡ map (held_owner ages) (entries view)
+IsListed ages view owners = owners ≡ map (held_owner ages) (shown_owners (entries view))
 
 -- the message names the version of a write, or a fault
 abbrev pub is_write_reply : Message → Bool
