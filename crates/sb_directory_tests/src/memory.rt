@@ -42,7 +42,7 @@ fn the_next_call_shows_a_write(rt: HostRuntime) {
     write_then_call(&rt, alloc, TAKE_OF_B, TAKEN, Answer::Read(2, 1, 1));
 }
 
-/// A call that only asks shows it too: what its answer tells is what the reader enters.
+/// A call that only asks shows it too. So the reader enters what it knows by the answer.
 #[test]
 fn a_question_shows_a_write(rt: HostRuntime) {
     let alloc = rt.alloc();
