@@ -1,5 +1,5 @@
 -- A digest of what is true of the writes lets a sender go on no further than was written.
-use Rattle.std.proofs.Common.{◌≡◌, ℕ, ◌≤◌, Bool, true, false, if◌then◌else◌, List, length, Option, Some, None, IfSome, unwrap_or, arith}
+use Rattle.std.proofs.Common.{ℕ, ◌≤◌, Bool, true, false, if◌then◌else◌, List, length, Option, Some, None, IfSome, unwrap_or, arith}
 use Rattle.std.specs.Prelude.{nat_le}
 use Rattle.std.specs.Option.{option_map}
 use Rattle.sb_types.specs.declared.entry.Write.{Write}
@@ -12,7 +12,7 @@ either_within : (b : Bool) (x y n : ℕ) → x ≤ n → y ≤ n → (if b then 
 either_within true x y n first next = first
 either_within false x y n first next = next
 
-progress_within : (writes : List Write) (stage : Option Stage) → IfSome stage (HoldsStage writes) → (unwrap_or (option_map (λ s. (s.floor, s.progress)) stage) (0, 0)).1 ≤ length writes
+progress_within : (writes : List Write) (stage : Option Stage) → IfSome stage (HoldsStage writes) → (unwrap_or {T = ℕ × ℕ} (option_map (λ s. (s.floor, s.progress)) stage) (0, 0)).1 ≤ length writes
 progress_within writes (Some s) holds = holds.reach
 progress_within writes None holds = omega arith
 
