@@ -1,5 +1,5 @@
 -- Owners that are held above version 0, one by one.
-use Rattle.std.proofs.Common.{◌≡◌, ℕ, ◌≤◌, ◌<◌, ◌^◌, true, false, List, ◌∷◌, length, nat_lt, arith}
+use Rattle.std.proofs.Common.{◌≡◌, ℕ, true, false, List, ◌∷◌, nat_lt}
 use Rattle.std.proofs.lemmas.Bool.{cond-true, cond-false}
 use Rattle.sb_views.specs.NodeViews.{OwnerView, shown_owners}
 
