@@ -100,7 +100,7 @@ impl<S: NodeTag> ReaderSeat<S> {
     /// gives the seat back unchanged.
     pub fn enter(self) -> Result<EnteredSeat<S>, ReaderSeat<S>>
         ensures { MatchResult result (λ entered. IsPrefix self.seen entered.seen × (entered.last_call ≡ self.last_call) × (entered.events ≡ self.events)
-                × IsPrefix self.known entered.seen × (entered.known ≡ self.known))
+            × IsPrefix self.known entered.seen × (entered.known ≡ self.known))
             (λ seat. seat ≡ self) }
     {
         let ReaderSeat {

@@ -33,9 +33,9 @@ returns-clause-digests c = λ opening settings history from want digest owner an
 
 pub returns-clause-starts : goal.returns-clause-starts
 returns-clause-starts c = λ opening settings history from want digest owner floor upto answer reached. (
-    c.digests_are_true.ensures.number (node_after opening history).held settings.budget want from digest owner floor upto answer reached,
-    c.digests_are_true.ensures.floor (node_after opening history).held settings.budget want from digest owner floor upto answer reached,
-  )
+  c.digests_are_true.ensures.number (node_after opening history).held settings.budget want from digest owner floor upto answer reached,
+  c.digests_are_true.ensures.floor (node_after opening history).held settings.budget want from digest owner floor upto answer reached,
+)
 
 pub returns-clause-reached : goal.returns-clause-reached
 returns-clause-reached c = λ writes opening settings history from want digest owner is holds are true answer reached.
