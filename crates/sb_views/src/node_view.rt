@@ -147,6 +147,7 @@ impl NodeView {
     }
 
     /// The owners that are held above version 0, with what is shown of them.
+    #[tactic(auto, using(crate::proofs::ShownOwners::few_shown))]
     pub(crate) fn owners(&self) -> OwnerViews<'_>
         ensures { result ≡ node_views.shown_owners (entries self.now) }
     {
