@@ -403,7 +403,7 @@ impl<S: DirectoryTag, R: Wait + Drop> Directory<S, R> {
     /// Publishes all that happened, lets the seat see it, and gives the watch's next answer, one a call. If the watch lost notes
     /// since its last `Lagged`, the answer is `Lagged` with how many. Else it is `Note` with its oldest note, which it then no longer
     /// has; else `Empty`. It is `Empty` exactly if nothing that the watch is for changed since it was added, or since a poll left it
-    /// without notes. A watch that has no note left begins anew after this call. Either way it is the seat's last call. Its faults:
+    /// without notes. A watch that has no note left begins again after this call. Either way it is the seat's last call. Its faults:
     ///
     /// - `NoWatch` if it is not a watch of this directory. Nothing is published, and nothing else changes.
     /// - `NoMemory` if there is none to publish what happened, or the seat can't enter. Then the note is still to come.
