@@ -12,7 +12,7 @@ from types import SimpleNamespace
 from check_asking import MadeUp, rows
 from check_purging import REMOVED
 from check_watch import Watching
-from nodes import BYE, SECONDS, Difference, connect, delta, frame, hello, number, pair, read_frame, run, text, want, weight
+from nodes import BYE, SECONDS, Difference, connect, delta, frame, hello, number, pair, pieces, read_frame, run, text, want, weight
 
 
 def ended(program, words, given="", **more):
@@ -375,6 +375,7 @@ def owners(check):
     rows_before = node.get()
     wanted = "".join(f"{name} {upto}\n" for name, upto in sorted([("a", 2), *zip(names, range(1, 41))]))
     want("owners", ask("--cluster", "c"), (0, wanted, ""))
+    want("its writes", pieces(check.program, "owners", "--sock", str(node.sock), "--cluster", "c"), [wanted])
     want("owners under another name", ask("--cluster", "c", "--name", "me"), (0, wanted, ""))
     want("the rows afterwards", node.get(), rows_before)
     for words, status, first, about in (
