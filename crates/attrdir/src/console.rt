@@ -194,7 +194,7 @@ impl Console<'_, '_> {
         );
         self.print_trouble(
             Level::Warning,
-            "callers turned away",
+            "callers turned away, or times that none could be accepted",
             lines.turned_away.take(troubles.turned_away, now),
             "let the process open more files, or end silent callers",
         );

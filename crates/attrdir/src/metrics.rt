@@ -107,7 +107,7 @@ const OTHER_VERSIONS: Metric = Metric {
 const TURNED_AWAY: Metric = Metric {
     name: "attrdir_turned_away_total",
     kind: "counter",
-    help: "Connections that it could not accept, or closed to make room for others.",
+    help: "Connections that it closed to make room for others, and times that it could accept none.",
 };
 
 const WORKERS: Metric = Metric {

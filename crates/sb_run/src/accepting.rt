@@ -27,6 +27,9 @@ use std::{io, thread};
 /// How long the next accept waits after one that failed, in milliseconds: without free descriptors each fails at once.
 const ACCEPT_PAUSE: u64 = 20;
 
+/// After how long a node that can still accept nothing counts that again, in milliseconds.
+const FAILURE_STEP: u64 = 60_000;
+
 /// How many connections are accepted at a socket before the others are looked at again.
 const ACCEPTED_AT_ONCE: usize = 64;
 
@@ -62,8 +65,10 @@ struct Backlog {
     handover: Handover,
     /// The number of the last connection, above those of the sockets and the waker.
     last_number: usize,
-    /// How many connections could not be accepted, or were closed before they were handed on.
+    /// How many connections were closed before they were handed on, and how many times none could be accepted.
     faults: u64,
+    /// When a failed accept counts again; none if the last accept did not fail.
+    counts_again: Option<Instant>,
 }
 
 /// Accepts at both sockets.
@@ -79,10 +84,18 @@ impl Backlog {
         self.faults = self.faults.saturating_add(1);
     }
 
-    /// Notes that a connection was not accepted, or was closed to make room for others.
+    /// Notes that a connection was closed to make room for others or for want of memory, or that none could be accepted.
     fn turn_away(&mut self, counts: &Counts) {
         counts.add_turned_away();
         self.note_fault();
+    }
+
+    /// Notes a failed accept. If accepts go on failing, one a minute counts: without free descriptors each fails, even if nobody calls.
+    fn note_failed<Q: Clock>(&mut self, clock: &Q, counts: &Counts) {
+        if has_come(clock, self.counts_again) {
+            self.turn_away(counts);
+            self.counts_again = deadline_after(clock, FAILURE_STEP);
+        }
     }
 
     /// Lets a connection wait at this socket until it has something to say. `ReadFailed`, `NoMemory`; both close it.
@@ -135,6 +148,7 @@ impl Backlog {
         for _ in 0..ACCEPTED_AT_ONCE {
             match socket.accept() {
                 Ok(stream) => {
+                    self.counts_again = None;
                     if at == At::Sock {
                         node.counts.add_session();
                     }
@@ -142,9 +156,12 @@ impl Backlog {
                         self.turn_away(node.counts);
                     }
                 }
-                Err(error) if error.kind() == io::ErrorKind::WouldBlock => return Left::Nothing,
+                Err(error) if error.kind() == io::ErrorKind::WouldBlock => {
+                    self.counts_again = None;
+                    return Left::Nothing;
+                }
                 Err(_) => {
-                    self.turn_away(node.counts);
+                    self.note_failed(node.rt, node.counts);
                     self.make_room(node.counts);
                     return Left::Failed;
                 }
@@ -239,6 +256,17 @@ impl Backlog {
     }
 }
 
+/// Whether a moment has come; also if there is none, or the clock can't be read.
+fn has_come<Q: Clock>(clock: &Q, moment: Option<Instant>) -> bool {
+    let Some(moment) = moment else {
+        return true;
+    };
+    match Instant::now(clock) {
+        Ok(now) => moment <= now,
+        Err(_) => true,
+    }
+}
+
 /// The earlier of two moments, if there is one.
 pub(crate) fn earlier(one: Option<Instant>, other: Option<Instant>) -> Option<Instant> {
     match (one, other) {
@@ -286,12 +314,13 @@ impl Acceptor {
                 handover,
                 last_number: WAKER_TOKEN,
                 faults: 0,
+                counts_again: None,
             },
         }
     }
 
-    /// Accepts until the node is to end. Gives how many connections could not be accepted, or were closed before they were
-    /// handed on.
+    /// Accepts until the node is to end. Gives how many connections were closed before they were handed on, and how many times none
+    /// could be accepted.
     pub(crate) fn accept_all<S: RoundsTag, H: Wait + Drop, Q: Wait + Clock>(
         self,
         node: &NodeContext<S, H, Q>,

@@ -114,8 +114,8 @@ pub struct NodeConfig<'a> {
 pub struct Ran {
     /// How many rounds it made.
     pub rounds: u64,
-    /// How many connections ended with a fault, rounds and pushes in which the peer could not be reached and connections that could
-    /// not be accepted among them.
+    /// How many connections ended with a fault, with the rounds and pushes in which the peer could not be reached, and the times that
+    /// no connection could be accepted.
     pub faults: u64,
     /// How many events its history has: writes of its own, deltas of its peers, and purges of its own table.
     pub events: u64,

@@ -185,7 +185,8 @@ pub struct Troubles {
     pub last_session_fault: u64,
     /// Frames of another version that came, at either socket.
     pub other_versions: u64,
-    /// Connections at either socket that it could not accept, or that it closed to make room for others.
+    /// Connections at either socket that it closed to make room for others, or for want of memory, and times that it could accept
+    /// none. A failure that lasts counts once a minute.
     pub turned_away: u64,
     /// Writes that it refused because it has as many keys as it may.
     pub full_writes: u64,

@@ -204,7 +204,7 @@ fn start_serving<
 }
 
 impl<S: RoundsTag> ServingThreads<S> {
-    /// Waits until both threads end: what the workers left, and how many connections could not be accepted.
+    /// Waits until both threads end: what the workers left, and how many connections were closed unserved or times none could be accepted.
     fn join<Q: Threads>(self, rt: &Q) -> (Pooled<S>, u64)
         ensures { vec_len result.0.seats ≡ self.pool.promise.0 }
     {
