@@ -264,7 +264,8 @@ fn about_session(fault: &Fault) -> &'static str {
         Fault::NoMemory => about_fault(fault, FaultPlace::Line),
         Fault::WrongCluster => "give --cluster as the node has it",
         Fault::SameName => {
-            "the node has this name: give another --name; for `begin` end that node, and ask another one"
+            "the node has this name: for `owners` give another --name; for `restore` give the --sock of another node after --from; \
+for `begin` end that node, and ask another one"
         }
         Fault::NothingThere => {
             "a node that was started since has forgotten it: give the --sock of a node that runs for longer, or begin with --after; a name that never \
