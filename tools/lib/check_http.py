@@ -548,7 +548,12 @@ def http_places(check):
         want(f"two sockets in one place, and --http {place}", (said[0], said[2].split(" ")[0]), ("fault 16", wanted))
     want("what is left", sorted(it.name for it in folder.iterdir() if it.name.endswith((".sock", ".ctl"))), [])
     node = check.node("a", "--http", "x", "--seats", "3", "--workers", "1", folder=folder)
-    want("too few seats", run(check.program, *[str(it) for it in node.words()[1:]])[2].splitlines()[0], "fault 5")
+    said = run(check.program, *[str(it) for it in node.words()[1:]])[2].splitlines()
+    want("too few seats", (said[0], said[2]), ("fault 5", "--seats: give workers and 2 (3 with --http) to 64"))
+    for options in ((), ("--seats", "64")):
+        node = check.node("a", "--http", "x", "--workers", "62", *options, folder=folder)
+        said = run(check.program, *[str(it) for it in node.words()[1:]])[2].splitlines()
+        want(f"too many workers beside HTTP, with {options}", (said[0], said[2]), ("fault 5", "--workers: give 1 to 61 with --http"))
     path = folder / "a.http"
     node, place = node_at(check, "a", path, "--rounds", "3", "--pause", "100", folder=folder)
     if not lacks_curl(check):
