@@ -220,7 +220,7 @@ fn about_log(fault: &Fault, place: FaultPlace<'_>) -> &'static str {
 a copy helps only if the node has written nothing since"
         }
         Fault::WrongOwner => {
-            "give --name and --cluster as the log has them (sqlite3 FILE 'SELECT owner, cluster FROM meta'), or give the log of this node"
+            "give the log of this node, or correct --name or --cluster; to see whose log it is, see RUNBOOK, A log of another name"
         }
         Fault::OwnerConflict(_) => {
             "end the other node of this name; if there is none, the log is an older copy, or began too low: see RUNBOOK, An older copy of a log"
