@@ -19,6 +19,9 @@ FIELDS = [("connection", "close"), ("cache-control", "no-store"), ("x-content-ty
 
 
 PARAMETERS = "the parameters are owner, prefix, after, wait and seen, or owner and key, or key for a write, each once"
+WAIT = "wait is 0s to 60s, as in wait=30s; seen is a mark of an answer, and goes with wait"
+VALUE = "a value is addr with 1 to 128 printing bytes, weight below 2^63, flag true or false, or text of 1 to 512 UTF-8 bytes"
+SPENT = "as many polls or writes wait at this node as may; a write was not made; ask again in a second, or give polls a shorter wait"
 
 
 def free_port():
@@ -421,7 +424,9 @@ def http_refusals(check):
         refused(place, f"/v1/rows?{query}", 400, key, 3)
     for path, text, fault in (("/v1/rows/A/k", name, 2), ("/v1/rows/a", key, 3), ("/v1/rows/a/", key, 3), ("/v1/rows/a/K", key, 3)):
         refused(place, path, 400, text, fault)
-    for query in ("x=1", "owner", "wait=61s", "seen=x", "wait=1", "wait=1s&seen=A", "owner=a&owner=a", "prefix=&prefix=", "key=k", "owner=a&key=k&prefix=k", "owner=a&key=k&after=a/k", "Owner=a"):
+    for query in ("wait=61s", "wait=1", "wait=500ms", "wait=1m", "wait=", "seen=x", "wait=1s&seen=A"):
+        refused(place, f"/v1/rows?{query}", 400, WAIT)
+    for query in ("x=1", "owner", "wait=1s&wait=1s", "owner=a&owner=a", "prefix=&prefix=", "key=k", "owner=a&key=k&prefix=k", "owner=a&key=k&after=a/k", "Owner=a"):
         refused(place, f"/v1/rows?{query}", 400, PARAMETERS)
     for query in ("", "&", "owner=a&", "&&prefix="):
         want(f"rows by {query!r}", place.json(f"/v1/rows?{query}")[0], 200)

@@ -21,7 +21,7 @@ use Rattle.sb_http.specs.declared.operation.Operation.{Operation}
 use Rattle.sb_http.specs.declared.operation.Operation.TheVariants.{Health, Metrics, Owners, Page, Rows, Row, Poll, Put}
 use Rattle.sb_http.specs.declared.operation.Door.{Door}
 use Rattle.sb_http.specs.declared.operation.Refusal.{Refusal}
-use Rattle.sb_http.specs.declared.operation.Refusal.TheVariants.{OtherHost, NotFound, NotAllowed, OnlyWritten, NotByPort, Bad, BadParameters, BadBody, NoMemory}
+use Rattle.sb_http.specs.declared.operation.Refusal.TheVariants.{OtherHost, NotFound, NotAllowed, OnlyWritten, NotByPort, Bad, BadParameters, BadWait, BadBody, NoMemory}
 use Rattle.sb_http.specs.declared.contents.Content as rust
 use Rattle.sb_http.specs.declared.page.TheConstants.{PAGE, POLICY}
 use Rattle.sb_http.specs.Acts.{Act, asks, polls, lists, measures, fails}
@@ -161,6 +161,8 @@ Refuses NotByPort response = Has (fields_for json_kind) (is_error 403 (codes "wr
 Refuses (Bad fault) response = (content : Content) × IsFault 400 fault content × Has (fields_for json_kind) content response
 Refuses BadParameters response =
     Has (fields_for json_kind) (is_error 400 (codes "the parameters are owner, prefix, after, wait and seen, or owner and key, or key for a write, each once")) response
+Refuses BadWait response =
+    Has (fields_for json_kind) (is_error 400 (codes "wait is 0s to 60s, as in wait=30s; seen is a mark of an answer, and goes with wait")) response
 Refuses BadBody response =
     Has (fields_for json_kind) (is_error 400 (codes "the body is JSON of this form: {\"kind\":\"weight\",\"value\":5}")) response
 Refuses NoMemory response = ⊥
