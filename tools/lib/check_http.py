@@ -209,10 +209,9 @@ def http_writes(check):
     form = 'the body is JSON of this form: {"kind":"weight","value":5}'
     for body in ("", "5", "{}", '{"kind":"weight"}', '{"kind":"weight","value":5,"x":1}', '{"kind":"weight","value":5', "\x01", 200 * "[", 900 * '{"value":'):
         refused(place, "/v1/keys/k", 400, form, None, "-X", "PUT", "-d", body)
-    value = run(check.program, "set", "--control", str(node.control), "k", "flag", "x")[2].splitlines()[1]
     for kind, word in (("x", 5), (5, 5), ("weight", "5"), ("weight", -1), ("weight", 2**63), ("weight", 1.5), ("flag", "true"), ("addr", "a b"), ("text", ""), ("text", 513 * "x"), ("text", None)):
         status, found = put(place, "k", kind, word)
-        want(f"the value {word!r} of {kind}", (status, found), (400, {"error": value, "fault": 4}))
+        want(f"the value {word!r} of {kind}", (status, found), (400, {"error": VALUE, "fault": 4}))
     want("the longest text", put(place, "k", "text", 512 * "x"), (200, {"version": 8}))
     head = b"PUT /v1/keys/k HTTP/1.1\r\nHost: x\r\n"
     want("a longer body", place.bytes(head + b"Content-Length: 8193\r\n\r\n" + 8193 * b" ")[0], 413)
@@ -251,7 +250,7 @@ def http_first_writes(check):
             it.start()
         while len(answers) < 2 and time.monotonic() < end:
             time.sleep(0.01)
-        want("who was turned away before the others were answered", [(status, found.get("fault")) for status, found in answers], [(503, 29), (503, 29)])
+        want("who was turned away before the others were answered", answers[:2], 2 * [(503, {"error": SPENT, "fault": 29})])
         want("an answer beside those that wait", place.curl("/v1/owners")[2], b'{"owners":[]}\n')
         for it in callers:
             it.join()
@@ -375,7 +374,7 @@ def http_polls(check):
     for it in callers:
         it.start()
     time.sleep(0.8)
-    want("who was turned away at once", [(it[0][0], it[0][1]["fault"]) for it in found], [(503, 29), (503, 29)])
+    want("who was turned away at once", [it[0] for it in found], 2 * [(503, {"error": SPENT, "fault": 29})])
     want("an answer beside four polls", place.curl("/v1/owners")[0], 200)
     want("a write beside four polls", put(place, "other/k", "weight", 2)[0], 200)
     for it in callers:

@@ -63,7 +63,7 @@ fn polls_have_a_mark(rt: HostRuntime) {
         again.as_str(),
     );
     let spent =
-        "{\"error\":\"the reads, calls or events that were allowed are spent\",\"fault\":29}\n";
+        "{\"error\":\"as many polls or writes wait at this node as may; a write was not made; ask again in a second, or give polls a shorter wait\",\"fault\":29}\n";
     case(&rt, alloc, "/v1/rows?wait=60s&seen=x", "503", spent);
     let wait =
         "{\"error\":\"wait is 0s to 60s, as in wait=30s; seen is a mark of an answer, and goes with wait\"}\n";
