@@ -11,7 +11,7 @@ use sb_codec::{Ages, Bye, Message};
 use sb_digest::{Digest, Pair};
 use sb_frames::{Connection, Steps};
 use sb_holdings::Report;
-use sb_session::{Handler, Replies, Session};
+use sb_session::{Handler, ReceivedDelta, ReceivedMessage, Replies, Session};
 use sb_types::{Delta, Fault, KIND_DIGEST, Name, OWNERS_MOST, REASON_ROUNDS_DONE};
 use std::alloc::Global;
 use std::io::{Read, Write};
@@ -87,7 +87,7 @@ impl Handler for HeardDigests {
         granted(Delta::new(Vec::new(self.alloc)))
     }
 
-    fn apply(&mut self, _delta: &Delta) -> Result<Report, Fault> {
+    fn apply(&mut self, _delta: &ReceivedDelta) -> Result<Report, Fault> {
         Ok(Report::new(Vec::new(self.alloc)))
     }
 
@@ -113,7 +113,7 @@ fn hear<R: Read, W: Write, L: Ledger>(
 ) -> Result<Replies, Fault>
     ensures unwritten { connection.new.last_write ≡ connection.old.last_write }
 {
-    let Some(message) = connection.receive()? else {
+    let Some(message) = ReceivedMessage::read_from(connection)? else {
         return Err(Fault::Truncated);
     };
     match session.take(message, heard)? {

@@ -32,6 +32,7 @@ use sb_budget::Backlog;
 use sb_digest::Digest;
 use sb_log::Committed;
 use sb_node::NodeCore;
+use sb_session::ReceivedDelta;
 use sb_types::{Block, Delta, Fault, Name, SEATS_MOST, Settings};
 use sb_views::{NewHistory, views};
 use sb_watch::{Filter, Polled};
@@ -166,7 +167,7 @@ impl<S: DirectoryTag, R: Wait + Drop> Directory<S, R> {
         self.node.lock(rt).take_own(seat, committed)
     }
 
-    /// Takes each block of a delta in turn, and publishes all that happened. It notes each entry that it entered in watches,
+    /// Takes each block of a delta that a peer sent in turn, and publishes all that happened. It notes each entry that it entered in watches,
     /// and each table that it replaced. It gives how the blocks ended, and says whether the seat has seen it. If it has not,
     /// the next call that publishes makes up for it.
     /// `TurnsSpent` after 2^64 - 1 events; `NoMemory` if there is no room for the ends, or to note whose writes watches and views
@@ -175,7 +176,7 @@ impl<S: DirectoryTag, R: Wait + Drop> Directory<S, R> {
         &self,
         rt: &Q,
         seat: &mut ReaderSeat<S>,
-        delta: &Delta,
+        delta: &ReceivedDelta,
     ) -> Result<Applied, Fault>
         ensures event { IfOk result (λ applied. (made : spec.MakesEvent spec.delta_due_after (events.Applied delta.now applied.ends) seat.old seat.new)
             × Treats (node_after S.opening made.history) delta.now applied.ends) }
@@ -188,7 +189,7 @@ impl<S: DirectoryTag, R: Wait + Drop> Directory<S, R> {
         ensures knows { IsPrefix seat.old.known seat.new.known }
         ensures grows { IsPrefix seat.old.seen seat.new.seen }
     {
-        self.node.lock(rt).apply(seat, delta)
+        self.node.lock(rt).apply(seat, delta.delta())
     }
 
     /// Purges the node's own table if that is due, and then publishes all that happened. It is due if the table has `least` removed

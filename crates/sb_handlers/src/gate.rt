@@ -3,7 +3,7 @@ ghost use Rattle.std.specs.Prelude.{◌≡◌, ◌⊎◌, MatchBool};
 
 use sb_digest::Digest;
 use sb_holdings::{BlockEnd, Report};
-use sb_session::{Ended, Handler};
+use sb_session::{Ended, Handler, ReceivedDelta};
 use sb_types::{Block, Delta, Fault, Name};
 
 /// At which point a session asks its gate.
@@ -91,9 +91,9 @@ fn is_gap(end: &BlockEnd) -> bool {
     matches!(end, BlockEnd::Gap)
 }
 
-/// Tells a gate whose held version a delta raised.
-fn tell_heard<G: Gate>(gate: &G, delta: &Delta, report: &Report) {
-    for (block, end) in delta.blocks().iter().zip(report.ends()) {
+/// Tells a gate whose held version the blocks of a delta raised.
+fn tell_heard<G: Gate>(gate: &G, blocks: &[Block], report: &Report) {
+    for (block, end) in blocks.iter().zip(report.ends()) {
         if is_risen(block, end) {
             gate.heard(block.owner());
         }
@@ -159,14 +159,14 @@ impl<H: Handler, G: Gate> Handler for GatedHandler<'_, H, G> {
         Ok(delta)
     }
 
-    fn apply(&mut self, delta: &Delta) -> Result<Report, Fault> {
+    fn apply(&mut self, delta: &ReceivedDelta) -> Result<Report, Fault> {
         if !self.gate.pass(self.session, GatePoint::BeforeApply) {
             return Err(Fault::TurnsSpent);
         }
         let report = self.inner.apply(delta)?;
-        tell_heard(self.gate, delta, &report);
+        tell_heard(self.gate, delta.blocks(), &report);
         if report.ends().iter().any(has_entered) {
-            self.gate.entered(delta);
+            self.gate.entered(delta.delta());
         }
         if report.ends().iter().any(is_gap) {
             self.gate.missed();

@@ -16,7 +16,7 @@ use sb_digest::{Digest, Pair};
 use sb_directory::{Difference, Directory, DirectoryTag, ReaderSeat};
 use sb_frames::{Connection, Steps};
 use sb_holdings::Report;
-use sb_session::{Handler, dial};
+use sb_session::{Handler, ReceivedDelta, dial};
 use sb_types::{Block, Delta, Fault, KEYS_MOST, NAME_MOST, Name};
 use std::alloc::Global;
 use std::io::{Read, Write};
@@ -280,7 +280,7 @@ impl<S: DirectoryTag, R: Wait + Drop, Q: Wait> Handler for AuditHandler<'_, S, R
         }
     }
 
-    fn apply(&mut self, delta: &Delta) -> Result<Report, Fault> {
+    fn apply(&mut self, delta: &ReceivedDelta) -> Result<Report, Fault> {
         match block_of(delta.blocks(), self.directory.name()) {
             Some(block) => self.compare(block)?,
             None => {

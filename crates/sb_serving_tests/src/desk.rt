@@ -8,7 +8,8 @@ use sb_frames::{Connection, Steps};
 use sb_log::PlainLog;
 use sb_node::NodeCore;
 use sb_run::{ForgottenOwners, OwnWrites, Serving, Stored, VainOffers};
-use sb_types::{Delta, Fault, Slot};
+use sb_session::ReceivedDelta;
+use sb_types::{Fault, Slot};
 use sb_views::NewHistory;
 use std::alloc::Global;
 use std::io;
@@ -89,7 +90,7 @@ impl<S: DirectoryTag, H: Wait + Drop> Desk<S, H> {
     }
 
     /// Makes the directory take a delta.
-    pub(crate) fn apply<Q: Wait + Abort>(&mut self, rt: &Q, delta: &Delta) {
+    pub(crate) fn apply<Q: Wait + Abort>(&mut self, rt: &Q, delta: &ReceivedDelta) {
         let seat = there(rt, self.seat.as_mut());
         got(rt, self.directory.apply(rt, seat, delta));
     }
