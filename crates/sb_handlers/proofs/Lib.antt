@@ -1,2 +1,3 @@
 pub mod Deferring
 pub mod KeptOffers
+pub mod LeavingOut

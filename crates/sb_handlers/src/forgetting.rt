@@ -164,6 +164,7 @@ fn copy_kept(alloc: Global, names: &[Name], blocks: &[Block]) -> Result<Vec<Bloc
 }
 
 /// The delta without the blocks of these owners. `NoMemory`.
+#[tactic(auto, using(crate::proofs::LeavingOut::kept_part))]
 fn kept_delta(alloc: Global, names: &[Name], delta: &ReceivedDelta) -> Result<ReceivedDelta, Fault>
     ensures kept { IfOk result (λ kept. kept ≡ spec.kept_blocks names.now delta.now) }
     ensures memory { IfErr result (λ fault. fault ≡ Fault.NoMemory) }

@@ -11,7 +11,6 @@ pub mod Arriving
 pub mod StatusPages
 pub mod StatusTexts
 pub mod StatusAnswers
-pub mod LeavingOut
 pub mod AskedDigests
 pub mod AuditedSeats
 pub mod WriteReplies

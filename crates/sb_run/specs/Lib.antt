@@ -4,6 +4,7 @@ pub mod Control
 pub mod Hellos
 pub mod Pools
 pub mod Sources
+pub mod Entering
 pub mod Arriving
 pub mod Running
 pub mod Turns

@@ -1,5 +1,5 @@
 -- What a worker takes from a source.
-use Rattle.std.specs.Prelude.{◌<◌}
+use Rattle.std.specs.Prelude.{ℕ, ◌<◌, List, Option}
 use Rattle.sb_run.specs.declared.pool.Taken.{Taken}
 use Rattle.sb_run.specs.declared.pool.Taken.TheVariants.{Session, Question}
 
@@ -11,3 +11,8 @@ IsNumbered (Question ask output) = Unit {0}
 abbrev pub IsQuestion : {I O : Type 0} → Taken I O → Type 0
 IsQuestion (Session number name input output) = ⊥
 IsQuestion (Question ask output) = Unit {0}
+
+-- of the bytes of a connection that is given that holds
+abbrev pub IsGivenBy : {I O : Type 0} → (I → Option (List ℕ)) → (Option (List ℕ) → Type 0) → Taken I O → Type 0
+IsGivenBy remaining gives (Session number name input output) = gives (remaining input)
+IsGivenBy remaining gives (Question ask output) = Unit {0}

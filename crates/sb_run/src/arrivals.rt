@@ -487,6 +487,9 @@ impl<'a, R: Wait + Clock + Sync> Source for Arrivals<'a, R> {
 
     ghost asks = { λ arrivals. Unit {0} };
 
+    // Contracts do not see the bytes of a socket.
+    ghost gives = { λ arrivals input. Unit {0} };
+
     fn next(&self) -> Option<Result<Taken<PeerInput<'a, R>, Timed<'a, R>>, Fault>> {
         self.asked.count.fetch_add(1, Ordering::SeqCst);
         self.counts.free_worker(self.rt);

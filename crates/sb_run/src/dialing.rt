@@ -1,6 +1,7 @@
 //! One round: a session with a peer that is dialed.
 ghost use Rattle.std.specs.Prelude.{◌≡◌, ◌+◌, ◌<◌, ◌≤◌};
 ghost use Rattle.sb_directory.specs.Serving.{IsStill, IsLater};
+ghost use Rattle.sb_run.specs.Entering.{Hears};
 ghost use Rattle.sb_run.specs.Hellos.{Greets};
 
 use crate::dialer::RoundsTag;
@@ -100,6 +101,8 @@ impl<S: RoundsTag, H: Wait + Drop, Q: Wait + Clock> NodeContext<'_, S, H, Q> {
     ) -> (ReaderSeat<S>, Result<Ended, Fault>)
         requires limit { connection.old.left ≤ self.now.pace.max_reads }
         ensures later { IsLater seat result.0 }
+        // The seat makes the events of the deltas that came over the connection, in their order, and no other.
+        ensures entered { Hears self.now.forgotten.now.names.items connection.old connection.new seat result.0 }
         ensures greets { Greets S.settings.cluster S.opening.held.me connection.old.output connection.new.output }
         ensures reads { connection.new.steps ≤ connection.old.steps + self.now.pace.max_reads }
     {

@@ -93,8 +93,10 @@
 //!   `owners_behind_the_first_digest_are_asked_for` refuses it.
 //! - A source numbers two sessions alike, or begins with another number than 1. A node's own gate ignores the
 //!   number. Nothing refuses it.
-//! - A worker of `serve_pool`, or a thread that dials, applies deltas that no peer sent, and drops those that came.
-//!   Tests refuse it. The steps of one session are proved: `serve`, `dial`, `SeatHandler`, `GatedHandler`.
+//! - A thread that dials serves a session over bytes of its own, before or after `talk`. Nothing refuses it: contracts do
+//!   not see what a socket gives. A delta has to come out of bytes (`ReceivedDelta`), so no shorter way does it. For workers
+//!   a clause of `serve_pool` refuses it.
+//! - The thread that accepts hands a worker other first bytes than came. Tests refuse it.
 //! - `serve_pool` returns all seats and serves nobody, or its sessions make fewer reads than allowed. Tests refuse
 //!   it.
 //! - Workers give a session another limit of reads, or `run_node` gives them another. `tools/check-node` refuses

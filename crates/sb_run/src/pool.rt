@@ -5,7 +5,8 @@ ghost use Rattle.sb_handlers.specs.Gates.{IsShut, AreShut};
 ghost use Rattle.sb_run.specs.Hellos.{Greets};
 ghost use Rattle.sb_directory.specs.Serving.{IsLater};
 ghost use Rattle.sb_run.specs.Pools.{IsKept, AreKept};
-ghost use Rattle.sb_run.specs.Sources.{IsNumbered, IsQuestion};
+ghost use Rattle.sb_run.specs.Sources.{IsNumbered, IsQuestion, IsGivenBy};
+ghost use Rattle.sb_run.specs.Entering.{Hears, HearsInput, IsLooking, ServesOnly, EachServes};
 ghost use Rattle.sb_session.specs.Sessions.{new_session};
 
 use core::mem::replace_with;
@@ -38,7 +39,8 @@ pub enum Taken<I, O> {
 
 /// What gives workers their connections.
 pub trait Source {
-    ghost use Rattle.sb_run.specs.Sources.{IsNumbered, IsQuestion};
+    ghost use Rattle.std.specs.Prelude.{ℕ, List, Option};
+    ghost use Rattle.sb_run.specs.Sources.{IsNumbered, IsQuestion, IsGivenBy};
 
     type In: Read + Drop + Send;
 
@@ -50,11 +52,15 @@ pub trait Source {
     /// What holds when it gives a question; it may be nothing. If it never gives one this may be false.
     ghost asks: { Self → Type 0 };
 
+    /// What holds of the bytes of each connection of a peer that it gives, if they are known; it may be nothing.
+    ghost gives: { Self → Option (List ℕ) → Type 0 };
+
     /// The next connection. `None` once there are no more; a fault if one could not be had, after which the next may be asked
     /// for.
     fn next(&self) -> Option<Result<Taken<Self::In, Self::Out>, Fault>>
         ensures numbered { IfSome result (λ next. IfOk next (λ taken. IsNumbered taken)) }
         ensures asks { IfSome result (λ next. IfOk next (λ taken. IsQuestion taken → asks self.now)) }
+        ensures gives { IfSome result (λ next. IfOk next (λ taken. IsGivenBy Self.In.remaining (gives self.now) taken)) }
         ensures over { IfNone result (over self.now) };
 }
 
@@ -88,6 +94,8 @@ impl<S: DirectoryTag, H: Wait + Drop, Q: Wait> Serving<'_, S, H, Q> {
     ) -> (ReaderSeat<S>, bool)
         requires limit { connection.old.left ≤ self.now.max_reads }
         ensures kept { IsKept (IsShut (G.lets gate.now number)) seat result.0 }
+        // The seat makes the events of the deltas that came over the connection, in their order, and no other.
+        ensures entered { Hears self.now.forgotten.now.names.items connection.old connection.new seat result.0 }
         ensures greets { Greets S.settings.cluster S.opening.held.me connection.old.output connection.new.output }
         ensures reads { connection.new.steps ≤ connection.old.steps + self.now.max_reads }
     {
@@ -116,7 +124,8 @@ impl<S: DirectoryTag, H: Wait + Drop, Q: Wait> Serving<'_, S, H, Q> {
         requires name { blank.name ≡ K.name }
         requires parts { blank.parts ≡ K.parts }
         requires some { 0 < blank.parts }
-        ensures { IsKept (IsShut (G.lets gate.now session.0)) seat result }
+        ensures kept { IsKept (IsShut (G.lets gate.now session.0)) seat result }
+        ensures entered { HearsInput self.now.forgotten.now.names.items (I.remaining session.2) seat result }
     {
         tally.sessions.fetch_add(1, Ordering::SeqCst);
         let (number, name, input, output) = session;
@@ -138,7 +147,8 @@ impl<S: DirectoryTag, H: Wait + Drop, Q: Wait> Serving<'_, S, H, Q> {
         output: O,
         seat: ReaderSeat<S>,
     ) -> ReaderSeat<S>
-        ensures { IsLater seat result }
+        ensures later { IsLater seat result }
+        ensures entered { IsLooking seat result }
     {
         let mut output = output;
         let (seat, sent) = self.answer_ask(&mut output, seat, ask);
@@ -158,7 +168,9 @@ impl<S: DirectoryTag, H: Wait + Drop, Q: Wait> Serving<'_, S, H, Q> {
         seat: ReaderSeat<S>,
     ) -> ReaderSeat<S>
         requires asks { IsQuestion taken → X.asks source.now }
-        ensures { IsKept (AreShut (G.lets gate.now) × (X.asks source.now → ⊥)) seat result }
+        requires gives { IsGivenBy X.In.remaining (X.gives source.now) taken }
+        ensures kept { IsKept (AreShut (G.lets gate.now) × (X.asks source.now → ⊥)) seat result }
+        ensures entered { ServesOnly self.now.forgotten.now.names.items (X.gives source.now) seat result }
     {
         match taken {
             Taken::Session(number, name, input, output) => {
@@ -184,6 +196,7 @@ impl<S: DirectoryTag, H: Wait + Drop, Q: Wait> Serving<'_, S, H, Q> {
         seat: ReaderSeat<S>,
     ) -> (ReaderSeat<S>, ())
         ensures kept { IsKept (AreShut (G.lets gate.now) × (X.asks source.now → ⊥)) seat result.0 }
+        ensures entered { ServesOnly self.now.forgotten.now.names.items (X.gives source.now) seat result.0 }
         ensures over { X.over source.now }
     {
         let mut current = seat;
@@ -210,6 +223,7 @@ impl<S: DirectoryTag, H: Wait + Drop, Q: Wait> Serving<'_, S, H, Q> {
         seat: &mut ReaderSeat<S>,
     )
         ensures kept { IsKept (AreShut (G.lets gate.now) × (X.asks source.now → ⊥)) seat.old seat.new }
+        ensures entered { ServesOnly self.now.forgotten.now.names.items (X.gives source.now) seat.old seat.new }
         ensures over { X.over source.now }
     {
         // `self` is handed in: the prover keeps no clause of a closure that captures a struct with a lifetime.
@@ -219,6 +233,7 @@ impl<S: DirectoryTag, H: Wait + Drop, Q: Wait> Serving<'_, S, H, Q> {
             |seat, serving| -> (ReaderSeat<S>, ())
                 requires { IsSend X.In.row × IsSend X.Out.row }
                 ensures kept { IsKept (AreShut (G.lets gate.entry.now) × (X.asks source.entry.now → ⊥)) seat result.0 }
+                ensures entered { ServesOnly serving.now.forgotten.now.names.items (X.gives source.entry.now) seat result.0 }
                 ensures over { X.over source.entry.now }
             { serving.work(source, gate, tally, seat) },
         );
@@ -245,6 +260,8 @@ where
     ) -> Result<Pooled<S>, (Fault, Vec<ReaderSeat<S>>)>
         ensures ok { IsOk result }
         ensures kept { IfOk result (λ pooled. AreKept (AreShut (G.lets gate.now) × (X.asks source.now → ⊥)) seats.items pooled.seats.items) }
+        // Each event of a seat is a delta that came over a connection that the source gave, in their order.
+        ensures entered { IfOk result (λ pooled. EachServes self.now.forgotten.now.names.items (X.gives source.now) seats.items pooled.seats.items) }
         // Each worker goes on until the source has no more.
         ensures over { 0 < length seats.items → X.over source.now }
     {
@@ -270,6 +287,7 @@ where
         seats: &mut [ReaderSeat<S>],
     )
         ensures kept { AreKept (AreShut (G.lets gate.now) × (X.asks source.now → ⊥)) seats.old seats.new }
+        ensures entered { EachServes self.now.forgotten.now.names.items (X.gives source.now) seats.old seats.new }
         ensures over { 0 < length seats.old → X.over source.now }
     {
         if seats.is_empty() {
@@ -283,6 +301,7 @@ where
             &|_, seat| -> ()
                 requires { IsSend X.In.row × IsSend X.Out.row }
                 ensures kept { IsKept (AreShut (G.lets gate.entry.now) × (X.asks source.entry.now → ⊥)) seat.entry.now seat.exit.now }
+                ensures entered { ServesOnly self.entry.now.forgotten.now.names.items (X.gives source.entry.now) seat.entry.now seat.exit.now }
                 ensures over { X.over source.entry.now }
             { self.work_in_place(source, gate, tally, seat) },
         );

@@ -69,6 +69,8 @@ impl<'a, R: Wait + Sync> Source for Askers<'a, R> {
 
     ghost asks = { λ askers. ⊥ };
 
+    ghost gives = { λ askers input. Unit {0} };
+
     fn next(&self) -> Option<Result<Taken<&'static [u8], Ear<'a, R>>, Fault>> {
         let place = self.asked.fetch_add(1, Ordering::SeqCst);
         let name = *self.names.get(place)?;

@@ -48,6 +48,8 @@ impl Source for Peers {
 
     ghost asks = { λ peers. ⊥ };
 
+    ghost gives = { λ peers input. Unit {0} };
+
     fn next(&self) -> Option<Result<Taken<&'static [u8], Vec<u8>>, Fault>> {
         let writer = Vec::new(self.alloc);
         let asked = self.asked.fetch_add(1, Ordering::SeqCst);

@@ -29,6 +29,17 @@ impl Model for ReceivedMessage {
     ghost view = { λ m. m.message };
 }
 
+/// What was found in bytes.
+fn as_received(found: Result<Option<Message>, Fault>) -> Result<Option<ReceivedMessage>, Fault>
+    ensures { result ≡ found }
+{
+    match found {
+        Ok(Some(message)) => Ok(Some(ReceivedMessage { message })),
+        Ok(None) => Ok(None),
+        Err(fault) => Err(fault),
+    }
+}
+
 impl ReceivedMessage {
     /// The next message of a connection, as `Connection::receive` gives it, with its faults.
     pub fn read_from<R: Read, W: Write, L: Ledger>(
@@ -42,11 +53,7 @@ impl ReceivedMessage {
         ensures failed { OnlyWhereReadFailed result connection.new.read_failed }
         ensures kept { KeepsOutput connection.old connection.new }
     {
-        match connection.receive() {
-            Ok(Some(message)) => Ok(Some(ReceivedMessage { message })),
-            Ok(None) => Ok(None),
-            Err(fault) => Err(fault),
-        }
+        as_received(connection.receive())
     }
 
     /// The next message of frames, as `Frames::next` gives it, with its faults. No running node calls it: whoever feeds the
@@ -54,11 +61,7 @@ impl ReceivedMessage {
     pub fn taken_from(frames: &mut Frames) -> Result<Option<ReceivedMessage>, Fault>
         ensures { TakesNext frames.old result frames.new }
     {
-        match frames.next() {
-            Ok(Some(message)) => Ok(Some(ReceivedMessage { message })),
-            Ok(None) => Ok(None),
-            Err(fault) => Err(fault),
-        }
+        as_received(frames.next())
     }
 
     /// The message.

@@ -119,10 +119,10 @@ fn speak<R: Read, W: Write, L: Ledger, H: Handler>(
 }
 
 /// Whether the message ends a round: a digest that wants none in answer.
-fn ends_round(message: &Message) -> bool
+fn ends_round(message: &ReceivedMessage) -> bool
     ensures { result ≡ ends_round message.now }
 {
-    matches!(message, Message::Digest(theirs) if !theirs.want())
+    matches!(message.message(), Message::Digest(theirs) if !theirs.want())
 }
 
 /// The rounds that are left after a message.
@@ -159,7 +159,7 @@ fn talk<R: Read, W: Write, L: Ledger, H: Handler>(
         return Ok(Ended::RoundsDone);
     }
     while let Some(message) = ReceivedMessage::read_from(connection)? {
-        let ends = ends_round(message.message());
+        let ends = ends_round(&message);
         if let Some(reason) = hear(connection, &mut session, handler, message)? {
             return Ok(Ended::Bye(reason));
         }
