@@ -1,9 +1,11 @@
 -- What a session enters from a seat, over the steps of the handler that it asks.
-use Rattle.std.proofs.Common.{◌≡◌, ℕ, ◌+◌, Bool, true, false, List, [], ◌∷◌, ◌++◌, Option, Some, None, Result, Ok, Err, inl, inr, ⊎_elim, refl, sym, ap, subst, ◌∙◌}
+use Rattle.std.proofs.Common.{◌≡◌, ℕ, ◌+◌, ◌==◌, Bool, true, false, List, [], ◌∷◌, ◌++◌, length, take, Option, Some, None, Result, Ok, Err, ⊎_elim, refl, sym, ap, subst, ◌∙◌}
+use Rattle.std.proofs.Math.Seq.{take-append_seam}
 use Rattle.std.specs.List.{flat_map}
 use mathlib.Core.List.{IsPrefix}
 use Rattle.sb_types.specs.declared.fault.Fault.{Fault}
-use Rattle.sb_types.specs.Records.{Block}
+use Rattle.sb_types.specs.Records.{Block, Settings}
+use Rattle.sb_holdings.specs.Nodes.{Node}
 use Rattle.sb_holdings.specs.declared.ends.BlockEnd.{BlockEnd}
 use Rattle.sb_digest.specs.Digests as digests
 use Rattle.sb_codec.specs.declared.message.Message.{Message}
@@ -22,11 +24,12 @@ use Rattle.sb_session.specs.Taking.{RefusesEither, AnswersDigest, Applies, Takes
 use Rattle.sb_session.specs.Talks.{Party, party_of, Move, hears, speaks, heard_in, SpeaksOn, Speaks, Moves, Refuses, Run, Course, Ends, at_end, at_bye, at_rounds, at_reading, at_message, at_speaking, at_writing, TalksFrom, Talks}
 use Rattle.sb_views.specs.declared.event.Event.{Event}
 use Rattle.sb_views.specs.declared.event.Event.TheVariants.{Applied}
-use Rattle.sb_views.proofs.Prefixes.{prefix_trans}
+use Rattle.sb_views.proofs.Prefixes.{prefix_self, prefix_trans}
 use Rattle.sb_directory.specs.Seats.{Seat, Begins}
-use Rattle.sb_directory.specs.Serving.{IsStill}
+use Rattle.sb_directory.specs.Serving.{Serves, IsStill}
 use Rattle.sb_directory.specs.Handling.{still-same, still-on}
-use Rattle.sb_run.specs.Entering.{Enters, EntersAny, EntersAll, HearsFrom, Hears}
+use Rattle.sb_handlers.specs.Forgetting.{kept_blocks}
+use Rattle.sb_run.specs.Entering.{Enters, EntersAny, EntersAll, HearsFrom, Hears, HearsInput, IsLooking, Served, ServesEach, ServesOnly, EachServes}
 
 -- ---- a seat that stayed still before
 
@@ -79,8 +82,8 @@ module _ {H : Type 0} (step : H → Act → H → Type 0) (seat : H → Seat) (f
   rests_on old mid new first next = (next.0 ∙ first.0, still-on (seat old) (seat mid) (seat new) first.1 next.1)
 
   -- the delta of the message is entered, if it is one
-  abbrev Takes_in : Message → H → H → Type 0
-  Takes_in m old new = (forgets new ≡ forgets old) × EntersAny (forgets old) (delta_in m) (seat old) (seat new)
+  abbrev TakesIn : Message → H → H → Type 0
+  TakesIn m old new = (forgets new ≡ forgets old) × EntersAny (forgets old) (delta_in m) (seat old) (seat new)
 
   either_rests : (s : Session) (old : H) (theirs : digests.Digest) (fault : Fault) (new : H) → RefusesEither step s old theirs fault new → Rests old new
   either_rests s old theirs fault new refuses =
@@ -104,14 +107,14 @@ module _ {H : Type 0} (step : H → Act → H → Type 0) (seat : H → Seat) (f
   digest_rests s old theirs false (Err fault) t new a = rests old new (gives theirs (Err fault)) refl a.1
 
   delta_enters : (s : Session) (old : H) (blocks : List Block) (answer : Replies) (t : Session) (new : H) → Applies step s old blocks (Ok answer) t new
-      → Takes_in (kinds.Delta blocks) old new
+      → TakesIn (kinds.Delta blocks) old new
   delta_enters s old blocks (replies.Applied ends) t new a = (same old new (applies blocks (Ok ends)) a.1, enters old new blocks ends a.1)
   delta_enters s old blocks replies.Greeted t new a = absurd a
   delta_enters s old blocks (replies.Answered delta) t new a = absurd a
   delta_enters s old blocks (replies.Exchanged delta digest) t new a = absurd a
   delta_enters s old blocks (replies.Ended reason) t new a = absurd a
 
-  taken_up : (s : Session) (old : H) (m : Message) (answer : Replies) (t : Session) (new : H) → TakesUp step s old m (Ok answer) t new → Takes_in m old new
+  taken_up : (s : Session) (old : H) (m : Message) (answer : Replies) (t : Session) (new : H) → TakesUp step s old m (Ok answer) t new → TakesIn m old new
   taken_up s old (kinds.Hello hello) answer t new a = rests_at old new a.2
   taken_up s old (kinds.Digest theirs) answer t new a = digest_rests s old theirs theirs.want (Ok answer) t new a
   taken_up s old (kinds.Delta blocks) answer t new a = delta_enters s old blocks answer t new a
@@ -146,7 +149,7 @@ module _ {H : Type 0} (step : H → Act → H → Type 0) (seat : H → Seat) (f
   not_up s old (kinds.Ages ages) fault t new a = absurd a
 
   taken_unless : (refusal : Option Fault) (s : Session) (old : H) (m : Message) (answer : Replies) (t : Session) (new : H)
-      → TakesUnless refusal step s old m (Ok answer) t new → Takes_in m old new
+      → TakesUnless refusal step s old m (Ok answer) t new → TakesIn m old new
   taken_unless (Some fault) s old m answer t new a = absurd cc (a.0)
   taken_unless None s old m answer t new a = taken_up s old m answer t new a
 
@@ -186,7 +189,7 @@ module _ {H : Type 0} (step : H → Act → H → Type 0) (seat : H → Seat) (f
 
   spoken : (rounds : Option ℕ) (s : Session) (old : H) (said : List Message) (t : Session) (new : H) → Speaks step rounds s old said t new → Rests old new
   spoken None s old said t new a = rests_at old new a.2
-  spoken (Some n) s old said t new a = spoken_on _ s old said t new a
+  spoken (Some n) s old said t new a = spoken_on (n == 0) s old said t new a
 
   -- ---- a run of moves, and what ends it
 
@@ -195,7 +198,7 @@ module _ {H : Type 0} (step : H → Act → H → Type 0) (seat : H → Seat) (f
   ran a [] said b run = rests_at a.handler b.handler (ap (λ (p : Party H). p.handler) run.1)
   ran a (hears m ∷ moves) said b run =
       let mid = run.2 in
-      let took : Takes_in m a.handler mid.handler =
+      let took : TakesIn m a.handler mid.handler =
           taken_unless (refusal_of a.session m) a.session a.handler m run.3.4.0 mid.session mid.handler run.3.4.1 in
       let rest = ran mid moves run.1 b run.4 in (
         rest.0 ∙ took.0,
@@ -242,12 +245,76 @@ module _ {H : Type 0} (step : H → Act → H → Type 0) (seat : H → Seat) (f
       }
   talks_hear a h shut old new result talks = ap seat talks.1
 
-  -- a session over a connection enters what came over it
-  pub session_hears : (rounds : Option ℕ) (session : Session) (first last : H) (old new : Connection) (result : Result Ended Fault)
-      (names : List (List ℕ)) (before after : Seat) → forgets first ≡ names → seat first ≡ before → after ≡ seat last
-      → Talks step (party_of true rounds session first) last old new result → Hears names old new before after
-  session_hears rounds session first last old new result names before after forgotten from to talks =
-      let heard = talks_hear (party_of true rounds session first) last old.stream old new result talks in
-      let named = subst (λ (ns : List (List ℕ)). HearsFrom ns old.stream old new (seat first) (seat last)) forgotten heard in
-      let begun = subst (λ (s : Seat). HearsFrom names old.stream old new s (seat last)) from named in
-      subst (λ (s : Seat). HearsFrom names old.stream old new before s) (sym to) begun
+-- a session over a connection enters what came over it
+pub session_hears : {H : Type 0} (step : H → Act → H → Type 0) (rounds : Option ℕ) (session : Session) (first last : H) (old new : Connection) (result : Result Ended Fault)
+    → Talks step (party_of true rounds session first) last old new result
+    → (seat : H → Seat) (forgets : H → List (List ℕ))
+    → ((a b : H) (act : Act) → step a act b → forgets b ≡ forgets a)
+    → ((a b : H) (act : Act) → may_enter act ≡ false → step a act b → IsStill (seat a) (seat b))
+    → ((a b : H) (blocks : List Block) (ends : List BlockEnd) → step a (applies blocks (Ok ends)) b → Enters (forgets a) blocks (seat a) (seat b))
+    → (names : List (List ℕ)) (before after : Seat) → forgets first ≡ names → seat first ≡ before → after ≡ seat last
+    → Hears names old new before after
+session_hears step rounds session first last old new result talks seat forgets same still enters names before after forgotten from to =
+    let heard = talks_hear step seat forgets same still enters (party_of true rounds session first) last old.stream old new result talks in
+    let named = subst (λ (ns : List (List ℕ)). HearsFrom ns old.stream old new (seat first) (seat last)) forgotten heard in
+    let begun = subst (λ (s : Seat). HearsFrom names old.stream old new s (seat last)) from named in
+    subst (λ (s : Seat). HearsFrom names old.stream old new before s) (sym to) begun
+
+-- ---- a seat behind what is around it
+
+-- a step that takes a delta is that event
+pub serves_enters : (opening : Node) (settings : Settings) (names : List (List ℕ)) (blocks : List Block) (old new : Seat) (ends : List BlockEnd)
+    → Serves opening settings old (applies (kept_blocks names blocks) (Ok ends)) new → Enters names blocks old new
+serves_enters opening settings names blocks old new ends step = record {
+  history = step.history;
+  ends = ends;
+  begins = step.begins;
+  last_call = step.last_call;
+  events = step.events;
+  seen = step.grows;
+}
+
+-- ---- the sessions of a worker
+
+pub looking_same : (seat : Seat) → IsLooking seat seat
+looking_same seat = record { seen = prefix_self seat.seen; last_call = prefix_self seat.last_call; events = refl }
+
+pub looking_on : (old mid new : Seat) → IsLooking old mid → IsLooking mid new → IsLooking old new
+looking_on old mid new first next = record {
+  seen = prefix_trans old.seen mid.seen new.seen first.seen next.seen;
+  last_call = prefix_trans old.last_call mid.last_call new.last_call first.last_call next.last_call;
+  events = next.events ∙ first.events;
+}
+
+pub serves_none : (names : List (List ℕ)) (gives : Option (List ℕ) → Type 0) (old new : Seat) → IsLooking old new → ServesOnly names gives old new
+serves_none names gives old new looking = ([], looking)
+
+pub serves_one : (names : List (List ℕ)) (gives : Option (List ℕ) → Type 0) (input : Option (List ℕ)) (old new : Seat) → gives input
+    → HearsInput names input old new → ServesOnly names gives old new
+serves_one names gives input old new given heard =
+    (record { input = input; before = old; after = new } ∷ [], looking_same old, given, heard, looking_same new)
+
+serves_after : (names : List (List ℕ)) (gives : Option (List ℕ) → Type 0) (served more : List Served) (old mid new : Seat) → ServesEach names gives served old mid
+    → ServesEach names gives more mid new → ServesEach names gives (served ++ more) old new
+serves_after names gives [] [] old mid new first next = looking_on old mid new first next
+serves_after names gives [] (s ∷ ss) old mid new first next = (looking_on old mid s.before first next.0, next.1, next.2, next.3)
+serves_after names gives (s ∷ ss) more old mid new first next = (first.0, first.1, first.2, serves_after names gives ss more s.after mid new first.3 next)
+
+pub serves_on : (names : List (List ℕ)) (gives : Option (List ℕ) → Type 0) (old mid new : Seat) → ServesOnly names gives old mid → ServesOnly names gives mid new
+    → ServesOnly names gives old new
+serves_on names gives old mid new first next = (first.0 ++ next.0, serves_after names gives first.0 next.0 old mid new first.1 next.1)
+
+-- what was written over all of a list is all that it has
+pub serves_written : (names : List (List ℕ)) (gives : Option (List ℕ) → Type 0) (old given new rest : List Seat) (count : ℕ) → given ≡ old → length new ≡ length given
+    → count ≡ length old → EachServes names gives given new → EachServes names gives old (take count (new ++ rest))
+serves_written names gives old given new rest count same as_many of each =
+    let moved : EachServes names gives old new = subst (λ (seats : List Seat). EachServes names gives seats new) same each in
+    let many : length new ≡ length old = as_many ∙ ap (λ (seats : List Seat). length seats) same in
+    let whole : take count (new ++ rest) ≡ new = subst (λ (n : ℕ). take n (new ++ rest) ≡ new) (sym (of ∙ sym many)) (take-append_seam new rest) in
+    subst (EachServes names gives old) (sym whole) moved
+
+-- what a call is given and leaves, under other names
+pub serves_at : (names : List (List ℕ)) (gives : Option (List ℕ) → Type 0) (old from to new : Seat) → from ≡ old → to ≡ new → ServesOnly names gives from to
+    → ServesOnly names gives old new
+serves_at names gives old from to new of left served =
+    subst (λ (seat : Seat). ServesOnly names gives seat new) of (subst (ServesOnly names gives from) left served)

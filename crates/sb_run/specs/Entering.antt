@@ -15,8 +15,6 @@ use Rattle.sb_views.specs.declared.event.Event.TheVariants.{Applied}
 use Rattle.sb_directory.specs.Seats.{Seat, Begins}
 use Rattle.sb_directory.specs.Serving.{IsStill}
 use Rattle.sb_handlers.specs.Forgetting.{kept_blocks}
-use Rattle.sb_run.specs.declared.pool.Taken.{Taken}
-use Rattle.sb_run.specs.declared.pool.Taken.TheVariants.{Session, Question}
 
 -- the seat makes one event: it takes the blocks of the delta that are of no forgotten owner
 pub record Enters (names : List (List ℕ)) (blocks : List Block) (old new : Seat) : Type 0 where

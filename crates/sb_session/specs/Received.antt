@@ -1,5 +1,5 @@
 -- Deltas that came from a peer.
-use Rattle.std.specs.Prelude.{◌≡◌, List, Option, Some, None}
+use Rattle.std.specs.Prelude.{List, Option, Some, None}
 use Rattle.sb_types.specs.Records.{Block}
 use Rattle.sb_types.specs.Runs.{Stands}
 use Rattle.sb_codec.specs.declared.message.Message.{Message}

@@ -73,7 +73,7 @@ impl ReceivedMessage {
 
     /// The message, which is not known to be received from then on.
     pub fn into_message(self) -> Message
-        ensures { result ≡ self.entry }
+        ensures { result ≡ self }
     {
         let ReceivedMessage { message } = self;
         message
@@ -81,7 +81,7 @@ impl ReceivedMessage {
 
     /// The delta, if the message is one.
     pub fn into_delta(self) -> Option<ReceivedDelta>
-        ensures { result ≡ delta_in self.entry }
+        ensures { result ≡ delta_in self }
     {
         match self.into_message() {
             Message::Delta(delta) => Some(ReceivedDelta { delta }),

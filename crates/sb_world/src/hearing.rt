@@ -122,7 +122,7 @@ fn hear_next(
     match make_room(message.message(), items) {
         Ok(()) => {}
         Err(fault) => {
-            lose(message);
+            lose(message.into_message());
             return Err(fault);
         }
     }
