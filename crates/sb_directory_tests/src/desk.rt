@@ -1,7 +1,8 @@
 //! A node, with its log and watches. Its calls as data, with what they answer.
 
 use crate::making::{
-    Range, commit, commit_removal, delta_of, delta_with_floor, first_of, key, name, node_of, prefix, received,
+    Range, commit, commit_removal, delta_of, delta_with_floor, first_of, key, name, node_of,
+    prefix, received,
 };
 use crate::reached::Seated;
 use crate::{got, same_at, there};

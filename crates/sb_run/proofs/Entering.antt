@@ -28,7 +28,9 @@ use Rattle.sb_views.proofs.Prefixes.{prefix_self, prefix_trans}
 use Rattle.sb_directory.specs.Seats.{Seat, Begins}
 use Rattle.sb_directory.specs.Serving.{Serves, IsStill}
 use Rattle.sb_directory.specs.Handling.{still-same, still-on}
-use Rattle.sb_handlers.specs.Forgetting.{kept_blocks}
+use Rattle.sb_handlers.specs.declared.gate.GatePoint.{GatePoint}
+use Rattle.sb_handlers.specs.Forgetting.{kept_blocks, LeavesOut, ForgettingStep}
+use Rattle.sb_handlers.specs.Gates.{GatedStep}
 use Rattle.sb_run.specs.Entering.{Enters, EntersAny, EntersAll, HearsFrom, Hears, HearsInput, IsLooking, Served, ServesEach, ServesOnly, EachServes}
 
 -- ---- a seat that stayed still before
@@ -67,7 +69,6 @@ module _ {H : Type 0} (step : H → Act → H → Type 0) (seat : H → Seat) (f
     (same : (old new : H) (act : Act) → step old act new → forgets new ≡ forgets old)
     (still : (old new : H) (act : Act) → may_enter act ≡ false → step old act new → IsStill (seat old) (seat new))
     (enters : (old new : H) (blocks : List Block) (ends : List BlockEnd) → step old (applies blocks (Ok ends)) new → Enters (forgets old) blocks (seat old) (seat new)) where
-
   -- nothing is entered, and the same owners are forgotten
   abbrev Rests : H → H → Type 0
   Rests old new = (forgets new ≡ forgets old) × IsStill (seat old) (seat new)
@@ -199,12 +200,14 @@ module _ {H : Type 0} (step : H → Act → H → Type 0) (seat : H → Seat) (f
   ran a (hears m ∷ moves) said b run =
       let mid = run.2 in
       let took : TakesIn m a.handler mid.handler =
-          taken_unless (refusal_of a.session m) a.session a.handler m run.3.4.0 mid.session mid.handler run.3.4.1 in
+      taken_unless (refusal_of a.session m) a.session a.handler m run.3.4.0 mid.session mid.handler run.3.4.1 in
       let rest = ran mid moves run.1 b run.4 in (
         rest.0 ∙ took.0,
-        seat mid.handler,
-        took.1,
-        subst (λ (names : List (List ℕ)). EntersAll names (heard_in moves) (seat mid.handler) (seat b.handler)) took.0 rest.1,
+        (
+          seat mid.handler,
+          took.1,
+          subst (λ (names : List (List ℕ)). EntersAll names (heard_in moves) (seat mid.handler) (seat b.handler)) took.0 rest.1,
+        ),
       )
   ran a (speaks ∷ moves) said b run =
       let mid = run.2 in
@@ -262,6 +265,27 @@ session_hears step rounds session first last old new result talks seat forgets s
 
 -- ---- a seat behind what is around it
 
+module _ {H : Type 0} (step : H → Act → H → Type 0) (stays grows : H → H → Type 0) (old new : H) where
+  -- what holds where blocks are left out and no event is made
+  left_still : (names : List (List ℕ)) (act : Act) → may_enter act ≡ false → LeavesOut names step stays grows old act new
+      → (P : Type 0) → ((other : Act) → may_enter other ≡ false → step old other new → P) → (stays old new → P) → P
+  left_still names (tells from want answer) none out P by_step by_stays = absurd out
+  left_still names (gives digest answer) none out P by_step by_stays = absurd out
+  left_still names (applies blocks (Ok ends)) none out P by_step by_stays = absurd (cc)
+  left_still names (applies blocks (Err fault)) none out P by_step by_stays =
+      ⊎_elim (by_step (applies (kept_blocks names blocks) (Err fault)) refl) (λ short. by_stays short.1.0) out
+
+  -- a handler that forgets owners makes no event where the one within makes none
+  pub forgetting_still : (names : List (List ℕ)) (act : Act) → may_enter act ≡ false → ForgettingStep names step stays grows old act new
+      → (P : Type 0) → ((other : Act) → may_enter other ≡ false → step old other new → P) → (stays old new → P) → P
+  forgetting_still names act none took P by_step by_stays =
+      ⊎_elim (λ own. by_step act none own.1) (λ out. left_still names act none out P by_step by_stays) took
+
+  -- nor does one behind a gate
+  pub gated_still : (lets turns_away : GatePoint → Type 0) (act : Act) → GatedStep lets turns_away step stays grows old act new
+      → (P : Type 0) → (step old act new → P) → (stays old new → P) → P
+  gated_still lets turns_away act took P by_step by_stays = ⊎_elim (λ own. by_step own.1) (λ turned. by_stays turned.1.0) took
+
 -- a step that takes a delta is that event
 pub serves_enters : (opening : Node) (settings : Settings) (names : List (List ℕ)) (blocks : List Block) (old new : Seat) (ends : List BlockEnd)
     → Serves opening settings old (applies (kept_blocks names blocks) (Ok ends)) new → Enters names blocks old new
@@ -286,35 +310,35 @@ looking_on old mid new first next = record {
   events = next.events ∙ first.events;
 }
 
-pub serves_none : (names : List (List ℕ)) (gives : Option (List ℕ) → Type 0) (old new : Seat) → IsLooking old new → ServesOnly names gives old new
-serves_none names gives old new looking = ([], looking)
+pub serves_none : (names : List (List ℕ)) (holds : Option (List ℕ) → Type 0) (old new : Seat) → IsLooking old new → ServesOnly names holds old new
+serves_none names holds old new looking = ([], looking)
 
-pub serves_one : (names : List (List ℕ)) (gives : Option (List ℕ) → Type 0) (input : Option (List ℕ)) (old new : Seat) → gives input
-    → HearsInput names input old new → ServesOnly names gives old new
-serves_one names gives input old new given heard =
+pub serves_one : (names : List (List ℕ)) (holds : Option (List ℕ) → Type 0) (input : Option (List ℕ)) (old new : Seat) → holds input
+    → HearsInput names input old new → ServesOnly names holds old new
+serves_one names holds input old new given heard =
     (record { input = input; before = old; after = new } ∷ [], looking_same old, given, heard, looking_same new)
 
-serves_after : (names : List (List ℕ)) (gives : Option (List ℕ) → Type 0) (served more : List Served) (old mid new : Seat) → ServesEach names gives served old mid
-    → ServesEach names gives more mid new → ServesEach names gives (served ++ more) old new
-serves_after names gives [] [] old mid new first next = looking_on old mid new first next
-serves_after names gives [] (s ∷ ss) old mid new first next = (looking_on old mid s.before first next.0, next.1, next.2, next.3)
-serves_after names gives (s ∷ ss) more old mid new first next = (first.0, first.1, first.2, serves_after names gives ss more s.after mid new first.3 next)
+serves_after : (names : List (List ℕ)) (holds : Option (List ℕ) → Type 0) (served more : List Served) (old mid new : Seat) → ServesEach names holds served old mid
+    → ServesEach names holds more mid new → ServesEach names holds (served ++ more) old new
+serves_after names holds [] [] old mid new first next = looking_on old mid new first next
+serves_after names holds [] (s ∷ ss) old mid new first next = (looking_on old mid s.before first next.0, next.1, next.2, next.3)
+serves_after names holds (s ∷ ss) more old mid new first next = (first.0, first.1, first.2, serves_after names holds ss more s.after mid new first.3 next)
 
-pub serves_on : (names : List (List ℕ)) (gives : Option (List ℕ) → Type 0) (old mid new : Seat) → ServesOnly names gives old mid → ServesOnly names gives mid new
-    → ServesOnly names gives old new
-serves_on names gives old mid new first next = (first.0 ++ next.0, serves_after names gives first.0 next.0 old mid new first.1 next.1)
+pub serves_on : (names : List (List ℕ)) (holds : Option (List ℕ) → Type 0) (old mid new : Seat) → ServesOnly names holds old mid → ServesOnly names holds mid new
+    → ServesOnly names holds old new
+serves_on names holds old mid new first next = (first.0 ++ next.0, serves_after names holds first.0 next.0 old mid new first.1 next.1)
 
 -- what was written over all of a list is all that it has
-pub serves_written : (names : List (List ℕ)) (gives : Option (List ℕ) → Type 0) (old given new rest : List Seat) (count : ℕ) → given ≡ old → length new ≡ length given
-    → count ≡ length old → EachServes names gives given new → EachServes names gives old (take count (new ++ rest))
-serves_written names gives old given new rest count same as_many of each =
-    let moved : EachServes names gives old new = subst (λ (seats : List Seat). EachServes names gives seats new) same each in
+pub serves_written : (names : List (List ℕ)) (holds : Option (List ℕ) → Type 0) (old given new rest : List Seat) (count : ℕ) → given ≡ old → length new ≡ length given
+    → count ≡ length old → EachServes names holds given new → EachServes names holds old (take count (new ++ rest))
+serves_written names holds old given new rest count same as_many of each =
+    let moved : EachServes names holds old new = subst (λ (seats : List Seat). EachServes names holds seats new) same each in
     let many : length new ≡ length old = as_many ∙ ap (λ (seats : List Seat). length seats) same in
     let whole : take count (new ++ rest) ≡ new = subst (λ (n : ℕ). take n (new ++ rest) ≡ new) (sym (of ∙ sym many)) (take-append_seam new rest) in
-    subst (EachServes names gives old) (sym whole) moved
+    subst (EachServes names holds old) (sym whole) moved
 
 -- what a call is given and leaves, under other names
-pub serves_at : (names : List (List ℕ)) (gives : Option (List ℕ) → Type 0) (old from to new : Seat) → from ≡ old → to ≡ new → ServesOnly names gives from to
-    → ServesOnly names gives old new
-serves_at names gives old from to new of left served =
-    subst (λ (seat : Seat). ServesOnly names gives seat new) of (subst (ServesOnly names gives from) left served)
+pub serves_at : (names : List (List ℕ)) (holds : Option (List ℕ) → Type 0) (old from to new : Seat) → from ≡ old → to ≡ new → ServesOnly names holds from to
+    → ServesOnly names holds old new
+serves_at names holds old from to new of left served =
+    subst (λ (seat : Seat). ServesOnly names holds seat new) of (subst (ServesOnly names holds from) left served)

@@ -4,8 +4,8 @@ use crate::{got, same};
 use sb_codec::{Bye, Message};
 use sb_frames::{Frames, frame_of};
 use sb_session::{Handler, ReceivedMessage, Replies, Session};
-use sb_types::{Fault, Name, REASON_ROUNDS_DONE};
 use sb_testing::wire::HELLO_B;
+use sb_types::{Fault, Name, REASON_ROUNDS_DONE};
 use std::alloc::Global;
 
 /// The frame of the message that ends a session whose rounds are done.

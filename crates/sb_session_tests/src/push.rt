@@ -277,7 +277,10 @@ fn a_push_is_taken(rt: HostRuntime) {
 fn take_two(rt: &impl Abort, alloc: Global, first: &[u8], second: &[u8]) -> [Result<(), Fault>; 2] {
     let mut session = Session::new(name(rt, b"c1"), name(rt, b"a"));
     let answer = session.take_first(read(rt, alloc, first).message());
-    [answer, session.take_first(read(rt, alloc, second).message())]
+    [
+        answer,
+        session.take_first(read(rt, alloc, second).message()),
+    ]
 }
 
 #[test]

@@ -1,8 +1,8 @@
-use Rattle.std.proofs.Common.{refl, ap, ⊎_elim}
+use Rattle.std.proofs.Common.{refl}
+use Rattle.sb_directory.specs.Serving.{IsStill}
 use Rattle.sb_directory.specs.Handling.{serves-nothing, still-same, still-on}
 use Rattle.sb_handlers.specs.Deferring.{deferring-nothing}
-use Rattle.sb_handlers.specs.Forgetting.{forgetting-nothing}
-use Rattle.sb_run.proofs.Entering.{session_hears, serves_enters}
+use Rattle.sb_run.proofs.Entering.{session_hears, serves_enters, forgetting_still, gated_still}
 use Rattle.sb_run.proofs.Hellos.{talks_greet}
 use Rattle.sb_handlers.proofs.LeavingOut.{forgetting_applies, gated_applies}
 use Rattle.sb_run.proofs.threads.NodeContext.talk.Goals as goal
@@ -12,18 +12,15 @@ returns-clause-entered g c =
     session_hears _ _ _ _ _ _ _ _ c.dial-ended.ensures.talks (λ h. h.inner.inner.inner) (λ h. h.forgotten.now.names.items)
     (λ old new act step. rw step.0 refl)
     (λ old new act none step.
-        (forgetting-nothing _ _ _ _ old.inner new.inner
-            (λ act none step. (
-              step.0,
-              step.1,
-              ⊎_elim
-                  (λ own. deferring-nothing _ _ _ (serves-nothing _ _) still-same still-on _ _ act none own.1.0)
-                  (λ turned. turned.1.0) step.2,
-            )) act none step.1).2)
+    forgetting_still _ _ _ _ _ _ act none step.1 _
+    (λ other none inner.
+    gated_still _ _ _ _ _ _ _ other inner.2 _
+    (λ own. deferring-nothing _ _ IsStill (serves-nothing _ _) still-same still-on _ _ other none own.0) (λ stays. stays))
+    (λ stays. stays.2))
     (λ old new blocks ends step.
-        let inner = forgetting_applies _ _ _ _ old.inner new.inner blocks ends step.1 in
-        let gated = gated_applies _ _ _ _ _ old.inner.inner new.inner.inner _ inner.0 inner.1.2 in
-        serves_enters _ _ _ blocks _ _ inner.0 gated.0)
+    let inner = forgetting_applies _ _ _ _ old.inner new.inner blocks ends step.1 in
+    let gated = gated_applies _ _ _ _ _ old.inner.inner new.inner.inner _ inner.0 inner.1.2 in
+    serves_enters _ _ _ blocks _ _ inner.0 gated.0)
     _ _ _ refl refl refl
 
 pub returns-clause-greets : goal.returns-clause-greets
