@@ -103,8 +103,7 @@ pub fn running_nodes_keep_truth()
 /// - No log forgets a write that was in a delta.
 /// - No other delta comes. So whoever dials or is dialed runs this program, and what is read from a socket was written to it.
 ///
-/// That the workers and the thread that dials enter just what they read is no premise. `serve_pool` says it of workers, and
-/// `talk` of the thread that dials.
+/// Workers and the thread that dials enter just what they read, by clauses of `serve_pool` and of `talk`.
 ///
 /// The contracts of `Directory` say that what a run is handed becomes its events, and that what it gives is an answer after
 /// them.
