@@ -264,6 +264,14 @@ session_hears step rounds session first last old new result talks seat forgets s
     let begun = subst (λ (s : Seat). HearsFrom names old.stream old new s (seat last)) from named in
     subst (λ (s : Seat). HearsFrom names old.stream old new before s) (sym to) begun
 
+-- the same, under other names
+pub hears_at : (named : List (List ℕ)) (old new : Connection) (from to : Seat) → Hears named old new from to
+    → (names : List (List ℕ)) (before after : Seat) → named ≡ names → from ≡ before → after ≡ to → Hears names old new before after
+hears_at named old new from to heard names before after is begun ended =
+    let first = subst (λ (ns : List (List ℕ)). Hears ns old new from to) is heard in
+    let second = subst (λ (s : Seat). Hears names old new s to) begun first in
+    subst (λ (s : Seat). Hears names old new before s) (sym ended) second
+
 -- ---- a seat behind what is around it
 
 module _ {H : Type 0} (step : H → Act → H → Type 0) (stays grows : H → H → Type 0) (old new : H) where

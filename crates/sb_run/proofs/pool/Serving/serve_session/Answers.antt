@@ -2,14 +2,14 @@ use Rattle.std.proofs.Common.{rules, refl}
 use Rattle.sb_directory.specs.Serving.{IsStill}
 use Rattle.sb_directory.specs.Handling.{serves-nothing, still-same, still-on}
 use Rattle.sb_handlers.specs.Deferring.{deferring-nothing}
-use Rattle.sb_run.proofs.Entering.{session_hears, serves_enters, forgetting_still, gated_still}
+use Rattle.sb_run.proofs.Entering.{session_hears, hears_at, serves_enters, forgetting_still, gated_still}
 use Rattle.sb_run.proofs.Hellos.{talks_greet}
 use Rattle.sb_handlers.proofs.LeavingOut.{forgetting_applies, gated_applies}
 use Rattle.sb_run.proofs.pool.Serving.serve_session.Goals as goal
 
 pub returns-clause-entered : goal.returns-clause-entered
 returns-clause-entered g c =
-    session_hears _ _ _ _ _ _ _ _ c.serve-ended.ensures.talks (λ h. h.inner.inner.inner) (λ h. h.forgotten.now.names.items)
+    let heard = session_hears _ _ _ _ _ _ _ _ c.serve-ended.ensures.talks (λ h. h.inner.inner.inner) (λ h. h.forgotten.now.names.items)
     (λ old new act step. rw step.0 refl)
     (λ old new act none step.
         forgetting_still _ _ _ _ _ _ act none step.1 _
@@ -21,7 +21,8 @@ returns-clause-entered g c =
         let inner = forgetting_applies _ _ _ _ old.inner new.inner blocks ends step.1 in
         let gated = gated_applies _ _ _ _ _ old.inner.inner new.inner.inner _ inner.0 inner.1.2 in
         serves_enters _ _ _ blocks _ _ inner.0 gated.0)
-    c.args.self.now.forgotten.now.names.items c.args.seat c.into_seat.result (search rules) (search rules) (search rules)
+    _ _ _ refl refl refl in
+    hears_at _ _ _ _ _ heard c.args.self.now.forgotten.now.names.items c.args.seat c.into_seat.result (search rules) (search rules) (search rules)
 
 pub returns-clause-greets : goal.returns-clause-greets
 returns-clause-greets g c = talks_greet _ _ _ _ _ _ _ _ _ _ c.session_of-session.ensures c.serve-ended.ensures.talks
