@@ -24,7 +24,7 @@ use Rattle.sb_http.specs.declared.operation.Refusal.{Refusal}
 use Rattle.sb_http.specs.declared.operation.Refusal.TheVariants.{OtherHost, NotFound, NotAllowed, OnlyWritten, NotByPort, Bad, BadParameters, BadWait, BadBody, NoMemory}
 use Rattle.sb_http.specs.declared.contents.Content as rust
 use Rattle.sb_http.specs.declared.page.TheConstants.{PAGE, POLICY}
-use Rattle.sb_http.specs.Acts.{Act, asks, polls, lists, measures, fails}
+use Rattle.sb_http.specs.Acts.{Act, asks, puts, polls, lists, measures, fails}
 use Rattle.sb_http.specs.Requests.{asked_by}
 use Rattle.sb_http.specs.Texts.{line_of, page_data, marked_page_data, owners_data, health_data, version_data, error_data, fault_data}
 
@@ -104,7 +104,7 @@ abbrev pub IsCallFor : Operation → Act → Type 0
 IsCallFor (Rows ask) (asks request reply) = request ≡ kinds.Ask ask
 IsCallFor (Row owner key) (asks request reply) = request ≡ kinds.Ask (row_question owner key)
 IsCallFor Health (asks request reply) = request ≡ kinds.AskStatus 0
-IsCallFor (Put write) (asks request reply) = request ≡ kinds.Put write
+IsCallFor (Put write) (puts asked reply) = asked ≡ write
 IsCallFor (Poll ask patience) (polls asked given reply mark) = (asked ≡ ask) × (given ≡ patience)
 IsCallFor (Poll ask patience) (fails fault) = Unit {0}
 IsCallFor Owners (lists owners) = Unit {0}
@@ -123,7 +123,7 @@ Says Health (asks request reply) content =
 Says (Poll ask patience) (polls asked given reply mark) content =
     (page : Result records.Rows NoAnswer) × TellsPage reply page × IsMarkedPage mark page content
 Says (Poll ask patience) (fails fault) content = IsFault 503 fault content
-Says (Put write) (asks request reply) content = (version : Result ℕ NoAnswer) × TellsVersion reply version × IsWritten version content
+Says (Put write) (puts asked reply) content = (version : Result ℕ NoAnswer) × TellsVersion reply version × IsWritten version content
 Says Owners (lists owners) content = content ≡ (200, line_of (owners_data owners))
 Says Owners (fails fault) content = IsFault 503 fault content
 Says Metrics (measures text) content = content ≡ (200, text)

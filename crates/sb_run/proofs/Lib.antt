@@ -7,7 +7,6 @@ pub mod Leaving
 pub mod Enduring
 pub mod Hellos
 pub mod Paging
-pub mod Arriving
 pub mod StatusPages
 pub mod StatusTexts
 pub mod StatusAnswers

@@ -5,7 +5,7 @@ use Rattle.sb_types.specs.declared.fault.Fault.TheVariants.{ReadFailed, TurnsSpe
 use Rattle.sb_frames.specs.Frames.{bad, front_of}
 use Rattle.sb_frames.specs.Streams.{Stream, open_with, shut}
 use Rattle.sb_frames.specs.Receiving.{is_frame_fault, Stops, is_bad, no_memory, read_failed, cut_short, turns_spent, Receives}
-use Rattle.sb_run.specs.Arriving.{HasGrown}
+use Rattle.sb_control.specs.Pieces.{HasGrown}
 
 -- only the five faults of frames are of the bytes
 abbrev pub AreOfFrames : Type 0
