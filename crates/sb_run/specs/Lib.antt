@@ -18,3 +18,6 @@ pub mod Auditing
 pub mod HttpPorts
 pub mod HttpMarks
 pub mod HttpReads
+pub mod WriteRequests
+pub mod Beating
+pub mod Works

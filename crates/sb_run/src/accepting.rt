@@ -2,7 +2,7 @@
 ghost use Rattle.std.specs.Prelude.{◌≡◌, IfErr, ◌+◌, ◌<◌, ◌≤◌, ◌++◌, ◌∷◌, [], true, vec_len, length, position, MatchBool, OnOk, IfSome, IfOk};
 ghost use Rattle.sb_run.specs.declared.first_message.TheConstants.{FIRST_MOST};
 ghost use Rattle.sb_run.specs.declared.accepting.TheConstants.{WAITING_MOST};
-ghost use Rattle.sb_run.specs.Arriving.{ReadsPiece, is_silent, has_begun, has_number, without_oldest, with_room};
+ghost use Rattle.sb_run.specs.Arriving.{is_silent, has_begun, has_number, without_oldest, with_room};
 
 use crate::arrivals::Handover;
 use crate::counts::Counts;
@@ -13,8 +13,9 @@ use crate::threads::NodeContext;
 use crate::watchers::WatcherList;
 use mio::net::UnixStream;
 use mio::{Events, Interest, Poll, Registry, Token};
-use sb_codec::Message;
-use sb_frames::{Frames, Steps, faults_are_of_the_bytes, receive};
+use sb_codec::{AskChange, Message};
+use sb_control::{ControlRequest, read_piece};
+use sb_frames::{Frames, Steps};
 use sb_types::Fault;
 use std::alloc::Global;
 use std::io::Read;
@@ -207,20 +208,28 @@ impl Backlog {
             .callers
             .take_request::<Brand>(registry, number, Blank::new(1))?;
         match whole {
-            Some((Message::AskChange(asked), stream)) => {
-                watchers.admit(node, registry, number, &asked, stream)
-            }
-            Some((request, stream)) => {
-                let given = self
-                    .handover
-                    .give_request(node.rt, node.asked, request, stream);
-                note_given(node.counts, given)
-            }
+            Some((request, stream)) => match change_in(request.message()) {
+                Some(asked) => watchers.admit(node, registry, number, &asked, stream),
+                None => self.give_request(node, request, stream),
+            },
             None => {
                 watchers.hear(node, registry, number);
                 Ok(())
             }
         }
+    }
+
+    /// Hands a request on, and counts it if that fails.
+    fn give_request<S: RoundsTag, H: Wait + Drop, Q: Wait>(
+        &mut self,
+        node: &NodeContext<S, H, Q>,
+        request: ControlRequest,
+        stream: UnixStream,
+    ) -> Result<(), Fault> {
+        let given = self
+            .handover
+            .give_request(node.rt, node.asked, request, stream);
+        note_given(node.counts, given)
     }
 
     /// Tells those who wait for a change that came, or whose time is over.
@@ -272,6 +281,14 @@ pub(crate) fn earlier(one: Option<Instant>, other: Option<Instant>) -> Option<In
     match (one, other) {
         (Some(one), Some(other)) => Some(one.min(other)),
         (one, other) => one.or(other),
+    }
+}
+
+/// The change that a message asks for; none if it is another message.
+fn change_in(message: &Message) -> Option<AskChange> {
+    match message {
+        Message::AskChange(asked) => Some(*asked),
+        _ => None,
     }
 }
 
@@ -399,32 +416,6 @@ impl Read for Arrived<'_> {
     }
 }
 
-/// Makes one read of a stream, if one is left: its first message, once it is whole. None if more is to come. `left` is what is
-/// left after the call. Its faults are those of `receive`, and `Truncated` also at an end before the message. After
-/// `ReadFailed` the call may be made again.
-fn read_piece<R: Read, K: Ledger>(
-    reader: &mut R,
-    frames: &mut Frames,
-    left: &mut u64,
-    steps: &mut Steps<K>,
-) -> Result<Option<Message>, Fault>
-    ensures reads { ReadsPiece frames.old frames.new (R.remaining reader.old) (R.remaining reader.new) result }
-    ensures counted { steps.new + left.new ≤ steps.old + left.old }
-{
-    faults_are_of_the_bytes();
-    if *left == 0 {
-        return Err(Fault::TurnsSpent);
-    }
-    *left -= 1;
-    match receive(reader, frames, 1, steps) {
-        Ok(Some(message)) => Ok(Some(message)),
-        Ok(None) => Err(Fault::Truncated),
-        // The read gave less than the rest of the message.
-        Err(Fault::TurnsSpent) if *left > 0 => Ok(None),
-        Err(fault) => Err(fault),
-    }
-}
-
 /// The moment so many milliseconds from now; none for 0, or if the clock can't be read.
 pub(crate) fn deadline_after<Q: Clock>(clock: &Q, milliseconds: u64) -> Option<Instant> {
     if milliseconds == 0 {
@@ -490,7 +481,10 @@ impl Waiting {
 
     /// Makes one read of its request, without waiting: the request, once it is whole. None if more is to come. Its faults
     /// are those of `read_piece`, after which it is to be closed.
-    fn read<K: Ledger>(&mut self, steps: &mut Steps<K>) -> Result<Option<Message>, Fault>
+    fn read<K: Ledger>(
+        &mut self,
+        steps: &mut Steps<K>,
+    ) -> Result<Option<ControlRequest>, Fault>
         ensures number { self.new.number ≡ self.old.number }
         ensures counted { steps.new + self.new.left ≤ steps.old + self.old.left }
     {
@@ -611,7 +605,7 @@ impl WaitingList {
         registry: &Registry,
         number: usize,
         blank: Blank,
-    ) -> Result<Option<(Message, UnixStream)>, Fault>
+    ) -> Result<Option<(ControlRequest, UnixStream)>, Fault>
         requires name { blank.name ≡ K.name }
         requires parts { blank.parts ≡ K.parts }
         requires some { 0 < blank.parts }

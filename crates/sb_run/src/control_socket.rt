@@ -1,6 +1,7 @@
 //! The calling thread of a running node: it answers what callers asked at the control socket, and makes the own writes.
 ghost use Rattle.std.specs.Prelude.{◌≡◌, true, false, IfErr};
 ghost use Rattle.sb_codec.specs.declared.message.Message.{Message};
+ghost use Rattle.sb_codec.specs.declared.message.Message.TheVariants as kinds;
 ghost use Rattle.sb_directory.specs.Serving.{IsLater, IsStill};
 ghost use Rattle.sb_frames.specs.Frames.{frame};
 ghost use Rattle.sb_frames.specs.Sending.{Sends};
@@ -8,8 +9,9 @@ ghost use Rattle.sb_run.specs.Closing.{seen_by};
 ghost use Rattle.sb_run.specs.Control.{AnswersAll, AnswersTo};
 ghost use Rattle.sb_run.specs.OwnPurging.{MayPurge};
 ghost use Rattle.sb_run.specs.Running.{IsOpenedFrom};
+ghost use Rattle.sb_run.specs.Works.{message_of};
 
-use crate::arrivals::{Caller, Request, Requests, Work};
+use crate::arrivals::{Request, Requests, Work};
 use crate::beating::BeatTurns;
 use crate::control::reply_to_put;
 use crate::dialer::{Dialing, RoundsTag};
@@ -23,10 +25,12 @@ use crate::purging::PurgeTurns;
 use crate::schedule::RoundCounts;
 use crate::sockets::{Timed, limit};
 use crate::threads::NodeContext;
+use crate::write_request::WriteRequest;
 use sb_codec::Message;
-use sb_control::LogCause;
+use sb_control::{ControlRequest, LogCause};
 use sb_directory::ReaderSeat;
 use sb_frames::send;
+use sb_http::HttpWrite;
 use sb_log::{StoreCause, WriteLog};
 use sb_types::{Fault, Name, OWNERS_MOST};
 use std::io::Write;
@@ -54,13 +58,13 @@ impl<S: RoundsTag, H: Wait + Drop, Q: Wait + Clock> NodeContext<'_, S, H, Q> {
         dialing: &Dialing<'_, O>,
         writes: &mut OwnWrites<L>,
         seat: ReaderSeat<S>,
-        request: &Message,
+        request: ControlRequest,
     ) -> (ReaderSeat<S>, Result<(), Fault>)
-        ensures answers { (reply : Message) × AnswersAll L.seen S.opening S.settings writes.old.log writes.old.owed seat request.now writes.new.log writes.new.owed result.0 reply
+        ensures answers { (reply : Message) × AnswersAll L.seen S.opening S.settings writes.old.log writes.old.owed seat request writes.new.log writes.new.owed result.0 reply
             × Sends (W.contents writer.old) (W.contents writer.new) (frame reply) result.1 }
         ensures closes { (L.seen writes.old.log).is_open ≡ true → (L.seen writes.new.log).is_open ≡ false → writes.new.has_failed ≡ true }
     {
-        match request {
+        match request.message() {
             Message::AskStatus(asked) => {
                 let (seat, reply) = self.reply_to_ask_status(dialing, asked, seat);
                 let sent = send(self.alloc, writer, &reply);
@@ -70,7 +74,7 @@ impl<S: RoundsTag, H: Wait + Drop, Q: Wait + Clock> NodeContext<'_, S, H, Q> {
                 let sent = send(self.alloc, writer, &self.reply_to_ask_ages());
                 (seat, sent)
             }
-            other => self.serving().answer_request(writer, writes, seat, other),
+            _ => self.serving().answer_request(writer, writes, seat, request),
         }
     }
 
@@ -80,46 +84,39 @@ impl<S: RoundsTag, H: Wait + Drop, Q: Wait + Clock> NodeContext<'_, S, H, Q> {
         &self,
         dialing: &Dialing<'_, O>,
         writes: &mut OwnWrites<L>,
-        message: &Message,
+        request: ControlRequest,
         stream: UnixStream,
         seat: ReaderSeat<S>,
     ) -> (ReaderSeat<S>, bool)
         ensures closes { (L.seen writes.old.log).is_open ≡ true → (L.seen writes.new.log).is_open ≡ false → writes.new.has_failed ≡ true }
-        ensures answers { AnswersTo L.seen S.opening S.settings writes.old.log writes.old.owed seat message.now writes.new.log writes.new.owed result.0 result.1 }
+        ensures answers { AnswersTo L.seen S.opening S.settings writes.old.log writes.old.owed seat request writes.new.log writes.new.owed result.0 result.1 }
     {
         let pace = &self.pace;
         if limit(&stream, pace.idle).is_err() {
             return (seat, true);
         }
         let mut output = Timed::new(self.rt, stream, pace.idle, pace.request);
-        let (seat, sent) = self.write_answer(&mut output, dialing, writes, seat, message);
+        let (seat, sent) = self.write_answer(&mut output, dialing, writes, seat, request);
         (seat, sent.is_err())
     }
 
-    /// Makes a write that came over HTTP, and hands the answer to the thread that waits for it. With any other message nothing is
-    /// done, which is a fault.
+    /// Makes a write that came over HTTP, and hands the answer to the thread that waits for it.
     #[tactic(auto, using(crate::proofs::WriteReplies::write_reply))]
     fn answer_worker<L: WriteLog>(
         &self,
         writes: &mut OwnWrites<L>,
-        message: &Message,
+        asked: HttpWrite,
         to: AnswerSender,
         seat: ReaderSeat<S>,
-    ) -> (ReaderSeat<S>, bool)
+    ) -> ReaderSeat<S>
         ensures closes { (L.seen writes.old.log).is_open ≡ true → (L.seen writes.new.log).is_open ≡ false → writes.new.has_failed ≡ true }
-        ensures answers { AnswersTo L.seen S.opening S.settings writes.old.log writes.old.owed seat message.now writes.new.log writes.new.owed result.0 result.1 }
-        ensures still { result.1 ≡ true → (writes.new.log ≡ writes.old.log) × (writes.new.owed ≡ writes.old.owed) × (result.0 ≡ seat) }
+        ensures answers { (reply : Message) × AnswersAll L.seen S.opening S.settings writes.old.log writes.old.owed seat (kinds.Put asked) writes.new.log writes.new.owed result reply }
     {
-        match message {
-            Message::Put(write) => {
-                let mut seat = seat;
-                let (key, slot) = (&write.key, &write.slot);
-                let reply = reply_to_put(&self.serving(), writes, &mut seat, key, slot);
-                to.send(self.rt, reply);
-                (seat, false)
-            }
-            _ => (seat, true),
-        }
+        let mut seat = seat;
+        let asked = WriteRequest::over_http(asked);
+        let reply = reply_to_put(&self.serving(), writes, &mut seat, asked);
+        to.send(self.rt, reply);
+        seat
     }
 
     /// Answers a request, and says whether that ended with a fault.
@@ -132,14 +129,13 @@ impl<S: RoundsTag, H: Wait + Drop, Q: Wait + Clock> NodeContext<'_, S, H, Q> {
     ) -> (ReaderSeat<S>, bool)
         ensures closes { (L.seen writes.old.log).is_open ≡ true → (L.seen writes.new.log).is_open ≡ false → writes.new.has_failed ≡ true }
         // This request was answered, or nothing came of it, which is a fault.
-        ensures answers { AnswersTo L.seen S.opening S.settings writes.old.log writes.old.owed seat request.message writes.new.log writes.new.owed result.0 result.1 }
+        ensures answers { AnswersTo L.seen S.opening S.settings writes.old.log writes.old.owed seat (message_of request) writes.new.log writes.new.owed result.0 result.1 }
     {
-        let Request { message, caller } = request;
-        match caller {
-            Caller::Stream(stream) => {
-                self.answer_caller(dialing, writes, &message, stream, seat)
+        match request {
+            Request::Control(request, stream) => {
+                self.answer_caller(dialing, writes, request, stream, seat)
             }
-            Caller::Worker(to) => self.answer_worker(writes, &message, to, seat),
+            Request::Http(asked, to) => (self.answer_worker(writes, asked, to, seat), false),
         }
     }
 }
@@ -227,7 +223,7 @@ fn note_work(turns: &mut PurgeTurns, work: &Work)
     ensures least { turns.new.least ≡ turns.old.least }
 {
     if let Work::Request(request) = work {
-        turns.note(&request.message);
+        turns.note(request.is_put());
     }
 }
 

@@ -172,6 +172,7 @@ mod status_reply;
 mod status_texts;
 mod threads;
 mod watchers;
+mod write_request;
 
 pub use http_socket::is_own_port;
 pub use http_threads::HTTP_WORKERS;
@@ -184,3 +185,4 @@ pub use own_writes::{OwnWrites, Stored};
 pub use peers::{DownReason, Peer, PeerState};
 pub use pool::{Pooled, Serving, Source, Taken};
 pub use sb_handlers::{ForgottenOwners, Gate, GatePoint, Open, VainOffers};
+pub use write_request::WriteRequest;
