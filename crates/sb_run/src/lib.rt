@@ -41,8 +41,8 @@
 //!   `tools/check-node` refuse it.
 //! - A thread that answers over HTTP gets the answer to another write, or a version that no log gave, or a fault although
 //!   the write was made. Tests and `tools/check-node` refuse it.
-//! - A request over HTTP that only reads makes a write too. Or a `PUT` or `DELETE` makes another write, or makes it twice.
-//!   No contract sees what goes to the calling thread. Tests and `tools/check-node` refuse it.
+//! - A thread makes up the bytes of a request, and reads them: types say that a request was read, and not from where. Tests
+//!   and `tools/check-node` refuse it.
 //! - All threads that answer over HTTP wait for writes, or fewer than may. Tests and `tools/check-node` refuse it.
 //! - A node removes a socket at which somebody listens. Tests and `tools/check-node` refuse it.
 //! - `Timed::left` does not call `time_between`, or a read or a write waits longer than it grants. Tests refuse it.
@@ -116,8 +116,7 @@
 //!   it stays after it left. The tests of `sb_run` and `tools/check-node` refuse it.
 //! - An owner has a wrong age or none, also over HTTP: no clause is about when an owner was heard. The tests of `sb_run` and
 //!   `tools/check-node` refuse it.
-//! - A beat is missing, comes too often, or is another write than its key and true. The tests of `sb_run` and
-//!   `tools/check-node` refuse it.
+//! - A beat is missing, or comes too often. The tests of `sb_run` and `tools/check-node` refuse it.
 //! - The calling thread takes a request and does not answer it, or makes beats alone. The tests of `sb_run` and
 //!   `tools/check-node` refuse it.
 //! - The gate of a dialed session, or that of the node, tells nobody what was entered, heard or missed. The tests of
