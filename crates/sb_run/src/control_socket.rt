@@ -263,8 +263,8 @@ impl<S: RoundsTag, H: Wait + Drop, Q: Wait + Clock> NodeContext<'_, S, H, Q> {
         }
     }
 
-    /// Does a piece of work, before which the log is closed if its file is lost, and after which the own table is purged if that is
-    /// due. Gives the seat back, and says whether the work ended with a fault, and whether the node is to end.
+    /// Does a piece of work. Before it the log is closed if its file is lost, and after it the own table is purged if that is due.
+    /// Gives the seat back, and says whether the work ended with a fault, and whether the node is to end.
     fn take_turn<L: WriteLog, O: Observer>(
         &self,
         dialing: &Dialing<'_, O>,
