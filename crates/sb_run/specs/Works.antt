@@ -39,7 +39,7 @@ pub record Owning (L : Type 0) : Type 0 where
   pub seat : Seat
 
 -- the log is closed or is not; then this piece of work is done; then the own table is purged or is not
-pub record TakesTurn {L : Type 0} (seen : L → Log) (opening : Node) (settings : Settings) (beat : Option beats.Beat) (least : ℕ) (work : Work)
+pub record DoesNext {L : Type 0} (seen : L → Log) (opening : Node) (settings : Settings) (beat : Option beats.Beat) (least : ℕ) (work : Work)
     (old new : Owning L) : Type 0 where
   pub begun : ClosableLog L
   pub same : begun.log ≡ old.log.log
@@ -47,8 +47,8 @@ pub record TakesTurn {L : Type 0} (seen : L → Log) (opening : Node) (settings 
   pub does : Does (closable seen) opening settings beat work begun old.owed old.seat done.log done.owed done.seat
   pub purges : MayPurge (closable seen) opening least done.log done.owed done.seat new.log new.owed new.seat
 
--- each of these pieces of work took one turn, the last first
+-- these pieces of work were done one after another, each once, the last first
 abbrev pub WorksInTurn : {L : Type 0} → (L → Log) → Node → Settings → Option beats.Beat → ℕ → List Work → Owning L → Owning L → Type 0
 WorksInTurn seen opening settings beat least [] old new = new ≡ old
 WorksInTurn {L} seen opening settings beat least (work ∷ earlier) old new =
-    (before : Owning L) × WorksInTurn seen opening settings beat least earlier old before × TakesTurn seen opening settings beat least work before new
+    (before : Owning L) × WorksInTurn seen opening settings beat least earlier old before × DoesNext seen opening settings beat least work before new

@@ -481,10 +481,7 @@ impl Waiting {
 
     /// Makes one read of its request, without waiting: the request, once it is whole. None if more is to come. Its faults
     /// are those of `read_piece`, after which it is to be closed.
-    fn read<K: Ledger>(
-        &mut self,
-        steps: &mut Steps<K>,
-    ) -> Result<Option<ControlRequest>, Fault>
+    fn read<K: Ledger>(&mut self, steps: &mut Steps<K>) -> Result<Option<ControlRequest>, Fault>
         ensures number { self.new.number ≡ self.old.number }
         ensures counted { steps.new + self.new.left ≤ steps.old + self.old.left }
     {

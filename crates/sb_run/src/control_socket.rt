@@ -9,7 +9,7 @@ ghost use Rattle.sb_run.specs.Closing.{seen_by};
 ghost use Rattle.sb_run.specs.Control.{AnswersAll, AnswersTo};
 ghost use Rattle.sb_run.specs.OwnPurging.{MayPurge, running_least};
 ghost use Rattle.sb_run.specs.Running.{IsOpenedFrom};
-ghost use Rattle.sb_run.specs.Works.{message_of, Does, TakesTurn, WorksInTurn};
+ghost use Rattle.sb_run.specs.Works.{message_of, Does, DoesNext, WorksInTurn};
 ghost use Rattle.sb_run.specs.declared.arrivals.Work.{Work};
 
 use crate::arrivals::{Request, Requests, Work};
@@ -265,7 +265,7 @@ impl<S: RoundsTag, H: Wait + Drop, Q: Wait + Clock> NodeContext<'_, S, H, Q> {
 
     /// Does a piece of work. Before it the log is closed if its file is lost, and after it the own table is purged if that is due.
     /// Gives the seat back, and says whether the work ended with a fault, and whether the node is to end.
-    fn take_turn<L: WriteLog, O: Observer>(
+    fn do_next<L: WriteLog, O: Observer>(
         &self,
         dialing: &Dialing<'_, O>,
         writes: &mut OwnWrites<ClosableLog<L>>,
@@ -274,7 +274,7 @@ impl<S: RoundsTag, H: Wait + Drop, Q: Wait + Clock> NodeContext<'_, S, H, Q> {
         seat: ReaderSeat<S>,
     ) -> (ReaderSeat<S>, bool, bool)
         ensures exits { result.2 ≡ true → self.now.pace.on_log_fault ≡ OnLogFault.Exit }
-        ensures turn { TakesTurn L.seen S.opening S.settings turns.old.beats.beat turns.old.purges.least work
+        ensures next { DoesNext L.seen S.opening S.settings turns.old.beats.beat turns.old.purges.least work
             (record { log = writes.old.log; owed = writes.old.owed; seat = seat }) (record { log = writes.new.log; owed = writes.new.owed; seat = result.0 }) }
         ensures same { (turns.new.beats.beat ≡ turns.old.beats.beat) × (turns.new.purges.least ≡ turns.old.purges.least) }
     {
@@ -315,8 +315,9 @@ impl<S: RoundsTag, H: Wait + Drop, Q: Wait + Clock> NodeContext<'_, S, H, Q> {
                     has_left: self.ends_by_log(),
                 };
             };
-            let (seat, failed, has_ended) =
-                self.take_turn(dialing, writes, &mut turns, work, current);
+            let (seat, failed, has_ended) = self.do_next(
+                dialing, writes, &mut turns, work, current,
+            );
             current = seat;
             faults = faults.saturating_add(u64::from(failed));
             if has_ended {

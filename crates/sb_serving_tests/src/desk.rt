@@ -161,12 +161,7 @@ fn asked_of<Q: Abort>(rt: &Q, alloc: Global, text: &[u8], slot: Slot) -> WriteRe
 }
 
 /// The write for which the request in these bytes asks.
-fn read_from<Q: Abort, K: Ledger>(
-    rt: &Q,
-    alloc: Global,
-    bytes: &[u8],
-    blank: Blank,
-) -> WriteRequest
+fn read_from<Q: Abort, K: Ledger>(rt: &Q, alloc: Global, bytes: &[u8], blank: Blank) -> WriteRequest
     requires name { blank.name ≡ K.name }
     requires parts { blank.parts ≡ K.parts }
     requires some { 0 < blank.parts }
