@@ -39,8 +39,8 @@
 //! - A node does not end, or a node with endless rounds ends. Tests and `tools/check-node` refuse it.
 //! - A peer is dialed at another time, or news does not wake the threads that dial. Tests and
 //!   `tools/check-node` refuse it.
-//! - A thread that answers over HTTP gets the answer to another write, or a version that no log gave, or a fault although
-//!   the write was made. Tests and `tools/check-node` refuse it.
+//! - A thread that answers over HTTP gets the answer to another write, or a version that no log gave. Or it gets a fault
+//!   although the write was made. Tests and `tools/check-node` refuse it.
 //! - A thread makes up the bytes of a request, and reads them: types say that a request was read, and not from where. Tests
 //!   and `tools/check-node` refuse it.
 //! - All threads that answer over HTTP wait for writes, or fewer than may. Tests and `tools/check-node` refuse it.
