@@ -69,7 +69,6 @@ module _ {H : Type 0} (step : H → Act → H → Type 0) (seat : H → Seat) (f
     (same : (old new : H) (act : Act) → step old act new → forgets new ≡ forgets old)
     (still : (old new : H) (act : Act) → may_enter act ≡ false → step old act new → IsStill (seat old) (seat new))
     (enters : (old new : H) (blocks : List Block) (ends : List BlockEnd) → step old (applies blocks (Ok ends)) new → Enters (forgets old) blocks (seat old) (seat new)) where
-
   -- nothing is entered, and the same owners are forgotten
   abbrev Rests : H → H → Type 0
   Rests old new = (forgets new ≡ forgets old) × IsStill (seat old) (seat new)
@@ -201,7 +200,7 @@ module _ {H : Type 0} (step : H → Act → H → Type 0) (seat : H → Seat) (f
   ran a (hears m ∷ moves) said b run =
       let mid = run.2 in
       let took : TakesIn m a.handler mid.handler =
-          taken_unless (refusal_of a.session m) a.session a.handler m run.3.4.0 mid.session mid.handler run.3.4.1 in
+      taken_unless (refusal_of a.session m) a.session a.handler m run.3.4.0 mid.session mid.handler run.3.4.1 in
       let rest = ran mid moves run.1 b run.4 in (
         rest.0 ∙ took.0,
         (

@@ -9,4 +9,4 @@ abbrev pub invariant-loop : goal.invariant-loop
 invariant-loop g l =
     (l.turns.beats.beat ≡ l.self.beat) × (l.turns.purges.least ≡ running_least l.self.pace.purge_removals)
     × ((done : List Work) × WorksInTurn g.L.WriteLog.seen g.S.NodeTag.opening g.S.DirectoryTag.settings l.self.beat (running_least l.self.pace.purge_removals) done
-        (record { log = l.fn.writes.log; owed = l.fn.writes.owed; seat = l.fn.seat }) (record { log = l.writes.log; owed = l.writes.owed; seat = l.current }))
+    (record { log = l.fn.writes.log; owed = l.fn.writes.owed; seat = l.fn.seat }) (record { log = l.writes.log; owed = l.writes.owed; seat = l.current }))

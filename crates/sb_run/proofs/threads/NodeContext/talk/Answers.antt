@@ -12,15 +12,15 @@ returns-clause-entered g c =
     let heard = session_hears _ _ _ _ _ _ _ _ c.dial-ended.ensures.talks (λ h. h.inner.inner.inner) (λ h. h.forgotten.now.names.items)
     (λ old new act step. rw step.0 refl)
     (λ old new act none step.
-        forgetting_still _ _ _ _ _ _ act none step.1 _
-            (λ other none inner.
-                gated_still _ _ _ _ _ _ _ other inner.2 _
-                    (λ own. deferring-nothing _ _ IsStill (serves-nothing _ _) still-same still-on _ _ other none own.0) (λ stays. stays))
-            (λ stays. stays.2))
+    forgetting_still _ _ _ _ _ _ act none step.1 _
+    (λ other none inner.
+    gated_still _ _ _ _ _ _ _ other inner.2 _
+    (λ own. deferring-nothing _ _ IsStill (serves-nothing _ _) still-same still-on _ _ other none own.0) (λ stays. stays))
+    (λ stays. stays.2))
     (λ old new blocks ends step.
-        let inner = forgetting_applies _ _ _ _ old.inner new.inner blocks ends step.1 in
-        let gated = gated_applies _ _ _ _ _ old.inner.inner new.inner.inner _ inner.0 inner.1.2 in
-        serves_enters _ _ _ blocks _ _ inner.0 gated.0)
+    let inner = forgetting_applies _ _ _ _ old.inner new.inner blocks ends step.1 in
+    let gated = gated_applies _ _ _ _ _ old.inner.inner new.inner.inner _ inner.0 inner.1.2 in
+    serves_enters _ _ _ blocks _ _ inner.0 gated.0)
     _ _ _ refl refl refl in
     hears_at _ _ _ _ _ heard c.args.self.now.forgotten.now.names.items c.args.seat c.into_seat.result (search rules) (search rules) (search rules)
 
