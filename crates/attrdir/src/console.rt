@@ -9,7 +9,7 @@ use jiff::Timestamp;
 use sb_commands::{ABOUT_LOSS, DroppedRemovals, about_cause};
 use sb_control::{LogCause, LogLoss};
 use sb_directory::Difference;
-use sb_run::{Observer, PeerState, Status};
+use sb_run::{Observer, PeerState, Status, VersionFall};
 use sb_types::{Fault, KEYS_MOST, Name, OWNERS_MOST};
 use std::alloc::Global;
 use std::fmt;
@@ -350,6 +350,15 @@ impl Observer for Console<'_, '_> {
         let _ = eprintln!(rt;
             "{head} node {}: another node still has rows of {forgotten}, which this one forgets: see RUNBOOK, Owners used up",
             self.name
+        );
+    }
+
+    fn version_fell(&self, fall: &VersionFall) {
+        let (rt, head) = (self.rt, self.head(Level::Warning));
+        let other = str::from_utf8(fall.name.bytes()).unwrap_or("");
+        let _ = eprintln!(rt;
+            "{head} node {}: node {other} reports its version {}, and reported {} before: two nodes, or a node and an older copy of its log, have this name: see RUNBOOK, Two nodes with one name",
+            self.name, fall.version, fall.before
         );
     }
 

@@ -220,6 +220,7 @@ Each line on standard error is `attrdir: LEVEL WHAT: ..`. LEVEL is info, warning
   - that it removed a socket which a killed node left, or purged tombstones
   - that its log cannot be written, or that its file was removed or replaced
   - that another node writes under its name, or an older copy of its log
+  - that the version which another node reports of itself falls: at most once a minute for each name
   - that peers have rows of an owner which it is to forget
   - that nine tenths of its keys or owners are used, or all, and that it refuses writes for that
   - that all its workers are busy, that it turns callers away, and that sessions which others dialed fail: at most once a minute each

@@ -158,6 +158,12 @@ const NAME_CONFLICT: Metric = Metric {
     help: "1 where another node writes under its name, else 0.",
 };
 
+const VERSION_FALLS: Metric = Metric {
+    name: "attrdir_version_falls_total",
+    kind: "counter",
+    help: "Digests of other nodes with a version of themselves below one that they told long before.",
+};
+
 const CAUGHT_UP: Metric = Metric {
     name: "attrdir_caught_up",
     kind: "gauge",
@@ -408,6 +414,7 @@ impl Metrics<'_, '_> {
         self.write_one(f, &LOG_OPEN, u64::from(status.log_cause.is_none()))?;
         self.write_log_fault(f)?;
         self.write_one(f, &NAME_CONFLICT, u64::from(status.conflict.is_some()))?;
+        self.write_one(f, &VERSION_FALLS, troubles.version_falls)?;
         self.write_one(f, &CAUGHT_UP, u64::from(status.is_caught_up))
     }
 

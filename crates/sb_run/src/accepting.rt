@@ -16,6 +16,7 @@ use mio::{Events, Interest, Poll, Registry, Token};
 use sb_codec::{AskChange, Message};
 use sb_control::{ControlRequest, read_piece};
 use sb_frames::{Frames, Steps};
+use sb_handlers::Arrival;
 use sb_types::Fault;
 use std::alloc::Global;
 use std::io::Read;
@@ -64,6 +65,8 @@ struct Backlog {
     peers: WaitingList,
     callers: WaitingList,
     handover: Handover,
+    /// A moment since which nobody had connected to the peers' socket when the last accept there found nobody.
+    since: Option<u64>,
     /// The number of the last connection, above those of the sockets and the waker.
     last_number: usize,
     /// How many connections were closed before they were handed on, and how many times none could be accepted.
@@ -124,7 +127,8 @@ impl Backlog {
             _ => pace.idle,
         };
         let until = deadline_after(node.rt, patience);
-        let waiting = Waiting::new(node.alloc, number, stream, until, pace.max_reads);
+        let since = self.since;
+        let waiting = Waiting::new(node.alloc, number, stream, until, since, pace.max_reads);
         let list = match at {
             At::Sock => &mut self.peers,
             At::Control => &mut self.callers,
@@ -146,6 +150,8 @@ impl Backlog {
             At::Sock => &node.sockets.sock,
             At::Control => &node.sockets.control,
         };
+        // A connection that an accept after this moment does not find comes later.
+        let before = node.told.moment(node.rt);
         for _ in 0..ACCEPTED_AT_ONCE {
             match socket.accept() {
                 Ok(stream) => {
@@ -159,6 +165,7 @@ impl Backlog {
                 }
                 Err(error) if error.kind() == io::ErrorKind::WouldBlock => {
                     self.counts_again = None;
+                    self.note_none(at, before);
                     return Left::Nothing;
                 }
                 Err(_) => {
@@ -169,6 +176,13 @@ impl Backlog {
             }
         }
         Left::More
+    }
+
+    /// Notes that an accept at a socket found nobody, and was made after this moment.
+    fn note_none(&mut self, at: At, before: Option<u64>) {
+        if at == At::Sock && before.is_some() {
+            self.since = before;
+        }
     }
 
     /// Closes the oldest connection of the longer list. Says whether there was one.
@@ -199,9 +213,12 @@ impl Backlog {
         number: usize,
     ) -> Result<(), Fault> {
         let begun = self.peers.take_session(node.alloc, registry, number)?;
-        if let Some((came, stream)) = begun {
+        if let Some((came, stream, since)) = begun {
             let name = name_of(node.alloc, &came);
-            let given = self.handover.give_session(node.rt, name, came, stream);
+            let arrival = Arrival { name, since };
+            let given = self
+                .handover
+                .give_session(node.rt, arrival, came, stream);
             return note_given(node.counts, given);
         }
         let whole = self
@@ -329,6 +346,7 @@ impl Acceptor {
                 peers: WaitingList::new(alloc),
                 callers: WaitingList::new(alloc),
                 handover,
+                since: None,
                 last_number: WAKER_TOKEN,
                 faults: 0,
                 counts_again: None,
@@ -388,6 +406,8 @@ pub(crate) struct Waiting {
     stream: UnixStream,
     /// When it is closed; never if it has no moment.
     until: Option<Instant>,
+    /// A moment before it came, in milliseconds since the node started, if one is known.
+    since: Option<u64>,
     /// What has come of its request, if it is a caller.
     frames: Frames,
     /// How many more reads it may take.
@@ -428,22 +448,25 @@ pub(crate) fn deadline_after<Q: Clock>(clock: &Q, milliseconds: u64) -> Option<I
 }
 
 impl Waiting {
-    /// A connection of this number, which waits until then and may take so many reads.
+    /// A connection of this number that came after a moment, waits until another and may take so many reads.
     pub(crate) fn new(
         alloc: Global,
         number: usize,
         stream: UnixStream,
         until: Option<Instant>,
+        since: Option<u64>,
         max_reads: u64,
     ) -> Waiting
         ensures number { result.number ≡ number }
         ensures silent { is_silent result ≡ true }
+        ensures since { result.since ≡ since }
         ensures reads { result.left ≡ max_reads }
     {
         Waiting {
             number,
             stream,
             until,
+            since,
             frames: Frames::new(alloc),
             left: max_reads,
             came: Vec::new(alloc),
@@ -566,14 +589,15 @@ impl WaitingList {
         Ok(has_closed)
     }
 
-    /// Makes one read of the peer of this number. Gives its connection, and what has come on it, once a worker is to take it. None
-    /// if more is to come, which the registry then reports, or if no such one waits here. A fault closes it.
+    /// Makes one read of the peer of this number. Gives its connection, what has come on it, and a moment before it came, once a
+    /// worker is to take it. None if more is to come, which the registry then reports, or if no such one waits here. A fault closes
+    /// it.
     pub(crate) fn take_session(
         &mut self,
         alloc: Global,
         registry: &Registry,
         number: usize,
-    ) -> Result<Option<(Vec<u8>, UnixStream)>, Fault>
+    ) -> Result<Option<(Vec<u8>, UnixStream, Option<u64>)>, Fault>
         ensures begun { IfOk result (λ found. IfSome found (λ taken. has_begun FIRST_MOST taken.0.items ≡ true)) }
     {
         let Some(place) = place_of(&self.all, number) else {
@@ -585,8 +609,13 @@ impl WaitingList {
                 Ok(None)
             }
             Ok(true) => {
-                let Waiting { stream, came, .. } = self.all.remove(place);
-                Ok(Some((came, stream)))
+                let Waiting {
+                    stream,
+                    came,
+                    since,
+                    ..
+                } = self.all.remove(place);
+                Ok(Some((came, stream, since)))
             }
             Err(fault) => {
                 self.all.remove(place);

@@ -14,6 +14,7 @@ use crossbeam_channel::{Receiver, RecvTimeoutError, Sender, TrySendError, bounde
 use mio::net;
 use sb_codec::{Ask, Message};
 use sb_control::ControlRequest;
+use sb_handlers::Arrival;
 use sb_http::HttpWrite;
 use sb_types::{Fault, Name};
 use std::alloc::Global;
@@ -32,8 +33,8 @@ const HEARING_PAUSE: u64 = 10;
 /// What a worker is to do next.
 #[derive(Drop)]
 pub(crate) enum Job {
-    /// To serve the session of a peer that sent this. The name is known if that is a Hello.
-    Session(Option<Name>, Vec<u8>, UnixStream),
+    /// To serve the session of a peer that sent this. Its name is known if that is a Hello.
+    Session(Arrival, Vec<u8>, UnixStream),
     /// To answer a caller's question.
     Question(Ask, UnixStream),
 }
@@ -240,19 +241,19 @@ impl Handover {
         is_given
     }
 
-    /// Hands the session of a peer to the workers, with its name if that is known, and with what has come of it. `ReadFailed` if
-    /// too many wait for one, or if the connection can't be used.
+    /// Hands the session of a peer to the workers, with how its connection came, and with what has come of it. `ReadFailed` if too
+    /// many wait for one, or if the connection can't be used.
     pub(crate) fn give_session<R: Wait>(
         &mut self,
         rt: &R,
-        name: Option<Name>,
+        arrival: Arrival,
         came: Vec<u8>,
         stream: net::UnixStream,
     ) -> Result<(), Fault> {
         let Ok(stream) = blocking_stream(stream) else {
             return Err(Fault::ReadFailed);
         };
-        if self.give(rt, Job::Session(name, came, stream)) {
+        if self.give(rt, Job::Session(arrival, came, stream)) {
             Ok(())
         } else {
             Err(Fault::ReadFailed)
@@ -456,7 +457,7 @@ impl<'a, R: Clock> Arrivals<'a, R> {
     {
         let pace = &self.pace;
         match job {
-            Job::Session(name, came, stream) => {
+            Job::Session(arrival, came, stream) => {
                 let Ok(input) = stream.try_clone() else {
                     return Err(Fault::ReadFailed);
                 };
@@ -467,7 +468,8 @@ impl<'a, R: Clock> Arrivals<'a, R> {
                 let input = Cursor::new(came).chain(rest);
                 let output = Timed::new(self.rt, stream, pace.idle, pace.session);
                 let before = self.sessions.fetch_add(1, Ordering::SeqCst);
-                Ok(Taken::Session(before.saturating_add(1), name, input, output))
+                let number = before.saturating_add(1);
+                Ok(Taken::Session(number, arrival, input, output))
             }
             Job::Question(ask, stream) => {
                 if limit(&stream, pace.idle).is_err() {

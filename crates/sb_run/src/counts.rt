@@ -195,8 +195,8 @@ impl Counts {
         self.busy.busy()
     }
 
-    /// What the node suffered in so many milliseconds since it started.
-    pub(crate) fn troubles(&self, uptime: u64) -> Troubles {
+    /// What the node suffered in so many milliseconds since it started, with so many falls of versions.
+    pub(crate) fn troubles(&self, uptime: u64, version_falls: u64) -> Troubles {
         Troubles {
             session_faults: self.session_faults.load(Ordering::SeqCst),
             last_session_fault: self.last_session_fault.load(Ordering::SeqCst),
@@ -204,6 +204,7 @@ impl Counts {
             turned_away: self.turned_away.load(Ordering::SeqCst),
             full_writes: self.full_writes.load(Ordering::SeqCst),
             busy_times: self.busy.times_until(uptime),
+            version_falls,
         }
     }
 

@@ -13,6 +13,7 @@ use crate::peers::{Peer, PeerState};
 use crate::pushing::{News, push_peer};
 use crate::schedule::{Cause, NewsStep, Schedule, SessionEnd};
 use crate::threads::NodeContext;
+use crate::version_falls::report_falls;
 use core::mem::replace_with;
 use crossbeam_channel::protocol::{Free, Split};
 use crossbeam_channel::{Pass, RuledReceiver, RuledSender, bounded_with};
@@ -500,8 +501,9 @@ impl<'a> Turns<'a> {
         node.report_status(observer, counts, self.peers.as_slice(), seat)
     }
 
-    /// Publishes what there was no memory to publish before. It reports to the observer, once each, that peers have rows of an
-    /// owner to forget, and that another node writes under this node's name. It leaves the second out if an audit reported it.
+    /// Publishes what there was no memory to publish before. It reports to the observer which names told a version that falls and,
+    /// once each, that peers have rows of an owner to forget, and that another node writes under this node's name. It leaves the
+    /// last out if an audit reported it.
     fn refresh_and_report<S: RoundsTag, H: Wait + Drop, Q: Wait, O: Observer>(
         &mut self,
         node: &NodeContext<S, H, Q>,
@@ -510,6 +512,7 @@ impl<'a> Turns<'a> {
     ) {
         let _ = node.directory.refresh(node.rt, seat);
         report_forgotten(node.forgotten, observer);
+        report_falls(node.rt, node.told, observer);
         if self.is_conflict_reported || node.counts.has_difference() {
             return;
         }

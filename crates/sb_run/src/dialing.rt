@@ -11,7 +11,7 @@ use crate::sockets::{connect, limit};
 use crate::threads::NodeContext;
 use sb_directory::{ReaderSeat, SeatHandler};
 use sb_frames::{Connection, Steps};
-use sb_handlers::{Asker, DeferringHandler, ForgettingHandler, Gate, GatePoint, GatedHandler};
+use sb_handlers::{Arrival, Asker, DeferringHandler, ForgettingHandler, Gate, GatePoint, GatedHandler};
 use sb_session::{Ended, dial};
 use sb_types::{Delta, Fault, Name, OWNERS_MOST};
 use std::io;
@@ -110,7 +110,7 @@ impl<S: RoundsTag, H: Wait + Drop, Q: Wait + Clock> NodeContext<'_, S, H, Q> {
         let served = SeatHandler::new(self.rt, self.directory, seat);
         let deferring = DeferringHandler::new(served, self.rt, self.vain_offers, asker);
         let gate = DialedGate { node: self };
-        let gated = GatedHandler::new(deferring, &gate, 0);
+        let gated = GatedHandler::new(deferring, &gate, 0, Arrival::unknown());
         let mut handler = ForgettingHandler::new(gated, self.alloc, self.forgotten);
         let session = session_of(self.directory);
         let ended = dial(connection, session, &mut handler, exchanges);

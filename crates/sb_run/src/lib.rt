@@ -121,6 +121,8 @@
 //!   `tools/check-node` refuse it.
 //! - The gate of a dialed session, or that of the node, tells nobody what was entered, heard or missed. The tests of
 //!   `sb_run` and `tools/check-node` refuse it.
+//! - The moment before a connection is a later one, or that of another. A digest is not looked at, or a fall is not reported or
+//!   counted. The tests of `sb_run` and `tools/check-node` refuse it.
 //! - A peer that dials counts as one that is not known, although its Hello has its name. `tools/check-node` refuses it.
 //! - A node answers nobody over HTTP, or each question by the number of `Closed`. `tools/check-node` refuses it.
 //! - Over HTTP the owners or the metrics are a fault each time, or the metrics are others. `tools/check-node` refuses it.
@@ -170,6 +172,7 @@ mod sockets;
 mod status_reply;
 mod status_texts;
 mod threads;
+mod version_falls;
 mod watchers;
 mod write_request;
 
@@ -183,5 +186,7 @@ pub use observer::{Nobody, Observer, PushCounts, Status, Troubles};
 pub use own_writes::{OwnWrites, Stored};
 pub use peers::{DownReason, Peer, PeerState};
 pub use pool::{Pooled, Serving, Source, Taken};
-pub use sb_handlers::{ForgottenOwners, Gate, GatePoint, Open, VainOffers};
+pub use sb_handlers::{
+    Arrival, ForgottenOwners, Gate, GatePoint, Open, VainOffers, VersionFall,
+};
 pub use write_request::WriteRequest;

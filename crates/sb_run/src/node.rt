@@ -21,7 +21,7 @@ use crate::threads::{
 };
 use crate::watchers::WatcherCount;
 use sb_directory::Directory;
-use sb_handlers::{ForgottenOwners, VainOffers};
+use sb_handlers::{ForgottenOwners, ToldVersions, VainOffers};
 use sb_log::WriteLog;
 use sb_node::NodeCore;
 use sb_table::Table;
@@ -501,6 +501,7 @@ pub(crate) fn run_tagged<
     let (vain_offers, hearing) = (VainOffers::new(alloc), Mutex::new(hearing));
     let watchers = WatcherCount::new();
     let heard = HeardTimes::new(rt, alloc, directory.name());
+    let told = ToldVersions::new(rt, alloc);
     let node = NodeContext {
         rt,
         alloc,
@@ -516,6 +517,7 @@ pub(crate) fn run_tagged<
         hearing: &hearing,
         watchers: &watchers,
         heard: &heard,
+        told: &told,
         pace,
         beat: start.beat,
     };

@@ -14,10 +14,11 @@ use sb_codec::Ask;
 use sb_directory::{Directory, DirectoryTag, ReaderSeat, SeatHandler};
 use sb_frames::{Connection, Steps};
 use sb_handlers::{
-    Asker, DeferringHandler, ForgettingHandler, ForgottenOwners, Gate, GatedHandler, VainOffers,
+    Arrival, Asker, DeferringHandler, ForgettingHandler, ForgottenOwners, Gate, GatedHandler,
+    VainOffers,
 };
 use sb_session::{Session, serve};
-use sb_types::{Fault, Name};
+use sb_types::Fault;
 use std::alloc::Global;
 use std::io::{Read, Write};
 use std::marker::Brand;
@@ -30,9 +31,8 @@ use std::thread::Threads;
 /// What a worker takes from a source.
 #[derive(Drop)]
 pub enum Taken<I, O> {
-    /// The connection of a peer, as a reader and a writer. It has the number of its session, from 1, and the peer's name if that
-    /// is known.
-    Session(u64, Option<Name>, I, O),
+    /// The connection of a peer, as a reader and a writer. It has the number of its session, from 1, and how it came.
+    Session(u64, Arrival, I, O),
     /// The question of a caller, and the writer that gets its answer.
     Question(Ask, O),
 }
@@ -88,7 +88,7 @@ impl<S: DirectoryTag, H: Wait + Drop, Q: Wait> Serving<'_, S, H, Q> {
         &self,
         gate: &G,
         number: u64,
-        name: Option<Name>,
+        arrival: Arrival,
         connection: &mut Connection<I, O, K>,
         seat: ReaderSeat<S>,
     ) -> (ReaderSeat<S>, bool)
@@ -99,10 +99,10 @@ impl<S: DirectoryTag, H: Wait + Drop, Q: Wait> Serving<'_, S, H, Q> {
         ensures greets { Greets S.settings.cluster S.opening.held.me connection.old.output connection.new.output }
         ensures reads { connection.new.steps ≤ connection.old.steps + self.now.max_reads }
     {
-        let asker = name.map(Asker::Named);
+        let asker = arrival.name.map(Asker::Named);
         let served = SeatHandler::new(self.rt, self.directory, seat);
         let deferring = DeferringHandler::new(served, self.rt, self.vain_offers, asker);
-        let gated = GatedHandler::new(deferring, gate, number);
+        let gated = GatedHandler::new(deferring, gate, number, arrival);
         let mut handler = ForgettingHandler::new(gated, self.alloc, self.forgotten);
         let session = session_of(self.directory);
         let ended = serve(connection, session, &mut handler);
@@ -117,7 +117,7 @@ impl<S: DirectoryTag, H: Wait + Drop, Q: Wait> Serving<'_, S, H, Q> {
         &self,
         gate: &G,
         tally: &Tally,
-        session: (u64, Option<Name>, I, O),
+        session: (u64, Arrival, I, O),
         seat: ReaderSeat<S>,
         blank: Blank,
     ) -> ReaderSeat<S>
@@ -128,11 +128,11 @@ impl<S: DirectoryTag, H: Wait + Drop, Q: Wait> Serving<'_, S, H, Q> {
         ensures entered { HearsInput self.now.forgotten.now.names.items (I.remaining session.2) seat result }
     {
         tally.sessions.fetch_add(1, Ordering::SeqCst);
-        let (number, name, input, output) = session;
+        let (number, arrival, input, output) = session;
         let max_reads = self.max_reads;
         let steps = Steps::<K>::new(blank);
         let mut connection = Connection::new(self.alloc, input, output, max_reads, steps);
-        let (seat, failed) = self.serve_session(gate, number, name, &mut connection, seat);
+        let (seat, failed) = self.serve_session(gate, number, arrival, &mut connection, seat);
         if failed {
             tally.faults.fetch_add(1, Ordering::SeqCst);
         }
@@ -173,11 +173,11 @@ impl<S: DirectoryTag, H: Wait + Drop, Q: Wait> Serving<'_, S, H, Q> {
         ensures entered { ServesOnly self.now.forgotten.now.names.items (X.gives source.now) seat result }
     {
         match taken {
-            Taken::Session(number, name, input, output) => {
+            Taken::Session(number, arrival, input, output) => {
                 self.serve_counted::<X::In, X::Out, G, Brand>(
                     gate,
                     tally,
-                    (number, name, input, output),
+                    (number, arrival, input, output),
                     seat,
                     Blank::new(1),
                 )

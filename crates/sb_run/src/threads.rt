@@ -21,8 +21,9 @@ use crate::pool::{Pooled, Serving};
 use crate::sockets::BoundSockets;
 use crate::watchers::WatcherCount;
 use sb_control::LogCause;
+use sb_digest::Digest;
 use sb_directory::{Directory, DirectoryTag, ReaderSeat};
-use sb_handlers::{ForgottenOwners, Gate, GatePoint, VainOffers};
+use sb_handlers::{Arrival, ForgottenOwners, Gate, GatePoint, ToldVersions, VainOffers};
 use sb_log::{StoreCause, WriteLog};
 use sb_session::Ended;
 use sb_types::{Delta, Fault, Name};
@@ -544,6 +545,8 @@ pub(crate) struct NodeContext<'a, S: RoundsTag, H: Wait + Drop, Q> {
     pub(crate) hearing: &'a Mutex<FirstHearing>,
     pub(crate) watchers: &'a WatcherCount,
     pub(crate) heard: &'a HeardTimes,
+    /// What version other nodes told of themselves.
+    pub(crate) told: &'a ToldVersions,
     pub(crate) pace: Pace,
     /// How the node shows that it lives, if it does.
     pub(crate) beat: Option<Beat>,
@@ -660,8 +663,8 @@ impl<S: RoundsTag, H: Wait + Drop, Q> NodeContext<'_, S, H, Q> {
     }
 }
 
-/// A gate that turns nobody away, counts each session, its fault and each gap. If a session brings something new, it rings the bell,
-/// and those who wait for a change hear of it.
+/// A gate that turns nobody away, counts each session, its fault and each gap, and takes what digests tell of their senders. If a
+/// session brings something new, it rings the bell, and those who wait for a change hear of it.
 #[derive(Drop)]
 pub(crate) struct NodeGate<'a, 'b, S: RoundsTag, H: Wait + Drop, Q> {
     pub(crate) node: &'a NodeContext<'b, S, H, Q>,
@@ -675,6 +678,10 @@ impl<S: RoundsTag, H: Wait + Drop, Q: Wait + Clock> Gate for NodeGate<'_, '_, S,
 
     fn pass(&self, _session: u64, _point: GatePoint) -> bool {
         true
+    }
+
+    fn told(&self, arrival: &Arrival, theirs: &Digest) {
+        self.node.told.hear(self.node.rt, arrival, theirs);
     }
 
     fn entered(&self, delta: &Delta) {

@@ -5,7 +5,7 @@ use crate::making::{key, name, new_node};
 use crate::{got, same};
 use sb_directory::{Directory, DirectoryTag, ReaderSeat};
 use sb_node::NodeCore;
-use sb_run::{ForgottenOwners, Open, Serving, Source, Taken, VainOffers};
+use sb_run::{Arrival, ForgottenOwners, Open, Serving, Source, Taken, VainOffers};
 use sb_testing::delta_of_write;
 use sb_types::{Entry, Fault, Name, Slot, Value};
 use sb_views::NewHistory;
@@ -78,7 +78,11 @@ impl<'a, R: Wait + Sync> Source for Askers<'a, R> {
             rt: self.rt,
             heard: self.heard,
         };
-        Some(Ok(Taken::Session(1, Name::read(&[name]).ok(), ASKING, ear)))
+        let arrival = Arrival {
+            name: Name::read(&[name]).ok(),
+            since: None,
+        };
+        Some(Ok(Taken::Session(1, arrival, ASKING, ear)))
     }
 }
 

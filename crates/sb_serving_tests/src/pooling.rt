@@ -5,7 +5,9 @@ use crate::making::new_node;
 use crate::{got, same};
 use sb_directory::{Directory, DirectoryTag, ReaderSeat};
 use sb_node::NodeCore;
-use sb_run::{ForgottenOwners, Gate, GatePoint, Pooled, Serving, Source, Taken, VainOffers};
+use sb_run::{
+    Arrival, ForgottenOwners, Gate, GatePoint, Pooled, Serving, Source, Taken, VainOffers,
+};
 use sb_types::Fault;
 use sb_views::NewHistory;
 use std::alloc::Global;
@@ -57,8 +59,8 @@ impl Source for Peers {
             return Some(Err(Fault::ReadFailed));
         }
         match asked - self.lost {
-            0 => Some(Ok(Taken::Session(1, None, TELLING, writer))),
-            1 => Some(Ok(Taken::Session(2, None, ASKING, writer))),
+            0 => Some(Ok(Taken::Session(1, Arrival::unknown(), TELLING, writer))),
+            1 => Some(Ok(Taken::Session(2, Arrival::unknown(), ASKING, writer))),
             _ => None,
         }
     }

@@ -1,0 +1,16 @@
+//! Nodes that tell a version of themselves below one that they told long before.
+
+use crate::observer::Observer;
+use sb_handlers::ToldVersions;
+use sb_types::OWNERS_MOST;
+use std::sync::Wait;
+
+/// Reports to the observer the falls that are to be reported: of as many names, at most, as may be known.
+pub(crate) fn report_falls<R: Wait, O: Observer>(rt: &R, told: &ToldVersions, observer: &O) {
+    for _ in 0..OWNERS_MOST {
+        match told.take_fall(rt) {
+            Some(fall) => observer.version_fell(&fall),
+            None => return,
+        }
+    }
+}
