@@ -1,0 +1,338 @@
+//! What version each node tells of itself in its digests, and whether that falls.
+ghost use Rattle.std.specs.Prelude.{◌≡◌, ◌++◌, ◌∷◌, [], map, position, vec_len, ◌≤◌};
+ghost use Rattle.sb_types.specs.declared.limits.TheConstants.{OWNERS_MOST};
+ghost use Rattle.sb_handlers.specs.ToldVersions as spec;
+
+use sb_digest::Digest;
+use sb_types::{Name, OWNERS_MOST};
+use std::alloc::Global;
+use std::sync::{Mutex, Wait};
+use std::time::{Clock, Instant};
+
+/// How long before its connection came a digest may have been made, in milliseconds. Where a `socat` carries connections to
+/// another host, the peer may be connected to it, and speak, before the connection comes.
+const LATE_MOST: u64 = 10_000;
+
+/// After how many milliseconds another fall of the same name is to be reported.
+const REPORT_INTERVAL: u64 = 60_000;
+
+/// How the connection of a peer came. A moment is in milliseconds since the node started.
+#[derive(Clone, Copy, Debug, PartialEq, Eq)]
+pub struct Arrival {
+    /// The name in the peer's Hello, if that is known.
+    pub name: Option<Name>,
+    /// A moment before the connection came, if one is known.
+    pub since: Option<u64>,
+}
+
+impl Arrival {
+    /// A connection of which nothing is known.
+    pub fn unknown() -> Arrival
+        ensures { result ≡ spec.unknown_arrival }
+    {
+        Arrival {
+            name: None,
+            since: None,
+        }
+    }
+}
+
+/// That a node told a version of itself below one that it told long before. So two logs have its name.
+#[derive(Clone, Copy, Debug, PartialEq, Eq)]
+pub struct VersionFall {
+    pub name: Name,
+    /// The version that it told now.
+    pub version: u64,
+    /// The greater one that it told before.
+    pub before: u64,
+}
+
+/// A digest that was read: the version that it tells of its sender, a moment before its connection came, and that at which it was
+/// read.
+#[derive(Clone, Copy)]
+struct Reading {
+    name: Name,
+    version: u64,
+    since: u64,
+    at: u64,
+}
+
+/// A version that had been told by this moment.
+#[derive(Clone, Copy)]
+struct Telling {
+    version: u64,
+    at: u64,
+}
+
+/// What a node told of itself.
+#[derive(Clone, Copy)]
+struct Teller {
+    name: Name,
+    /// The greatest version so far.
+    most: u64,
+    /// The greatest version at two moments, the second long after the first.
+    older: Telling,
+    newer: Telling,
+    /// A fall that is to be reported.
+    fall: Option<VersionFall>,
+    /// When the last fall was found that is or was to be reported.
+    found: Option<u64>,
+}
+
+/// Whether a digest begins with this name, and has one pair at most.
+fn is_of_one(theirs: &Digest, name: &Name) -> bool
+    ensures { result ≡ spec.is_of_one theirs.now name.now }
+{
+    match theirs.from() {
+        Some(from) => from == *name && theirs.pairs().len() <= 1,
+        None => false,
+    }
+}
+
+/// The version that a digest tells of its sender. None if it has none above 0, or if it is a digest of the sender alone. Such ones
+/// an audit sends, and they tell what came of it.
+fn told_by(theirs: &Digest, name: &Name) -> Option<u64>
+    ensures { result ≡ spec.told_by theirs.now name.now }
+{
+    let held = theirs.start(name, 0, u64::MAX).after;
+    if held == 0 || is_of_one(theirs, name) {
+        None
+    } else {
+        Some(held)
+    }
+}
+
+impl Telling {
+    /// Whether it is long before a moment.
+    fn is_long_before(&self, moment: u64) -> bool
+        ensures { result ≡ spec.is_long_before self.now moment }
+    {
+        moment.saturating_sub(self.at) > LATE_MOST
+    }
+
+    /// Whether a digest tells less than was told long before its connection came.
+    fn is_above(&self, reading: &Reading) -> bool
+        ensures { result ≡ spec.is_above self.now reading.now }
+    {
+        self.is_long_before(reading.since) && reading.version < self.version
+    }
+}
+
+impl Teller {
+    /// A node of which this digest is the first.
+    fn new(reading: &Reading) -> Teller
+        ensures { result ≡ spec.new_teller reading.now }
+    {
+        let first = Telling {
+            version: reading.version,
+            at: reading.at,
+        };
+        Teller {
+            name: reading.name,
+            most: reading.version,
+            older: first,
+            newer: first,
+            fall: None,
+            found: None,
+        }
+    }
+
+    /// The greatest version that is sure to have been told before what a digest tells, if that is less. None if it is not.
+    fn fall_in(&self, reading: &Reading) -> Option<VersionFall>
+        ensures { result ≡ spec.fall_in self.now reading.now }
+    {
+        let before = if self.newer.is_above(reading) {
+            self.newer.version
+        } else if self.older.is_above(reading) {
+            self.older.version
+        } else {
+            return None;
+        };
+        Some(VersionFall {
+            name: self.name,
+            version: reading.version,
+            before,
+        })
+    }
+
+    /// Whether a fall that is found now is to be reported.
+    fn is_due(&self, now: u64) -> bool
+        ensures { result ≡ spec.is_due self.now.found now }
+    {
+        match self.found {
+            Some(found) => now.saturating_sub(found) >= REPORT_INTERVAL,
+            None => true,
+        }
+    }
+
+    /// Notes what a digest tells.
+    fn note_version(&mut self, reading: &Reading)
+        ensures { self.new ≡ spec.with_version reading.now self.old }
+    {
+        self.most = self.most.max(reading.version);
+        if self.newer.is_long_before(reading.at) {
+            self.older = self.newer;
+            self.newer = Telling {
+                version: self.most,
+                at: reading.at,
+            };
+        }
+    }
+
+    /// Notes the fall in what a digest tells, if there is one and it is to be reported.
+    fn note_fall(&mut self, reading: &Reading)
+        ensures { self.new ≡ spec.with_fall reading.now self.old }
+    {
+        let fall = self.fall_in(reading);
+        if fall.is_some() && self.is_due(reading.at) {
+            self.fall = fall;
+            self.found = Some(reading.at);
+        }
+    }
+
+    /// Takes what a digest tells, if it is of this node.
+    fn hear(&mut self, reading: &Reading)
+        ensures { self.new ≡ spec.hears reading.now self.old }
+    {
+        if self.name == reading.name {
+            self.note_fall(reading);
+            self.note_version(reading);
+        }
+    }
+}
+
+/// Whether a node of this name told anything.
+fn is_known(all: &[Teller], name: &Name) -> bool
+    ensures { result ≡ spec.is_known all.now name.now }
+{
+    all.iter().any(|teller| teller.name == *name)
+}
+
+/// Whether a digest tells less than its sender is sure to have told before.
+fn is_fall(all: &[Teller], reading: &Reading) -> bool
+    ensures { result ≡ spec.is_fall all.now reading.now }
+{
+    all.iter()
+        .any(|teller| teller.name == reading.name && teller.fall_in(reading).is_some())
+}
+
+/// Has each take what a digest tells.
+fn hear_all(all: &mut [Teller], reading: &Reading)
+    ensures { all.new ≡ map (spec.hears reading.now) all.old }
+{
+    for teller in all.iter_mut() {
+        teller.hear(reading);
+    }
+}
+
+/// The place of the first with a fall that is to be reported.
+fn place_of_fall(all: &[Teller]) -> Option<usize>
+    ensures { result ≡ position spec.has_fall all.now }
+{
+    all.iter().position(|teller| teller.fall.is_some())
+}
+
+/// What nodes told of themselves, and how many times a version fell.
+#[derive(Drop)]
+struct Tellers {
+    all: Vec<Teller>,
+    falls: u64,
+    ghost bounded: { vec_len all ≤ OWNERS_MOST },
+}
+
+impl Tellers {
+    /// Nobody told anything. It takes no memory.
+    fn new(alloc: Global) -> Tellers
+        ensures { (result.all.items ≡ []) × (result.falls ≡ 0) }
+    {
+        Tellers {
+            all: Vec::new(alloc),
+            falls: 0,
+        }
+    }
+
+    /// Takes what a digest tells. A node is not noted if there is no memory for it, or if as many are known as may be.
+    fn hear(&mut self, reading: &Reading)
+        ensures falls { self.new.falls ≡ spec.falls_after self.old.falls self.old.all.items reading.now }
+        ensures heard { spec.IsHeard self.old.all.items reading.now self.new.all.items }
+    {
+        if is_fall(&self.all, reading) {
+            self.falls = self.falls.saturating_add(1);
+        }
+        let is_known = is_known(&self.all, &reading.name);
+        hear_all(&mut self.all, reading);
+        if !is_known && self.all.len() < OWNERS_MOST {
+            let _ = self.all.push(Teller::new(reading));
+        }
+    }
+
+    /// Takes the first fall that is to be reported.
+    fn take_fall(&mut self) -> Option<VersionFall>
+        ensures taken { spec.IsFallTaken self.old.all.items result self.new.all.items }
+        ensures falls { self.new.falls ≡ self.old.falls }
+    {
+        let place = place_of_fall(&self.all)?;
+        let teller = &mut self.all[place];
+        let fall = teller.fall;
+        teller.fall = None;
+        fall
+    }
+}
+
+/// What version each node told of itself, for the threads of a node.
+#[derive(Drop)]
+pub struct ToldVersions {
+    /// When the node started; none if the clock could not be read.
+    started: Option<Instant>,
+    tellers: Mutex<Tellers>,
+}
+
+impl ToldVersions {
+    /// Nobody told anything, and the node starts now. It takes no memory.
+    pub fn new<Q: Clock>(clock: &Q, alloc: Global) -> ToldVersions {
+        ToldVersions {
+            started: Instant::now(clock).ok(),
+            tellers: Mutex::new(Tellers::new(alloc)),
+        }
+    }
+
+    /// How many milliseconds ago the node started. None if the clock cannot be read.
+    pub fn moment<Q: Clock>(&self, clock: &Q) -> Option<u64> {
+        match (self.started, Instant::now(clock)) {
+            (Some(started), Ok(now)) => {
+                u64::try_from(now.saturating_duration_since(started).as_millis()).ok()
+            }
+            _ => None,
+        }
+    }
+
+    /// Takes what a digest tells that was read now.
+    pub fn hear<Q: Wait + Clock>(&self, rt: &Q, arrival: &Arrival, theirs: &Digest) {
+        let (Some(name), Some(since)) = (arrival.name, arrival.since) else {
+            return;
+        };
+        let Some(version) = told_by(theirs, &name) else {
+            return;
+        };
+        let mut tellers = self.tellers.lock(rt);
+        // Under the lock, so that moments never go back.
+        if let Some(at) = self.moment(rt) {
+            tellers.hear(&Reading {
+                name,
+                version,
+                since,
+                at,
+            });
+        }
+    }
+
+    /// A fall that is to be reported, once. Each name has one in a minute at most.
+    pub fn take_fall<Q: Wait>(&self, rt: &Q) -> Option<VersionFall> {
+        self.tellers.lock(rt).take_fall()
+    }
+
+    /// How many digests told less than their sender had told before.
+    pub fn falls<Q: Wait>(&self, rt: &Q) -> u64 {
+        self.tellers.lock(rt).falls
+    }
+}
