@@ -161,7 +161,7 @@ const NAME_CONFLICT: Metric = Metric {
 const VERSION_FALLS: Metric = Metric {
     name: "attrdir_version_falls_total",
     kind: "counter",
-    help: "Digests of other nodes with a version of themselves below one that they told long before.",
+    help: "Digests of other nodes with a version of themselves below one that they reported long before.",
 };
 
 const CAUGHT_UP: Metric = Metric {

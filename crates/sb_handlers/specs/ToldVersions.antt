@@ -1,4 +1,4 @@
--- What version a node tells of itself, and whether that falls. Moments are numbers of milliseconds.
+-- What version a node reports of itself, and whether that falls. Moments are numbers of milliseconds.
 use Rattle.std.specs.Prelude.{◌≡◌, ◌⊎◌, ℕ, ◌+◌, ◌-◌, ◌≤◌, ◌<◌, ◌^◌, Bool, true, false, ◌&&◌, ◌||◌, if◌then◌else◌, List, [], ◌∷◌, ◌++◌, map, length, position, slice_set, slice_index_or, nat_eq, nat_le, nat_lt, max, min, Option, Some, None, is_some}
 use Rattle.std.specs.List.{list_any}
 use Rattle.std.specs.Cmp.Lexicographic.{pointwise}
@@ -23,14 +23,14 @@ begins_with (Some from) name = pointwise nat_eq from name
 abbrev pub is_of_one : Digest → List ℕ → Bool
 is_of_one digest name = begins_with digest.from name && nat_le (length digest.pairs) 1
 
--- the version that the digest tells of the node of this name that sent it
+-- the version that the digest reports of the node of this name that sent it
 abbrev pub told_by : Digest → List ℕ → Option ℕ
 told_by digest name = if nat_eq (held_in digest name) 0 || is_of_one digest name then None else Some (held_in digest name)
 
 abbrev pub is_long_before : Telling → ℕ → Bool
 is_long_before t moment = nat_lt LATE_MOST (moment - t.at)
 
--- the digest tells less than was told long before its connection came
+-- the digest reports less than was reported long before its connection came
 abbrev pub is_above : Telling → Reading → Bool
 is_above t r = is_long_before t r.since && nat_lt r.version t.version
 
@@ -43,7 +43,7 @@ new_teller r = record { name = r.name; most = r.version; older = telling_of r; n
 abbrev pub fall_of : Teller → Reading → ℕ → VersionFall
 fall_of t r before = record { name = t.name; version = r.version; before = before }
 
--- the fall in what the digest tells of the node
+-- the fall in what the digest reports of the node
 abbrev pub fall_in : Teller → Reading → Option VersionFall
 fall_in t r =
     if is_above t.newer r then Some (fall_of t r t.newer.version) else
@@ -89,7 +89,7 @@ has_fall t = is_some t.fall
 abbrev pub falls_after : ℕ → List Teller → Reading → ℕ
 falls_after falls all r = if is_fall all r then min (falls + 1) (2 ^ 64 - 1) else falls
 
--- what nodes told once the digest was read; a new name is added, or there is no room or no memory for it
+-- what nodes reported once the digest was read; a new name is added, or there is no room or no memory for it
 abbrev pub IsHeard : List Teller → Reading → List Teller → Type 0
 IsHeard old r new = (new ≡ map (hears r) old)
     ⊎ ((is_known old r.name ≡ false) × (new ≡ map (hears r) old ++ new_teller r ∷ []))
@@ -97,7 +97,7 @@ IsHeard old r new = (new ≡ map (hears r) old)
 abbrev pub without_fall : Teller → Teller
 without_fall t = record { name = t.name; most = t.most; older = t.older; newer = t.newer; fall = None; found = t.found }
 
--- the first fall that is to be reported is to be reported no more
+-- the first fall that is due is due no more
 abbrev pub IsFallTaken : List Teller → Option VersionFall → List Teller → Type 0
 IsFallTaken old None new = (position has_fall old ≡ None) × (new ≡ old)
 IsFallTaken old (Some fall) new = (place : ℕ) × (one : Teller)
@@ -119,7 +119,7 @@ pub record Made : Type 0 where
   pub made : ℕ
 
 -- digests that were read as they were made by nodes of one log each: read after they were made; made no longer before their connection came than
--- a connection may be late; and of two with one name, the one that was made later tells no less
+-- a connection may be late; and of two with one name, the one that was made later reports no less
 pub record AreOfOneLogEach (digests : List Made) : Type 0 where
   pub order : AreInOrder 0 (map (λ d. d.reading) digests)
   pub read : (d : Made) → Stands digests d → d.made ≤ d.reading.at

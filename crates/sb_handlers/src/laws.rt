@@ -6,16 +6,15 @@ ghost use Rattle.sb_handlers.specs.declared.told_versions.Reading.{Reading};
 ghost use Rattle.sb_handlers.specs.declared.told_versions.Teller.{Teller};
 ghost use Rattle.sb_handlers.specs.ToldVersions.{Made, AreOfOneLogEach, Reads, takes, takes_all, fall_in, AreInOrder, AreReadBy};
 
-/// Say each name has one log, whose version never falls. Then no digest is a fall, however many nodes there are, however their
-/// sessions overlap, and also if memory is missing now and then. This holds if no connection comes later than `LATE_MOST` after
-/// its digest was made.
+/// Say each name has one log, whose version never falls. Say also that no connection comes later than `LATE_MOST` after its
+/// digest was made. Then no digest is a fall, however the sessions overlap, and also if memory is missing now and then.
 pub fn nothing_is_reported_of_one_log()
     ensures { (digests : List Made) (all : List Teller) (falls : ℕ) → AreOfOneLogEach digests → Reads (map (λ d. d.reading) digests) [] 0 all falls →
         (falls ≡ 0) × ((t : Teller) → Stands all t → t.fall ≡ None) }
 {}
 
-/// Say a node told a version until a moment, and told anything more than `LATE_MOST` after that. Then a digest of its name
-/// with a lower version is a fall if its connection came more than `LATE_MOST` later, and after all that was read before.
+/// Say a node reported a version by a moment, and reported anything more than `LATE_MOST` after that. Say a connection came more
+/// than `LATE_MOST` later, and after all that was read of that name. Then a digest there with a lower version is a fall.
 pub fn told_versions_are_found()
     ensures { (t : Teller) (version moment : ℕ) (between after : List Reading) (again r : Reading) →
         version ≤ t.most → t.newer.at ≤ moment → AreInOrder moment (between ++ again ∷ after) →

@@ -1,9 +1,9 @@
-//! What is around the handler of a session: a gate that it passes, owners that its node forgets, and offers in vain. Also what
-//! version each node tells of itself.
+//! What is around the handler of a session: a gate that it passes, owners that its node forgets, and offers in vain. Also the
+//! version that each node reports of itself.
 //!
 //! Each is a `Handler` that passes the calls of a session on to the one inside. `GatedHandler` asks a `Gate` whether the session
 //! may go on. `ForgettingHandler` leaves out the blocks of `ForgottenOwners`. `DeferringHandler` first offers what was not offered
-//! in vain, as `VainOffers` has it. A gate hears of each digest, and `ToldVersions` finds out of these that a version falls.
+//! in vain, as `VainOffers` has it. A gate hears of each digest, and `ToldVersions` finds that a version falls.
 //!
 //! ```rust
 //! /// A gate that holds session 1 before it applies a delta, until session 2 has answered a digest. It holds it for at
@@ -51,10 +51,10 @@
 //!   `tools/check-node` refuse it.
 //! - `ForgottenOwners::take_sighting` is true of an owner whose rows no peer had, never, or again and again. The tests of
 //!   `sb_run` and `tools/check-node` refuse it.
-//! - `GatedHandler` reports nothing to its gate of what was told, entered, missed or heard. The tests of `sb_run` and
+//! - `GatedHandler` reports to its gate no digest, or nothing of what was entered, missed or heard. The tests of `sb_run` and
 //!   `tools/check-node` refuse it.
-//! - `ToldVersions` takes nothing of what a digest tells, takes another moment, or gives another fall than one of its own. The
-//!   tests of `sb_run` and `tools/check-node` refuse it.
+//! - `ToldVersions` takes nothing of a digest, takes another moment, or returns another fall than one of its own. The tests of
+//!   `sb_run` and `tools/check-node` refuse it.
 #![tactic(auto)]
 
 mod forgetting;

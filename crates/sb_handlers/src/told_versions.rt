@@ -1,4 +1,4 @@
-//! What version each node tells of itself in its digests, and whether that falls.
+//! What version each node reports of itself in its digests, and whether that falls.
 ghost use Rattle.std.specs.Prelude.{◌≡◌, ◌++◌, ◌∷◌, [], map, position, vec_len, ◌≤◌};
 ghost use Rattle.sb_types.specs.declared.limits.TheConstants.{OWNERS_MOST};
 ghost use Rattle.sb_handlers.specs.ToldVersions as spec;
@@ -9,11 +9,11 @@ use std::alloc::Global;
 use std::sync::{Mutex, Wait};
 use std::time::{Clock, Instant};
 
-/// How long before its connection came a digest may have been made, in milliseconds. Where a `socat` carries connections to
-/// another host, the peer may be connected to it, and speak, before the connection comes.
+/// How long after its first digest was made a connection may come, in milliseconds. A `socat` can take a connection of a peer
+/// before it makes one to this node.
 const LATE_MOST: u64 = 10_000;
 
-/// After how many milliseconds another fall of the same name is to be reported.
+/// After how many milliseconds another fall of the same name is due.
 const REPORT_INTERVAL: u64 = 60_000;
 
 /// How the connection of a peer came. A moment is in milliseconds since the node started.
@@ -26,7 +26,7 @@ pub struct Arrival {
 }
 
 impl Arrival {
-    /// A connection of which nothing is known.
+    /// A connection about which nothing is known.
     pub fn unknown() -> Arrival
         ensures { result ≡ spec.unknown_arrival }
     {
@@ -37,18 +37,18 @@ impl Arrival {
     }
 }
 
-/// That a node told a version of itself below one that it told long before. So two logs have its name.
+/// A node reported a version of itself below one that it reported long before. So two logs have its name.
 #[derive(Clone, Copy, Debug, PartialEq, Eq)]
 pub struct VersionFall {
     pub name: Name,
-    /// The version that it told now.
+    /// The version that it reported now.
     pub version: u64,
-    /// The greater one that it told before.
+    /// The greater one that it reported before.
     pub before: u64,
 }
 
-/// A digest that was read: the version that it tells of its sender, a moment before its connection came, and that at which it was
-/// read.
+/// A digest that was read: the version that it reports of its sender. Of the two moments one is before its connection came, and
+/// it was read at the other.
 #[derive(Clone, Copy)]
 struct Reading {
     name: Name,
@@ -57,14 +57,14 @@ struct Reading {
     at: u64,
 }
 
-/// A version that had been told by this moment.
+/// A version that was reported by this moment.
 #[derive(Clone, Copy)]
 struct Telling {
     version: u64,
     at: u64,
 }
 
-/// What a node told of itself.
+/// What a node reported of itself.
 #[derive(Clone, Copy)]
 struct Teller {
     name: Name,
@@ -73,9 +73,9 @@ struct Teller {
     /// The greatest version at two moments, the second long after the first.
     older: Telling,
     newer: Telling,
-    /// A fall that is to be reported.
+    /// A fall that is due, and that the observer does not know yet.
     fall: Option<VersionFall>,
-    /// When the last fall was found that is or was to be reported.
+    /// When the last fall was found that is or was due.
     found: Option<u64>,
 }
 
@@ -89,8 +89,8 @@ fn is_of_one(theirs: &Digest, name: &Name) -> bool
     }
 }
 
-/// The version that a digest tells of its sender. None if it has none above 0, or if it is a digest of the sender alone. Such ones
-/// an audit sends, and they tell what came of it.
+/// The version that a digest reports of its sender. None if that is 0, or if the digest is of the sender alone. An audit sends such
+/// ones, which report how far it came.
 fn told_by(theirs: &Digest, name: &Name) -> Option<u64>
     ensures { result ≡ spec.told_by theirs.now name.now }
 {
@@ -110,7 +110,7 @@ impl Telling {
         moment.saturating_sub(self.at) > LATE_MOST
     }
 
-    /// Whether a digest tells less than was told long before its connection came.
+    /// Whether a digest reports less than was reported long before its connection came.
     fn is_above(&self, reading: &Reading) -> bool
         ensures { result ≡ spec.is_above self.now reading.now }
     {
@@ -119,7 +119,7 @@ impl Telling {
 }
 
 impl Teller {
-    /// A node of which this digest is the first.
+    /// A node whose first digest is this one.
     fn new(reading: &Reading) -> Teller
         ensures { result ≡ spec.new_teller reading.now }
     {
@@ -137,7 +137,7 @@ impl Teller {
         }
     }
 
-    /// The greatest version that is sure to have been told before what a digest tells, if that is less. None if it is not.
+    /// The fall in what a digest reports of this node, if more was reported long before.
     fn fall_in(&self, reading: &Reading) -> Option<VersionFall>
         ensures { result ≡ spec.fall_in self.now reading.now }
     {
@@ -155,7 +155,7 @@ impl Teller {
         })
     }
 
-    /// Whether a fall that is found now is to be reported.
+    /// Whether a fall that is found now is due.
     fn is_due(&self, now: u64) -> bool
         ensures { result ≡ spec.is_due self.now.found now }
     {
@@ -165,7 +165,7 @@ impl Teller {
         }
     }
 
-    /// Notes what a digest tells.
+    /// Notes the version that a digest reports.
     fn note_version(&mut self, reading: &Reading)
         ensures { self.new ≡ spec.with_version reading.now self.old }
     {
@@ -179,7 +179,7 @@ impl Teller {
         }
     }
 
-    /// Notes the fall in what a digest tells, if there is one and it is to be reported.
+    /// Notes the fall in what a digest reports, if there is one and it is due.
     fn note_fall(&mut self, reading: &Reading)
         ensures { self.new ≡ spec.with_fall reading.now self.old }
     {
@@ -190,7 +190,7 @@ impl Teller {
         }
     }
 
-    /// Takes what a digest tells, if it is of this node.
+    /// Takes what a digest reports, if it is of this node.
     fn hear(&mut self, reading: &Reading)
         ensures { self.new ≡ spec.hears reading.now self.old }
     {
@@ -201,14 +201,14 @@ impl Teller {
     }
 }
 
-/// Whether a node of this name told anything.
+/// Whether a node of this name reported anything.
 fn is_known(all: &[Teller], name: &Name) -> bool
     ensures { result ≡ spec.is_known all.now name.now }
 {
     all.iter().any(|teller| teller.name == *name)
 }
 
-/// Whether a digest tells less than its sender is sure to have told before.
+/// Whether a digest reports less than its sender reported long before.
 fn is_fall(all: &[Teller], reading: &Reading) -> bool
     ensures { result ≡ spec.is_fall all.now reading.now }
 {
@@ -216,7 +216,7 @@ fn is_fall(all: &[Teller], reading: &Reading) -> bool
         .any(|teller| teller.name == reading.name && teller.fall_in(reading).is_some())
 }
 
-/// Has each take what a digest tells.
+/// Has each take what a digest reports.
 fn hear_all(all: &mut [Teller], reading: &Reading)
     ensures { all.new ≡ map (spec.hears reading.now) all.old }
 {
@@ -225,14 +225,14 @@ fn hear_all(all: &mut [Teller], reading: &Reading)
     }
 }
 
-/// The place of the first with a fall that is to be reported.
+/// The place of the first with a fall that is due.
 fn place_of_fall(all: &[Teller]) -> Option<usize>
     ensures { result ≡ position spec.has_fall all.now }
 {
     all.iter().position(|teller| teller.fall.is_some())
 }
 
-/// What nodes told of themselves, and how many times a version fell.
+/// What nodes reported of themselves, and how many times a version fell.
 #[derive(Drop)]
 struct Tellers {
     all: Vec<Teller>,
@@ -241,7 +241,7 @@ struct Tellers {
 }
 
 impl Tellers {
-    /// Nobody told anything. It takes no memory.
+    /// Nobody reported anything. It takes no memory.
     fn new(alloc: Global) -> Tellers
         ensures { (result.all.items ≡ []) × (result.falls ≡ 0) }
     {
@@ -251,7 +251,7 @@ impl Tellers {
         }
     }
 
-    /// Takes what a digest tells. A node is not noted if there is no memory for it, or if as many are known as may be.
+    /// Takes what a digest reports. A node is not noted if there is no memory for it, or if as many are known as may be.
     fn hear(&mut self, reading: &Reading)
         ensures falls { self.new.falls ≡ spec.falls_after self.old.falls self.old.all.items reading.now }
         ensures heard { spec.IsHeard self.old.all.items reading.now self.new.all.items }
@@ -266,7 +266,7 @@ impl Tellers {
         }
     }
 
-    /// Takes the first fall that is to be reported.
+    /// Takes the first fall that is due.
     fn take_fall(&mut self) -> Option<VersionFall>
         ensures taken { spec.IsFallTaken self.old.all.items result self.new.all.items }
         ensures falls { self.new.falls ≡ self.old.falls }
@@ -279,7 +279,7 @@ impl Tellers {
     }
 }
 
-/// What version each node told of itself, for the threads of a node.
+/// What version each node reported of itself, for the threads of a node.
 #[derive(Drop)]
 pub struct ToldVersions {
     /// When the node started; none if the clock could not be read.
@@ -288,7 +288,7 @@ pub struct ToldVersions {
 }
 
 impl ToldVersions {
-    /// Nobody told anything, and the node starts now. It takes no memory.
+    /// Nobody reported anything, and the node starts now. It takes no memory.
     pub fn new<Q: Clock>(clock: &Q, alloc: Global) -> ToldVersions {
         ToldVersions {
             started: Instant::now(clock).ok(),
@@ -306,7 +306,7 @@ impl ToldVersions {
         }
     }
 
-    /// Takes what a digest tells that was read now.
+    /// Takes what a digest reports that was read now.
     pub fn hear<Q: Wait + Clock>(&self, rt: &Q, arrival: &Arrival, theirs: &Digest) {
         let (Some(name), Some(since)) = (arrival.name, arrival.since) else {
             return;
@@ -326,12 +326,12 @@ impl ToldVersions {
         }
     }
 
-    /// A fall that is to be reported, once. Each name has one in a minute at most.
+    /// A fall that is due, once. Each name has one in a minute at most.
     pub fn take_fall<Q: Wait>(&self, rt: &Q) -> Option<VersionFall> {
         self.tellers.lock(rt).take_fall()
     }
 
-    /// How many digests told less than their sender had told before.
+    /// How many digests reported less than their sender had reported long before.
     pub fn falls<Q: Wait>(&self, rt: &Q) -> u64 {
         self.tellers.lock(rt).falls
     }

@@ -501,9 +501,9 @@ impl<'a> Turns<'a> {
         node.report_status(observer, counts, self.peers.as_slice(), seat)
     }
 
-    /// Publishes what there was no memory to publish before. It reports to the observer which names told a version that falls and,
-    /// once each, that peers have rows of an owner to forget, and that another node writes under this node's name. It leaves the
-    /// last out if an audit reported it.
+    /// Publishes what there was no memory to publish before. It reports to the observer, once each, that peers have rows of an
+    /// owner to forget, and that another node writes under this node's name. It leaves the second out if an audit reported it. It
+    /// also reports the versions that fell.
     fn refresh_and_report<S: RoundsTag, H: Wait + Drop, Q: Wait, O: Observer>(
         &mut self,
         node: &NodeContext<S, H, Q>,

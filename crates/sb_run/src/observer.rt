@@ -89,8 +89,8 @@ pub trait Observer {
     /// A peer had rows of this owner, which the node forgets. It is called once for each such owner, after a round.
     fn forgotten_met(&self, _owner: &Name) {}
 
-    /// A node told a version of itself below one that it told long before. So two nodes, or a log and an older copy of it, have that
-    /// name. It is called after a round, once in a minute at most for each name.
+    /// Another node reported a version of itself below one that it reported long before. So two nodes, or a log and an older copy of
+    /// it, have that name. It is called after a round, once in a minute at most for each name.
     fn version_fell(&self, _fall: &VersionFall) {}
 
     /// Whether it wants to know how the node is.
@@ -197,6 +197,6 @@ pub struct Troubles {
     pub full_writes: u64,
     /// Times that all its workers were busy for longer than a second. The present time counts too.
     pub busy_times: u64,
-    /// Digests of other nodes with a version of themselves below one that they told long before.
+    /// Digests of other nodes with a version of themselves below one that they reported long before.
     pub version_falls: u64,
 }

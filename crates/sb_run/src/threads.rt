@@ -545,7 +545,7 @@ pub(crate) struct NodeContext<'a, S: RoundsTag, H: Wait + Drop, Q> {
     pub(crate) hearing: &'a Mutex<FirstHearing>,
     pub(crate) watchers: &'a WatcherCount,
     pub(crate) heard: &'a HeardTimes,
-    /// What version other nodes told of themselves.
+    /// What version other nodes reported of themselves.
     pub(crate) told: &'a ToldVersions,
     pub(crate) pace: Pace,
     /// How the node shows that it lives, if it does.
@@ -663,7 +663,7 @@ impl<S: RoundsTag, H: Wait + Drop, Q> NodeContext<'_, S, H, Q> {
     }
 }
 
-/// A gate that turns nobody away, counts each session, its fault and each gap, and takes what digests tell of their senders. If a
+/// A gate that turns nobody away, counts each session, its fault and each gap, and takes what digests report of their senders. If a
 /// session brings something new, it rings the bell, and those who wait for a change hear of it.
 #[derive(Drop)]
 pub(crate) struct NodeGate<'a, 'b, S: RoundsTag, H: Wait + Drop, Q> {

@@ -1,4 +1,4 @@
-//! Nodes that tell a version of themselves below one that they told long before.
+//! Nodes that report a version of themselves below one that they reported long before.
 
 use crate::observer::Observer;
 use sb_handlers::ToldVersions;

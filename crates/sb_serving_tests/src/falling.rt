@@ -1,4 +1,4 @@
-//! A version that a node tells of itself falls if it told a greater one long before.
+//! A version that a node reports of itself falls if it reported a greater one long before.
 
 use crate::making::name;
 use crate::{got, same};
@@ -20,7 +20,7 @@ fn digest_of_b(rt: &impl Abort, alloc: Global, from: Option<Name>, version: u64)
     got(rt, Digest::new(false, from, None, pairs))
 }
 
-/// Has a peer of this name, whose connection came after a moment, tell that b is held up to a version.
+/// Has a peer of this name report that b is held up to a version. Its connection came after a moment.
 fn tell<R: Wait + Clock + Abort>(
     rt: &R,
     alloc: Global,
