@@ -393,7 +393,6 @@ impl<S: RoundsTag, H: Wait + Drop, Q: Wait + Clock> NodeContext<'_, S, H, Q> {
     ) -> ReaderSeat<S> {
         let mut seat = seat;
         let (uptime, ages) = (self.counts.uptime(self.rt), self.heard.known_ages(self.rt));
-        let troubles = self.counts.troubles(uptime, self.told.falls(self.rt));
         let keys = self.directory.key_count(self.rt, &mut seat);
         let conflict = self.directory.conflict(self.rt, &mut seat);
         let at_zero = match owners_at_zero(self, &mut seat) {
@@ -411,7 +410,7 @@ impl<S: RoundsTag, H: Wait + Drop, Q: Wait + Clock> NodeContext<'_, S, H, Q> {
                     uptime,
                     workers: self.directory.settings().workers(),
                     busy_workers: self.counts.busy_workers(),
-                    troubles,
+                    troubles: self.counts.troubles(uptime, self.told.falls(self.rt)),
                     purges: self.counts.purges(),
                     audits: self.counts.audits(),
                     keys,

@@ -499,9 +499,8 @@ pub(crate) fn run_tagged<
     let (workers, forgotten) = (directory.settings().workers(), start.forgotten);
     let (ending, counts, asked) = (EndFlag::new(), Counts::new(rt, workers), Asked::new());
     let (vain_offers, hearing) = (VainOffers::new(alloc), Mutex::new(hearing));
-    let watchers = WatcherCount::new();
     let heard = HeardTimes::new(rt, alloc, directory.name());
-    let told = ToldVersions::new(rt, alloc);
+    let (told, watchers) = (ToldVersions::new(rt, alloc), WatcherCount::new());
     let node = NodeContext {
         rt,
         alloc,
