@@ -107,6 +107,7 @@ def no_falls(check):
     again.start()
     while time.monotonic() - begun < 3 * LATE:
         busy.put("k", 1)
+        time.sleep(0.01)
     third.awaits("all of it", lambda found: len([it for it in found if it.startswith("a ")]) == 16)
     awaits(path, "c", {FALLS: 0}, lambda found: found["attrdir_sessions_total",] > 600)
     want("what it says", told(third), [])

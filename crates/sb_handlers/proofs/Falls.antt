@@ -112,7 +112,7 @@ module _ (digests : List Made) (each : AreOfOneLogEach digests) where
   reads_true (d ∷ ds) now all end falls end_falls there order is reads =
       let own = there d (inl refl) in
       let on = reads_true ds d.reading.at reads.0 end (falls_after falls all d.reading) end_falls (λ e s. there e (inr s)) order.1
-          (new_heard d own now all reads.0 order.0 is reads.1) reads.2 in
+      (new_heard d own now all reads.0 order.0 is reads.1) reads.2 in
       (on.0 ∙ cond-false (is_fall all d.reading) _ _ (none_falls d own now all is), on.1)
 
 pub nothing_is_reported : (digests : List Made) (all : List Teller) (falls : ℕ) → AreOfOneLogEach digests → Reads (map (λ d. d.reading) digests) [] 0 all falls

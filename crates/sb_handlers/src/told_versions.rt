@@ -212,8 +212,7 @@ fn is_known(all: &[Teller], name: &Name) -> bool
 fn is_fall(all: &[Teller], reading: &Reading) -> bool
     ensures { result ≡ spec.is_fall all.now reading.now }
 {
-    all.iter()
-        .any(|teller| teller.name == reading.name && teller.fall_in(reading).is_some())
+    all.iter().any(|teller| teller.name == reading.name && teller.fall_in(reading).is_some())
 }
 
 /// Has each take what a digest reports.

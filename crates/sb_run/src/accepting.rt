@@ -216,9 +216,7 @@ impl Backlog {
         if let Some((came, stream, since)) = begun {
             let name = name_of(node.alloc, &came);
             let arrival = Arrival { name, since };
-            let given = self
-                .handover
-                .give_session(node.rt, arrival, came, stream);
+            let given = self.handover.give_session(node.rt, arrival, came, stream);
             return note_given(node.counts, given);
         }
         let whole = self

@@ -16,7 +16,7 @@ use sb_codec::{Ask, Message};
 use sb_control::ControlRequest;
 use sb_handlers::Arrival;
 use sb_http::HttpWrite;
-use sb_types::{Fault, Name};
+use sb_types::Fault;
 use std::alloc::Global;
 use std::io::{Chain, Cursor, Read};
 use std::os::unix::net::UnixStream;

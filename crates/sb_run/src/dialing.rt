@@ -11,7 +11,9 @@ use crate::sockets::{connect, limit};
 use crate::threads::NodeContext;
 use sb_directory::{ReaderSeat, SeatHandler};
 use sb_frames::{Connection, Steps};
-use sb_handlers::{Arrival, Asker, DeferringHandler, ForgettingHandler, Gate, GatePoint, GatedHandler};
+use sb_handlers::{
+    Arrival, Asker, DeferringHandler, ForgettingHandler, Gate, GatePoint, GatedHandler,
+};
 use sb_session::{Ended, dial};
 use sb_types::{Delta, Fault, Name, OWNERS_MOST};
 use std::io;

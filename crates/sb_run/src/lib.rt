@@ -186,7 +186,5 @@ pub use observer::{Nobody, Observer, PushCounts, Status, Troubles};
 pub use own_writes::{OwnWrites, Stored};
 pub use peers::{DownReason, Peer, PeerState};
 pub use pool::{Pooled, Serving, Source, Taken};
-pub use sb_handlers::{
-    Arrival, ForgottenOwners, Gate, GatePoint, Open, VainOffers, VersionFall,
-};
+pub use sb_handlers::{Arrival, ForgottenOwners, Gate, GatePoint, Open, VainOffers, VersionFall};
 pub use write_request::WriteRequest;

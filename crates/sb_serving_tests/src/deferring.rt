@@ -6,9 +6,7 @@ use crate::{got, same};
 use sb_digest::Digest;
 use sb_directory::{Directory, DirectoryTag, ReaderSeat};
 use sb_node::NodeCore;
-use sb_run::{
-    Arrival, ForgottenOwners, Gate, GatePoint, Serving, Source, Taken, VainOffers,
-};
+use sb_run::{Arrival, ForgottenOwners, Gate, GatePoint, Serving, Source, Taken, VainOffers};
 use sb_testing::delta_of_write;
 use sb_types::{Entry, Fault, Name, Slot, Value};
 use sb_views::NewHistory;

@@ -72,6 +72,10 @@ fn an_audit_and_an_unknown_peer_tell_nothing(rt: HostRuntime) {
     told.hear(&rt, &arrival, &alone);
     told.hear(&rt, &Arrival::unknown(), &digest_of_b(&rt, alloc, None, 4));
     same(&rt, &told.falls(&rt), &0);
-    told.hear(&rt, &arrival, &digest_of_b(&rt, alloc, Some(name(&rt, b"a")), 4));
+    told.hear(
+        &rt,
+        &arrival,
+        &digest_of_b(&rt, alloc, Some(name(&rt, b"a")), 4),
+    );
     same(&rt, &told.falls(&rt), &1);
 }
