@@ -12,7 +12,7 @@ SECONDS = 60
 FALLS = ("attrdir_version_falls_total",)
 
 
-def told(node):
+def reported_falls(node):
     """The lines of a node about versions that fall."""
     return [it for it in node.lines() if " reports its version " in it]
 
@@ -27,7 +27,7 @@ def line_of(node, name, version, before):
 def awaits_falls(node, count):
     """Waits until a node has said so many times that a version falls, a minute at most."""
     end = time.monotonic() + SECONDS
-    while len(told(node)) < count:
+    while len(reported_falls(node)) < count:
         if time.monotonic() > end:
             raise Difference(f"{node.name} says nothing of versions that fall: {node.lines()}")
         time.sleep(0.05)
@@ -50,10 +50,10 @@ def third_node(check):
     awaits_falls(third, 1)
     if time.monotonic() - begun < LATE:
         raise Difference(f"{third.name} says after {time.monotonic() - begun} s that a version falls")
-    want("what it says", told(third), [line_of(third, "a", 2, 5)])
+    want("what it says", reported_falls(third), [line_of(third, "a", 2, 5)])
     awaits(folder / "c.prom", "c", {}, lambda found: found[FALLS] > 3)
-    want("how often it says that", len(told(third)), 1)
-    want("what the two say of each other", [told(first), told(twin)], [[], []])
+    want("how often it says that", len(reported_falls(third)), 1)
+    want("what the two say of each other", [reported_falls(first), reported_falls(twin)], [[], []])
 
 
 def tells(node, stream, version, name="p", alone=False):
@@ -66,7 +66,7 @@ def tells(node, stream, version, name="p", alone=False):
 
 
 def lower_versions(check):
-    """What counts is when a connection came, how long before it more was told, and in which digest."""
+    """What counts is when a connection came, how long before it more was reported, and in which digest."""
     node = check.node("c", "--pause", "100", "--idle", "60000", "--metrics", str(check.folder() / "c.prom"))
     node.start()
     early = connect(node.sock)
@@ -82,13 +82,13 @@ def lower_versions(check):
     tells(node, connect(node.sock), 0)
     tells(node, connect(node.sock), 4, name="q")
     time.sleep(1)
-    want("what it says so far", told(node), [])
+    want("what it says so far", reported_falls(node), [])
     tells(node, connect(node.sock), 8)
     awaits_falls(node, 1)
     tells(node, connect(node.sock), 7)
     tells(node, connect(node.sock), 3, name="q")
     awaits_falls(node, 2)
-    want("what it says", told(node), [line_of(node, "p", 8, 9), line_of(node, "q", 3, 4)])
+    want("what it says", reported_falls(node), [line_of(node, "p", 8, 9), line_of(node, "q", 3, 4)])
 
 
 def no_falls(check):
@@ -110,7 +110,7 @@ def no_falls(check):
         time.sleep(0.01)
     third.awaits("all of it", lambda found: len([it for it in found if it.startswith("a ")]) == 16)
     awaits(path, "c", {FALLS: 0}, lambda found: found["attrdir_sessions_total",] > 600)
-    want("what it says", told(third), [])
+    want("what it says", reported_falls(third), [])
 
 
 PARTS = (third_node, lower_versions, no_falls)

@@ -2,4 +2,4 @@ pub mod Forgetting
 pub mod Deferring
 pub mod KeptOffers
 pub mod Gates
-pub mod ToldVersions
+pub mod ReportedVersions

@@ -1,7 +1,7 @@
 //! Gates: a session of a pool passes one before it applies a delta, and before it sends the delta that answers a digest.
 ghost use Rattle.std.specs.Prelude.{◌≡◌, ◌⊎◌, MatchBool};
 
-use crate::told_versions::Arrival;
+use crate::reported_versions::Arrival;
 use sb_digest::Digest;
 use sb_holdings::{BlockEnd, Report};
 use sb_session::{Ended, Handler, ReceivedDelta};
@@ -32,7 +32,7 @@ pub trait Gate {
         ensures { MatchBool result (lets self.now session point) (turns_away self.now session point) };
 
     /// Sessions call it for each digest of a peer, before they answer it. The peer's connection came so.
-    fn told(&self, _arrival: &Arrival, _theirs: &Digest) {}
+    fn digest_came(&self, _arrival: &Arrival, _theirs: &Digest) {}
 
     /// Sessions call it after each delta that entered something.
     fn entered(&self, _delta: &Delta) {}
@@ -159,7 +159,7 @@ impl<H: Handler, G: Gate> Handler for GatedHandler<'_, H, G> {
     }
 
     fn deltas(&mut self, theirs: &Digest) -> Result<Delta, Fault> {
-        self.gate.told(&self.arrival, theirs);
+        self.gate.digest_came(&self.arrival, theirs);
         let delta = self.inner.deltas(theirs)?;
         if !self.gate.pass(self.session, GatePoint::AfterAnswer) {
             return Err(Fault::TurnsSpent);

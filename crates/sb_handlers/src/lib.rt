@@ -3,7 +3,7 @@
 //!
 //! Each is a `Handler` that passes the calls of a session on to the one inside. `GatedHandler` asks a `Gate` whether the session
 //! may go on. `ForgettingHandler` leaves out the blocks of `ForgottenOwners`. `DeferringHandler` first offers what was not offered
-//! in vain, as `VainOffers` has it. A gate hears of each digest, and `ToldVersions` finds that a version falls.
+//! in vain, as `VainOffers` has it. A gate hears of each digest, and `ReportedVersions` finds that a version falls.
 //!
 //! ```rust
 //! /// A gate that holds session 1 before it applies a delta, until session 2 has answered a digest. It holds it for at
@@ -53,18 +53,18 @@
 //!   `sb_run` and `tools/check-node` refuse it.
 //! - `GatedHandler` reports to its gate no digest, or nothing of what was entered, missed or heard. The tests of `sb_run` and
 //!   `tools/check-node` refuse it.
-//! - `ToldVersions` takes nothing of a digest, takes another moment, or returns another fall than one of its own. The tests of
+//! - `ReportedVersions` takes nothing of a digest, takes another moment, or returns another fall than one of its own. The tests of
 //!   `sb_run` and `tools/check-node` refuse it.
 #![tactic(auto)]
 
 mod forgetting;
 mod gate;
 mod laws;
-mod told_versions;
+mod reported_versions;
 mod vain_offers;
 
 pub use forgetting::{ForgettingHandler, ForgottenOwners};
 pub use gate::{Gate, GatePoint, GatedHandler, Open};
-pub use laws::{nothing_is_reported_of_one_log, told_versions_are_found};
-pub use told_versions::{Arrival, ToldVersions, VersionFall};
+pub use laws::{nothing_is_reported_of_one_log, reported_versions_are_found};
+pub use reported_versions::{Arrival, ReportedVersions, VersionFall};
 pub use vain_offers::{Asker, DeferringHandler, VainOffers};

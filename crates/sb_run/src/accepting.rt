@@ -151,7 +151,7 @@ impl Backlog {
             At::Control => &node.sockets.control,
         };
         // A connection that an accept after this moment does not find comes later.
-        let before = node.told.moment(node.rt);
+        let before = node.reported_versions.moment(node.rt);
         for _ in 0..ACCEPTED_AT_ONCE {
             match socket.accept() {
                 Ok(stream) => {

@@ -512,7 +512,7 @@ impl<'a> Turns<'a> {
     ) {
         let _ = node.directory.refresh(node.rt, seat);
         report_forgotten(node.forgotten, observer);
-        report_falls(node.rt, node.told, observer);
+        report_falls(node.rt, node.reported_versions, observer);
         if self.is_conflict_reported || node.counts.has_difference() {
             return;
         }

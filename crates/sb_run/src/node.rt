@@ -21,7 +21,7 @@ use crate::threads::{
 };
 use crate::watchers::WatcherCount;
 use sb_directory::Directory;
-use sb_handlers::{ForgottenOwners, ToldVersions, VainOffers};
+use sb_handlers::{ForgottenOwners, ReportedVersions, VainOffers};
 use sb_log::WriteLog;
 use sb_node::NodeCore;
 use sb_table::Table;
@@ -500,7 +500,7 @@ pub(crate) fn run_tagged<
     let (ending, counts, asked) = (EndFlag::new(), Counts::new(rt, workers), Asked::new());
     let (vain_offers, hearing) = (VainOffers::new(alloc), Mutex::new(hearing));
     let heard = HeardTimes::new(rt, alloc, directory.name());
-    let (told, watchers) = (ToldVersions::new(rt, alloc), WatcherCount::new());
+    let (reported_versions, watchers) = (ReportedVersions::new(rt, alloc), WatcherCount::new());
     let node = NodeContext {
         rt,
         alloc,
@@ -516,7 +516,7 @@ pub(crate) fn run_tagged<
         hearing: &hearing,
         watchers: &watchers,
         heard: &heard,
-        told: &told,
+        reported_versions: &reported_versions,
         pace,
         beat: start.beat,
     };

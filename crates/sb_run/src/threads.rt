@@ -23,7 +23,7 @@ use crate::watchers::WatcherCount;
 use sb_control::LogCause;
 use sb_digest::Digest;
 use sb_directory::{Directory, DirectoryTag, ReaderSeat};
-use sb_handlers::{Arrival, ForgottenOwners, Gate, GatePoint, ToldVersions, VainOffers};
+use sb_handlers::{Arrival, ForgottenOwners, Gate, GatePoint, ReportedVersions, VainOffers};
 use sb_log::{StoreCause, WriteLog};
 use sb_session::Ended;
 use sb_types::{Delta, Fault, Name};
@@ -546,7 +546,7 @@ pub(crate) struct NodeContext<'a, S: RoundsTag, H: Wait + Drop, Q> {
     pub(crate) watchers: &'a WatcherCount,
     pub(crate) heard: &'a HeardTimes,
     /// What version other nodes reported of themselves.
-    pub(crate) told: &'a ToldVersions,
+    pub(crate) reported_versions: &'a ReportedVersions,
     pub(crate) pace: Pace,
     /// How the node shows that it lives, if it does.
     pub(crate) beat: Option<Beat>,
@@ -680,8 +680,8 @@ impl<S: RoundsTag, H: Wait + Drop, Q: Wait + Clock> Gate for NodeGate<'_, '_, S,
         true
     }
 
-    fn told(&self, arrival: &Arrival, theirs: &Digest) {
-        self.node.told.hear(self.node.rt, arrival, theirs);
+    fn digest_came(&self, arrival: &Arrival, theirs: &Digest) {
+        self.node.reported_versions.hear(self.node.rt, arrival, theirs);
     }
 
     fn entered(&self, delta: &Delta) {

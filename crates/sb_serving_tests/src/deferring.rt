@@ -102,7 +102,7 @@ fn node_with_texts(rt: &impl Abort, alloc: Global) -> NodeCore {
 /// A gate that turns nobody away, and counts the digests of peers whose names are known.
 #[derive(Drop)]
 struct Counting {
-    told: AtomicUsize,
+    digests: AtomicUsize,
 }
 
 impl Gate for Counting {
@@ -114,9 +114,9 @@ impl Gate for Counting {
         true
     }
 
-    fn told(&self, arrival: &Arrival, _theirs: &Digest) {
+    fn digest_came(&self, arrival: &Arrival, _theirs: &Digest) {
         if arrival.name.is_some() {
-            self.told.fetch_add(1, Ordering::SeqCst);
+            self.digests.fetch_add(1, Ordering::SeqCst);
         }
     }
 }
@@ -139,7 +139,7 @@ fn serve_all<S: DirectoryTag + Send + Sync, R: Threads + Wait + Abort + Send + S
         max_reads: 99,
     };
     let gate = Counting {
-        told: AtomicUsize::new(0),
+        digests: AtomicUsize::new(0),
     };
     let pooled = match serving.serve_pool(seats, askers, &gate) {
         Ok(pooled) => pooled,
@@ -147,7 +147,7 @@ fn serve_all<S: DirectoryTag + Send + Sync, R: Threads + Wait + Abort + Send + S
     };
     same(rt, &pooled.faults, &0);
     let known = askers.names.iter().filter(|name| **name != b' ').count();
-    same(rt, &gate.told.load(Ordering::SeqCst), &known);
+    same(rt, &gate.digests.load(Ordering::SeqCst), &known);
 }
 
 fn serve_from<S: DirectoryTag + Send + Sync, R: Threads + Wait + Abort + Send + Sync>(

@@ -3,7 +3,7 @@
 use crate::making::name;
 use crate::{got, same};
 use sb_digest::{Digest, Pair};
-use sb_handlers::{Arrival, ToldVersions, VersionFall};
+use sb_handlers::{Arrival, ReportedVersions, VersionFall};
 use sb_types::Name;
 use std::alloc::Global;
 use std::process::Abort;
@@ -24,7 +24,7 @@ fn digest_of_b(rt: &impl Abort, alloc: Global, from: Option<Name>, version: u64)
 fn tell<R: Wait + Clock + Abort>(
     rt: &R,
     alloc: Global,
-    told: &ToldVersions,
+    versions: &ReportedVersions,
     peer: &[u8],
     since: u64,
     version: u64,
@@ -33,49 +33,49 @@ fn tell<R: Wait + Clock + Abort>(
         name: Some(name(rt, peer)),
         since: Some(since),
     };
-    told.hear(rt, &arrival, &digest_of_b(rt, alloc, None, version));
+    versions.hear(rt, &arrival, &digest_of_b(rt, alloc, None, version));
 }
 
 #[test]
 fn a_lower_version_is_a_fall_if_its_connection_came_long_after(rt: HostRuntime) {
     let alloc = rt.alloc();
-    let told = ToldVersions::new(&rt, alloc);
-    tell(&rt, alloc, &told, b"b", 0, 9);
-    tell(&rt, alloc, &told, b"b", 10_000, 4);
-    tell(&rt, alloc, &told, b"b", LATER, 9);
-    tell(&rt, alloc, &told, b"b", LATER, 0);
-    tell(&rt, alloc, &told, b"c", LATER, 4);
-    same(&rt, &told.falls(&rt), &0);
-    tell(&rt, alloc, &told, b"b", LATER, 8);
-    tell(&rt, alloc, &told, b"b", LATER, 4);
-    same(&rt, &told.falls(&rt), &2);
+    let versions = ReportedVersions::new(&rt, alloc);
+    tell(&rt, alloc, &versions, b"b", 0, 9);
+    tell(&rt, alloc, &versions, b"b", 10_000, 4);
+    tell(&rt, alloc, &versions, b"b", LATER, 9);
+    tell(&rt, alloc, &versions, b"b", LATER, 0);
+    tell(&rt, alloc, &versions, b"c", LATER, 4);
+    same(&rt, &versions.falls(&rt), &0);
+    tell(&rt, alloc, &versions, b"b", LATER, 8);
+    tell(&rt, alloc, &versions, b"b", LATER, 4);
+    same(&rt, &versions.falls(&rt), &2);
     let fall = VersionFall {
         name: name(&rt, b"b"),
         version: 8,
         before: 9,
     };
-    same(&rt, &told.take_fall(&rt), &Some(fall));
-    same(&rt, &told.take_fall(&rt), &None);
+    same(&rt, &versions.take_fall(&rt), &Some(fall));
+    same(&rt, &versions.take_fall(&rt), &None);
 }
 
 // A digest that begins with b and has b alone is an audit's.
 #[test]
 fn an_audit_and_an_unknown_peer_tell_nothing(rt: HostRuntime) {
     let alloc = rt.alloc();
-    let told = ToldVersions::new(&rt, alloc);
-    tell(&rt, alloc, &told, b"b", 0, 9);
+    let versions = ReportedVersions::new(&rt, alloc);
+    tell(&rt, alloc, &versions, b"b", 0, 9);
     let arrival = Arrival {
         name: Some(name(&rt, b"b")),
         since: Some(LATER),
     };
     let alone = digest_of_b(&rt, alloc, Some(name(&rt, b"b")), 4);
-    told.hear(&rt, &arrival, &alone);
-    told.hear(&rt, &Arrival::unknown(), &digest_of_b(&rt, alloc, None, 4));
-    same(&rt, &told.falls(&rt), &0);
-    told.hear(
+    versions.hear(&rt, &arrival, &alone);
+    versions.hear(&rt, &Arrival::unknown(), &digest_of_b(&rt, alloc, None, 4));
+    same(&rt, &versions.falls(&rt), &0);
+    versions.hear(
         &rt,
         &arrival,
         &digest_of_b(&rt, alloc, Some(name(&rt, b"a")), 4),
     );
-    same(&rt, &told.falls(&rt), &1);
+    same(&rt, &versions.falls(&rt), &1);
 }

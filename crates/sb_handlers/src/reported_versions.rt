@@ -1,7 +1,7 @@
 //! What version each node reports of itself in its digests, and whether that falls.
 ghost use Rattle.std.specs.Prelude.{◌≡◌, ◌++◌, ◌∷◌, [], map, position, vec_len, ◌≤◌};
 ghost use Rattle.sb_types.specs.declared.limits.TheConstants.{OWNERS_MOST};
-ghost use Rattle.sb_handlers.specs.ToldVersions as spec;
+ghost use Rattle.sb_handlers.specs.ReportedVersions as spec;
 
 use sb_digest::Digest;
 use sb_types::{Name, OWNERS_MOST};
@@ -59,24 +59,24 @@ struct Reading {
 
 /// A version that was reported by this moment.
 #[derive(Clone, Copy)]
-struct Telling {
+struct DatedVersion {
     version: u64,
     at: u64,
 }
 
 /// What a node reported of itself.
 #[derive(Clone, Copy)]
-struct Teller {
+struct Reporter {
     name: Name,
     /// The greatest version so far.
     most: u64,
     /// The greatest version at two moments, the second long after the first.
-    older: Telling,
-    newer: Telling,
+    older: DatedVersion,
+    newer: DatedVersion,
     /// A fall that is due, and that the observer does not know yet.
     fall: Option<VersionFall>,
     /// When the last fall was found that is or was due.
-    found: Option<u64>,
+    last_fall_at: Option<u64>,
 }
 
 /// Whether a digest begins with this name, and has one pair at most.
@@ -91,8 +91,8 @@ fn is_of_one(theirs: &Digest, name: &Name) -> bool
 
 /// The version that a digest reports of its sender. None if that is 0, or if the digest is of the sender alone. An audit sends such
 /// ones, which report how far it came.
-fn told_by(theirs: &Digest, name: &Name) -> Option<u64>
-    ensures { result ≡ spec.told_by theirs.now name.now }
+fn sender_version(theirs: &Digest, name: &Name) -> Option<u64>
+    ensures { result ≡ spec.sender_version theirs.now name.now }
 {
     let held = theirs.start(name, 0, u64::MAX).after;
     if held == 0 || is_of_one(theirs, name) {
@@ -102,7 +102,7 @@ fn told_by(theirs: &Digest, name: &Name) -> Option<u64>
     }
 }
 
-impl Telling {
+impl DatedVersion {
     /// Whether it is long before a moment.
     fn is_long_before(&self, moment: u64) -> bool
         ensures { result ≡ spec.is_long_before self.now moment }
@@ -118,22 +118,22 @@ impl Telling {
     }
 }
 
-impl Teller {
+impl Reporter {
     /// A node whose first digest is this one.
-    fn new(reading: &Reading) -> Teller
-        ensures { result ≡ spec.new_teller reading.now }
+    fn new(reading: &Reading) -> Reporter
+        ensures { result ≡ spec.new_reporter reading.now }
     {
-        let first = Telling {
+        let first = DatedVersion {
             version: reading.version,
             at: reading.at,
         };
-        Teller {
+        Reporter {
             name: reading.name,
             most: reading.version,
             older: first,
             newer: first,
             fall: None,
-            found: None,
+            last_fall_at: None,
         }
     }
 
@@ -157,9 +157,9 @@ impl Teller {
 
     /// Whether a fall that is found now is due.
     fn is_due(&self, now: u64) -> bool
-        ensures { result ≡ spec.is_due self.now.found now }
+        ensures { result ≡ spec.is_due self.now.last_fall_at now }
     {
-        match self.found {
+        match self.last_fall_at {
             Some(found) => now.saturating_sub(found) >= REPORT_INTERVAL,
             None => true,
         }
@@ -172,7 +172,7 @@ impl Teller {
         self.most = self.most.max(reading.version);
         if self.newer.is_long_before(reading.at) {
             self.older = self.newer;
-            self.newer = Telling {
+            self.newer = DatedVersion {
                 version: self.most,
                 at: reading.at,
             };
@@ -186,7 +186,7 @@ impl Teller {
         let fall = self.fall_in(reading);
         if fall.is_some() && self.is_due(reading.at) {
             self.fall = fall;
-            self.found = Some(reading.at);
+            self.last_fall_at = Some(reading.at);
         }
     }
 
@@ -202,49 +202,49 @@ impl Teller {
 }
 
 /// Whether a node of this name reported anything.
-fn is_known(all: &[Teller], name: &Name) -> bool
+fn is_known(all: &[Reporter], name: &Name) -> bool
     ensures { result ≡ spec.is_known all.now name.now }
 {
-    all.iter().any(|teller| teller.name == *name)
+    all.iter().any(|reporter| reporter.name == *name)
 }
 
 /// Whether a digest reports less than its sender reported long before.
-fn is_fall(all: &[Teller], reading: &Reading) -> bool
+fn is_fall(all: &[Reporter], reading: &Reading) -> bool
     ensures { result ≡ spec.is_fall all.now reading.now }
 {
-    all.iter().any(|teller| teller.name == reading.name && teller.fall_in(reading).is_some())
+    all.iter().any(|reporter| reporter.name == reading.name && reporter.fall_in(reading).is_some())
 }
 
 /// Has each take what a digest reports.
-fn hear_all(all: &mut [Teller], reading: &Reading)
+fn hear_all(all: &mut [Reporter], reading: &Reading)
     ensures { all.new ≡ map (spec.hears reading.now) all.old }
 {
-    for teller in all.iter_mut() {
-        teller.hear(reading);
+    for reporter in all.iter_mut() {
+        reporter.hear(reading);
     }
 }
 
 /// The place of the first with a fall that is due.
-fn place_of_fall(all: &[Teller]) -> Option<usize>
+fn place_of_fall(all: &[Reporter]) -> Option<usize>
     ensures { result ≡ position spec.has_fall all.now }
 {
-    all.iter().position(|teller| teller.fall.is_some())
+    all.iter().position(|reporter| reporter.fall.is_some())
 }
 
 /// What nodes reported of themselves, and how many times a version fell.
 #[derive(Drop)]
-struct Tellers {
-    all: Vec<Teller>,
+struct Reporters {
+    all: Vec<Reporter>,
     falls: u64,
     ghost bounded: { vec_len all ≤ OWNERS_MOST },
 }
 
-impl Tellers {
+impl Reporters {
     /// Nobody reported anything. It takes no memory.
-    fn new(alloc: Global) -> Tellers
+    fn new(alloc: Global) -> Reporters
         ensures { (result.all.items ≡ []) × (result.falls ≡ 0) }
     {
-        Tellers {
+        Reporters {
             all: Vec::new(alloc),
             falls: 0,
         }
@@ -261,7 +261,7 @@ impl Tellers {
         let is_known = is_known(&self.all, &reading.name);
         hear_all(&mut self.all, reading);
         if !is_known && self.all.len() < OWNERS_MOST {
-            let _ = self.all.push(Teller::new(reading));
+            let _ = self.all.push(Reporter::new(reading));
         }
     }
 
@@ -271,27 +271,27 @@ impl Tellers {
         ensures falls { self.new.falls ≡ self.old.falls }
     {
         let place = place_of_fall(&self.all)?;
-        let teller = &mut self.all[place];
-        let fall = teller.fall;
-        teller.fall = None;
+        let reporter = &mut self.all[place];
+        let fall = reporter.fall;
+        reporter.fall = None;
         fall
     }
 }
 
 /// What version each node reported of itself, for the threads of a node.
 #[derive(Drop)]
-pub struct ToldVersions {
+pub struct ReportedVersions {
     /// When the node started; none if the clock could not be read.
     started: Option<Instant>,
-    tellers: Mutex<Tellers>,
+    reporters: Mutex<Reporters>,
 }
 
-impl ToldVersions {
+impl ReportedVersions {
     /// Nobody reported anything, and the node starts now. It takes no memory.
-    pub fn new<Q: Clock>(clock: &Q, alloc: Global) -> ToldVersions {
-        ToldVersions {
+    pub fn new<Q: Clock>(clock: &Q, alloc: Global) -> ReportedVersions {
+        ReportedVersions {
             started: Instant::now(clock).ok(),
-            tellers: Mutex::new(Tellers::new(alloc)),
+            reporters: Mutex::new(Reporters::new(alloc)),
         }
     }
 
@@ -310,13 +310,13 @@ impl ToldVersions {
         let (Some(name), Some(since)) = (arrival.name, arrival.since) else {
             return;
         };
-        let Some(version) = told_by(theirs, &name) else {
+        let Some(version) = sender_version(theirs, &name) else {
             return;
         };
-        let mut tellers = self.tellers.lock(rt);
+        let mut reporters = self.reporters.lock(rt);
         // Under the lock, so that moments never go back.
         if let Some(at) = self.moment(rt) {
-            tellers.hear(&Reading {
+            reporters.hear(&Reading {
                 name,
                 version,
                 since,
@@ -327,11 +327,11 @@ impl ToldVersions {
 
     /// A fall that is due, once. Each name has one in a minute at most.
     pub fn take_fall<Q: Wait>(&self, rt: &Q) -> Option<VersionFall> {
-        self.tellers.lock(rt).take_fall()
+        self.reporters.lock(rt).take_fall()
     }
 
     /// How many digests reported less than their sender had reported long before.
     pub fn falls<Q: Wait>(&self, rt: &Q) -> u64 {
-        self.tellers.lock(rt).falls
+        self.reporters.lock(rt).falls
     }
 }
