@@ -58,7 +58,7 @@ struct Identity<S: DirectoryTag> {
 /// except to publish: then it waits for readers that entered before the last publish. A call from a seat is answered as the node is
 /// after its history up to then. That history begins with what the seat has seen and with its last call, and is the seat's last call
 /// from then on. Each seat's history is a `HistoryPrefix` of the one history, so of two seats' histories one begins the other. No
-/// seat enters a view from before the history of its last answer (`known`). If a call makes an event, that history is without the event.
+/// seat enters a view from before the history of its last answer (`knowledge`). If a call makes an event, that history is without the event.
 /// Calls that only ask publish what was not published yet, if there is memory. Once the
 /// directory is closed, the history has as many events as the calls of all seats made. The example at the top of the crate makes a
 /// directory, writes from a seat, reads what it wrote, and closes the directory.
@@ -160,7 +160,7 @@ impl<S: DirectoryTag, R: Wait + Drop> Directory<S, R> {
         ensures begins { OnErr result (spec.Begins seat.new.last_call seat.old) }
         ensures seat { OnErr result (seat.new ≡ spec.with_last_call seat.old seat.new.last_call) }
         ensures count { OnOk result (seat.new.events ≡ seat.old.events + 1) }
-        ensures knows { IsPrefix seat.old.known seat.new.known }
+        ensures knows { IsPrefix seat.old.knowledge seat.new.knowledge }
         ensures grows { IsPrefix seat.old.seen seat.new.seen }
         ensures version { IfOk result (λ receipt. receipt.version ≡ committed.now.entry.version) }
     {
@@ -186,7 +186,7 @@ impl<S: DirectoryTag, R: Wait + Drop> Directory<S, R> {
         ensures begins { OnErr result (spec.Begins seat.new.last_call seat.old) }
         ensures seat { OnErr result (seat.new ≡ spec.with_last_call seat.old seat.new.last_call) }
         ensures count { OnOk result (seat.new.events ≡ seat.old.events + 1) }
-        ensures knows { IsPrefix seat.old.known seat.new.known }
+        ensures knows { IsPrefix seat.old.knowledge seat.new.knowledge }
         ensures grows { IsPrefix seat.old.seen seat.new.seen }
     {
         self.node.lock(rt).apply(seat, delta.delta())
@@ -217,7 +217,7 @@ impl<S: DirectoryTag, R: Wait + Drop> Directory<S, R> {
         ensures due { OnErr result (IsSome (purging.own_due_floor least (node_after S.opening seat.new.last_call))) }
         ensures begins { OnErr result (spec.Begins seat.new.last_call seat.old) }
         ensures seat { OnErr result (seat.new ≡ spec.with_last_call seat.old seat.new.last_call) }
-        ensures knows { IsPrefix seat.old.known seat.new.known }
+        ensures knows { IsPrefix seat.old.knowledge seat.new.knowledge }
         ensures grows { IsPrefix seat.old.seen seat.new.seen }
     {
         self.node.lock(rt).purge(seat, least)
@@ -250,7 +250,7 @@ impl<S: DirectoryTag, R: Wait + Drop> Directory<S, R> {
         ensures still { result ≡ Ok None → seat.new ≡ spec.with_last_call seat.old seat.new.last_call }
         ensures begins { OnErr result (spec.Begins seat.new.last_call seat.old) }
         ensures seat { OnErr result (seat.new ≡ spec.with_last_call seat.old seat.new.last_call) }
-        ensures knows { IsPrefix seat.old.known seat.new.known }
+        ensures knows { IsPrefix seat.old.knowledge seat.new.knowledge }
         ensures grows { IsPrefix seat.old.seen seat.new.seen }
     {
         self.node.lock(rt).audit(seat, block)
@@ -267,7 +267,7 @@ impl<S: DirectoryTag, R: Wait + Drop> Directory<S, R> {
     ) -> Result<Digest, Fault>
         ensures answer { AnswersAfter S.opening S.settings seat.new.last_call (tells from want result) }
         ensures begins { spec.Begins seat.new.last_call seat.old }
-        ensures knows { IsPrefix seat.old.known seat.new.known }
+        ensures knows { IsPrefix seat.old.knowledge seat.new.knowledge }
         ensures seat { seat.new ≡ spec.with_last_call seat.old seat.new.last_call }
         ensures memory { IfErr result (λ fault. fault ≡ Fault.NoMemory) }
     {
@@ -285,7 +285,7 @@ impl<S: DirectoryTag, R: Wait + Drop> Directory<S, R> {
     ) -> Result<Delta, Fault>
         ensures answer { AnswersAfter S.opening S.settings seat.new.last_call (gives digest.now result) }
         ensures begins { spec.Begins seat.new.last_call seat.old }
-        ensures knows { IsPrefix seat.old.known seat.new.known }
+        ensures knows { IsPrefix seat.old.knowledge seat.new.knowledge }
         ensures seat { seat.new ≡ spec.with_last_call seat.old seat.new.last_call }
         ensures memory { IfErr result (λ fault. fault ≡ Fault.NoMemory) }
     {
@@ -313,7 +313,7 @@ impl<S: DirectoryTag, R: Wait + Drop> Directory<S, R> {
         ensures answer { AnswersAfter S.opening S.settings seat.new.last_call
             (gives (digest_since (node_after S.opening seat.new.last_call).held backlog.now) result) }
         ensures begins { spec.Begins seat.new.last_call seat.old }
-        ensures knows { IsPrefix seat.old.known seat.new.known }
+        ensures knows { IsPrefix seat.old.knowledge seat.new.knowledge }
         ensures seat { seat.new ≡ spec.with_last_call seat.old seat.new.last_call }
         ensures memory { IfErr result (λ fault. fault ≡ Fault.NoMemory) }
     {
@@ -327,7 +327,7 @@ impl<S: DirectoryTag, R: Wait + Drop> Directory<S, R> {
     pub fn conflict<Q: Wait>(&self, rt: &Q, seat: &mut ReaderSeat<S>) -> Option<u64>
         ensures answer { result ≡ (node_after S.opening seat.new.last_call).conflict }
         ensures begins { spec.Begins seat.new.last_call seat.old }
-        ensures knows { IsPrefix seat.old.known seat.new.known }
+        ensures knows { IsPrefix seat.old.knowledge seat.new.knowledge }
         ensures seat { seat.new ≡ spec.with_last_call seat.old seat.new.last_call }
     {
         let mut node = self.node.lock(rt);
@@ -339,7 +339,7 @@ impl<S: DirectoryTag, R: Wait + Drop> Directory<S, R> {
     pub fn key_count<Q: Wait>(&self, rt: &Q, seat: &mut ReaderSeat<S>) -> usize
         ensures answer { result ≡ own_keys (node_after S.opening seat.new.last_call) }
         ensures begins { spec.Begins seat.new.last_call seat.old }
-        ensures knows { IsPrefix seat.old.known seat.new.known }
+        ensures knows { IsPrefix seat.old.knowledge seat.new.knowledge }
         ensures seat { seat.new ≡ spec.with_last_call seat.old seat.new.last_call }
     {
         let mut node = self.node.lock(rt);
@@ -394,7 +394,7 @@ impl<S: DirectoryTag, R: Wait + Drop> Directory<S, R> {
         ensures seen { result ≡ true → seat.new.seen ≡ seat.new.last_call }
         ensures begins { spec.Begins seat.new.last_call seat.old }
         ensures made { result ≡ true → seat.new.events ≤ length seat.new.seen }
-        ensures knows { IsPrefix seat.old.known seat.new.known }
+        ensures knows { IsPrefix seat.old.knowledge seat.new.knowledge }
         ensures grows { IsPrefix seat.old.seen seat.new.seen }
         ensures count { seat.new.events ≡ seat.old.events }
     {
@@ -424,7 +424,7 @@ impl<S: DirectoryTag, R: Wait + Drop> Directory<S, R> {
         ensures seen { OnOk result (seat.new.seen ≡ seat.new.last_call) }
         ensures begins { spec.Begins seat.new.last_call seat.old }
         ensures made { OnOk result (seat.new.events ≤ length seat.new.seen) }
-        ensures knows { IsPrefix seat.old.known seat.new.known }
+        ensures knows { IsPrefix seat.old.knowledge seat.new.knowledge }
         ensures grows { IsPrefix seat.old.seen seat.new.seen }
         ensures count { seat.new.events ≡ seat.old.events }
     {

@@ -12,7 +12,7 @@ use std::sync::ledger::{Book, Share};
 
 /// A seat: one thread's place at a directory. The thread reads from it, without the lock, and passes it to the calls that take the
 /// lock. Contracts see it as three prefixes of the history and a number. It entered the view of `seen` last, or a call let it see
-/// that view. `last_call` is the history as it was when its last call was answered. `known` is the history that it
+/// that view. `last_call` is the history as it was when its last call was answered. `knowledge` is the history that it
 /// knows by an answer: of a call that makes an event, the one before that event. `events` says how many events its calls made.
 ///
 /// ```rust
@@ -39,7 +39,7 @@ pub struct ReaderSeat<S: NodeTag> {
     reader: Reader<S>,
     /// Less than its reader has seen, if that also entered a view from before what the seat knows.
     seen: HistoryPrefix<S>,
-    known: HistoryPrefix<S>,
+    knowledge: HistoryPrefix<S>,
     last_call: HistoryPrefix<S>,
     share: Share<S>,
 }
@@ -51,7 +51,7 @@ impl<S: NodeTag> Model for ReaderSeat<S> {
 
     ghost Value = { spec.Seat };
 
-    ghost view = { λ s. record { seen = s.seen; known = s.known; last_call = s.last_call; events = s.share.amount } };
+    ghost view = { λ s. record { seen = s.seen; knowledge = s.knowledge; last_call = s.last_call; events = s.share.amount } };
 
     ghost invariant = { λ s. (s.share.parts ≡ 1) × IsPrefix s.seen s.reader };
 }
@@ -60,7 +60,7 @@ impl<S: NodeTag> Model for ReaderSeat<S> {
 #[derive(Drop)]
 pub struct EnteredSeat<S: NodeTag> {
     entered: Entered<S>,
-    known: HistoryPrefix<S>,
+    knowledge: HistoryPrefix<S>,
     last_call: HistoryPrefix<S>,
     share: Share<S>,
 }
@@ -71,7 +71,7 @@ impl<S: NodeTag> Model for EnteredSeat<S> {
 
     ghost Value = { spec.Seat };
 
-    ghost view = { λ s. record { seen = s.entered; known = s.known; last_call = s.last_call; events = s.share.amount } };
+    ghost view = { λ s. record { seen = s.entered; knowledge = s.knowledge; last_call = s.last_call; events = s.share.amount } };
 
     ghost invariant = { λ s. s.share.parts ≡ 1 };
 }
@@ -80,15 +80,15 @@ impl<S: NodeTag> ReaderSeat<S> {
     /// The seat of a reader, with one part of the ledger. It made no call: it knows what its reader has seen.
     pub(crate) fn new(reader: Reader<S>, share: Share<S>) -> ReaderSeat<S>
         requires { share.parts ≡ 1 }
-        ensures { result ≡ record { seen = reader; known = reader; last_call = reader; events = share.amount } }
+        ensures { result ≡ record { seen = reader; knowledge = reader; last_call = reader; events = share.amount } }
     {
         let seen = reader.seen().copy();
-        let known = seen.copy();
+        let knowledge = seen.copy();
         let last_call = seen.copy();
         ReaderSeat {
             reader,
             seen,
-            known,
+            knowledge,
             last_call,
             share,
         }
@@ -100,22 +100,22 @@ impl<S: NodeTag> ReaderSeat<S> {
     /// gives the seat back unchanged.
     pub fn enter(self) -> Result<EnteredSeat<S>, ReaderSeat<S>>
         ensures { MatchResult result (λ entered. IsPrefix self.seen entered.seen × (entered.last_call ≡ self.last_call) × (entered.events ≡ self.events)
-            × IsPrefix self.known entered.seen × (entered.known ≡ self.known))
+            × IsPrefix self.knowledge entered.seen × (entered.knowledge ≡ self.knowledge))
             (λ seat. seat ≡ self) }
     {
         let ReaderSeat {
             reader,
             seen,
-            known,
+            knowledge,
             last_call,
             share,
         } = self;
         match reader.enter() {
             Ok(entered) => {
-                if known.is_prefix_of(entered.seen()) {
+                if knowledge.is_prefix_of(entered.seen()) {
                     Ok(EnteredSeat {
                         entered,
-                        known,
+                        knowledge,
                         last_call,
                         share,
                     })
@@ -123,7 +123,7 @@ impl<S: NodeTag> ReaderSeat<S> {
                     Err(ReaderSeat {
                         reader: entered.leave(),
                         seen,
-                        known,
+                        knowledge,
                         last_call,
                         share,
                     })
@@ -132,7 +132,7 @@ impl<S: NodeTag> ReaderSeat<S> {
             Err(reader) => Err(ReaderSeat {
                 reader,
                 seen,
-                known,
+                knowledge,
                 last_call,
                 share,
             }),
@@ -149,7 +149,7 @@ impl<S: NodeTag> ReaderSeat<S> {
     // Enters and leaves at once, unless that is refused.
     fn entered_and_left(self) -> (ReaderSeat<S>, ())
         ensures grows { IsPrefix self.seen result.0.seen }
-        ensures knows { result.0.known ≡ self.known }
+        ensures knows { result.0.knowledge ≡ self.knowledge }
         ensures last_call { result.0.last_call ≡ self.last_call }
         ensures events { result.0.events ≡ self.events }
     {
@@ -163,7 +163,7 @@ impl<S: NodeTag> ReaderSeat<S> {
     pub(crate) fn look(&mut self, history: &HistoryPrefix<S>) -> bool
         ensures seen { MatchBool result (self.new.seen ≡ history.now) (Unit {0}) }
         ensures grows { IsPrefix self.old.seen self.new.seen }
-        ensures knows { self.new.known ≡ self.old.known }
+        ensures knows { self.new.knowledge ≡ self.old.knowledge }
         ensures last_call { self.new.last_call ≡ self.old.last_call }
         ensures events { self.new.events ≡ self.old.events }
     {
@@ -186,13 +186,13 @@ impl<S: NodeTag> ReaderSeat<S> {
     /// Notes a call that is answered after this history, which the seat knows from then on.
     pub(crate) fn call_at(&mut self, history: &mut History<S>)
         ensures begins { spec.Begins history.old self.old }
-        ensures before { IsPrefix self.old.known history.old }
+        ensures before { IsPrefix self.old.knowledge history.old }
         ensures last_call { self.new ≡ spec.with_last_call self.old history.old }
         ensures history { history.new ≡ history.old }
     {
-        history.audit(&self.known);
+        history.audit(&self.knowledge);
         self.note_call_at(history);
-        self.known = history.prefix().copy();
+        self.knowledge = history.prefix().copy();
     }
 
     /// Its part of the ledger, with the number of events that its calls made.
@@ -203,7 +203,7 @@ impl<S: NodeTag> ReaderSeat<S> {
         let ReaderSeat {
             reader: _reader,
             seen: _seen,
-            known: _known,
+            knowledge: _knowledge,
             last_call: _last_call,
             share,
         } = self;
@@ -222,7 +222,7 @@ impl<S: NodeTag> ReaderSeat<S> {
     /// Counts an event that its call made.
     pub(crate) fn count(&mut self, book: &mut Book<S>)
         ensures total { book.new.total ≡ book.old.total + 1 }
-        ensures seat { self.new ≡ record { seen = self.old.seen; known = self.old.known; last_call = self.old.last_call; events = self.old.events + 1 } }
+        ensures seat { self.new ≡ record { seen = self.old.seen; knowledge = self.old.knowledge; last_call = self.old.last_call; events = self.old.events + 1 } }
     {
         book.add(&mut self.share, 1);
     }
@@ -249,7 +249,7 @@ impl<S: NodeTag> EnteredSeat<S> {
     {
         let EnteredSeat {
             entered,
-            known,
+            knowledge,
             last_call,
             share,
         } = self;
@@ -257,7 +257,7 @@ impl<S: NodeTag> EnteredSeat<S> {
         ReaderSeat {
             reader: entered.leave(),
             seen,
-            known,
+            knowledge,
             last_call,
             share,
         }

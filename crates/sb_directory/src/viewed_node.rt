@@ -128,8 +128,8 @@ impl<S: DirectoryTag, R: Wait + Drop> ViewedNode<S, R> {
         ensures refused { IfErr result (spec.Refuses (spec.own_due_after S.opening self.old.history committed.now)) }
         ensures seat { OnErr result (seat.new ≡ spec.with_last_call seat.old self.old.history) }
         ensures begins { spec.Begins self.old.history seat.old }
-        ensures before { IsPrefix seat.old.known self.old.history }
-        ensures knows { seat.new.known ≡ self.old.history }
+        ensures before { IsPrefix seat.old.knowledge self.old.history }
+        ensures knows { seat.new.knowledge ≡ self.old.history }
         ensures grows { IsPrefix seat.old.seen seat.new.seen }
         ensures version { IfOk result (λ receipt. receipt.version ≡ committed.now.entry.version) }
     {
@@ -175,8 +175,8 @@ impl<S: DirectoryTag, R: Wait + Drop> ViewedNode<S, R> {
         ensures fault { IfErr result IsRefusal }
         ensures seat { OnErr result (seat.new ≡ spec.with_last_call seat.old self.old.history) }
         ensures begins { spec.Begins self.old.history seat.old }
-        ensures before { IsPrefix seat.old.known self.old.history }
-        ensures knows { seat.new.known ≡ self.old.history }
+        ensures before { IsPrefix seat.old.knowledge self.old.history }
+        ensures knows { seat.new.knowledge ≡ self.old.history }
         ensures grows { IsPrefix seat.old.seen seat.new.seen }
     {
         seat.call_at(&mut self.history);
@@ -223,8 +223,8 @@ impl<S: DirectoryTag, R: Wait + Drop> ViewedNode<S, R> {
         ensures seat { OnErr result (seat.new ≡ spec.with_last_call seat.old self.old.history) }
         ensures still { result ≡ Ok None → seat.new ≡ spec.with_last_call seat.old self.old.history }
         ensures begins { spec.Begins self.old.history seat.old }
-        ensures before { IsPrefix seat.old.known self.old.history }
-        ensures knows { seat.new.known ≡ self.old.history }
+        ensures before { IsPrefix seat.old.knowledge self.old.history }
+        ensures knows { seat.new.knowledge ≡ self.old.history }
         ensures grows { IsPrefix seat.old.seen seat.new.seen }
     {
         seat.call_at(&mut self.history);
@@ -248,8 +248,8 @@ impl<S: DirectoryTag, R: Wait + Drop> ViewedNode<S, R> {
         ensures due { OnOk result (spec.delta_due_after self.old.history ≡ Ok tt) }
         ensures seat { OnErr result (seat.new ≡ spec.with_last_call seat.old self.old.history) }
         ensures begins { spec.Begins self.old.history seat.old }
-        ensures before { IsPrefix seat.old.known self.old.history }
-        ensures knows { seat.new.known ≡ self.old.history }
+        ensures before { IsPrefix seat.old.knowledge self.old.history }
+        ensures knows { seat.new.knowledge ≡ self.old.history }
         ensures grows { IsPrefix seat.old.seen seat.new.seen }
     {
         seat.call_at(&mut self.history);
@@ -286,8 +286,8 @@ impl<S: DirectoryTag, R: Wait + Drop> ViewedNode<S, R> {
         ensures still { result ≡ Ok None → seat.new ≡ spec.with_last_call seat.old self.old.history }
         ensures seat { OnErr result (seat.new ≡ spec.with_last_call seat.old self.old.history) }
         ensures begins { spec.Begins self.old.history seat.old }
-        ensures before { IsPrefix seat.old.known self.old.history }
-        ensures knows { seat.new.known ≡ self.old.history }
+        ensures before { IsPrefix seat.old.knowledge self.old.history }
+        ensures knows { seat.new.knowledge ≡ self.old.history }
         ensures grows { IsPrefix seat.old.seen seat.new.seen }
     {
         self.note_call(seat);
@@ -311,8 +311,8 @@ impl<S: DirectoryTag, R: Wait + Drop> ViewedNode<S, R> {
         ensures fault { IfErr result IsRefusal }
         ensures seat { OnErr result (seat.new ≡ spec.with_last_call seat.old self.old.history) }
         ensures begins { spec.Begins self.old.history seat.old }
-        ensures before { IsPrefix seat.old.known self.old.history }
-        ensures knows { seat.new.known ≡ self.old.history }
+        ensures before { IsPrefix seat.old.knowledge self.old.history }
+        ensures knows { seat.new.knowledge ≡ self.old.history }
         ensures grows { IsPrefix seat.old.seen seat.new.seen }
     {
         self.note_call(seat);
@@ -330,7 +330,7 @@ impl<S: DirectoryTag, R: Wait + Drop> ViewedNode<S, R> {
     fn note_call(&mut self, seat: &mut ReaderSeat<S>)
         ensures same { self.new ≡ self.old }
         ensures begins { spec.Begins self.old.history seat.old }
-        ensures before { IsPrefix seat.old.known self.old.history }
+        ensures before { IsPrefix seat.old.knowledge self.old.history }
         ensures last_call { seat.new ≡ spec.with_last_call seat.old self.old.history }
     {
         seat.call_at(&mut self.history);
@@ -343,7 +343,7 @@ impl<S: DirectoryTag, R: Wait + Drop> ViewedNode<S, R> {
         ensures history { self.new.history ≡ self.old.history }
         ensures shown { spec.PublishesWhereSaid false self.old self.new }
         ensures begins { spec.Begins self.old.history seat.old }
-        ensures before { IsPrefix seat.old.known self.old.history }
+        ensures before { IsPrefix seat.old.knowledge self.old.history }
         ensures last_call { seat.new ≡ spec.with_last_call seat.old self.old.history }
     {
         self.note_call(seat);
@@ -460,7 +460,7 @@ impl<S: DirectoryTag, R: Wait + Drop> ViewedNode<S, R> {
         ensures shown { spec.PublishesWhereSaid result self.old self.new }
         ensures begins { spec.Begins self.old.history seat.old }
         ensures last_call { seat.new.last_call ≡ self.old.history }
-        ensures knows { seat.new.known ≡ seat.old.known }
+        ensures knows { seat.new.knowledge ≡ seat.old.knowledge }
         ensures grows { IsPrefix seat.old.seen seat.new.seen }
         ensures count { seat.new.events ≡ seat.old.events }
         ensures seen { result ≡ true → seat.new.seen ≡ self.new.history }
@@ -511,7 +511,7 @@ impl<S: DirectoryTag, R: Wait + Drop> ViewedNode<S, R> {
         ensures seat { result ≡ Err Fault.NoWatch → seat.new ≡ spec.with_last_call seat.old seat.new.last_call }
         ensures begins { spec.Begins self.old.history seat.old }
         ensures last_call { seat.new.last_call ≡ self.old.history }
-        ensures knows { IsPrefix seat.old.known seat.new.known }
+        ensures knows { IsPrefix seat.old.knowledge seat.new.knowledge }
         ensures grows { IsPrefix seat.old.seen seat.new.seen }
         ensures count { seat.new.events ≡ seat.old.events }
         ensures seen { OnOk result (seat.new.seen ≡ self.new.history) }
