@@ -12,13 +12,13 @@ is_of owner r = pointwise nat_eq r.owner owner
 
 -- of two reaches of one owner, the farther version of each kind
 abbrev pub farther : OwnerReach → OwnerReach → OwnerReach
-farther r s = record
-    { owner = r.owner
-    ; shown = max r.shown s.shown
-    ; printed = max r.printed s.printed
-    ; gone = max r.gone s.gone
-    ; gone_before = max r.gone_before s.gone_before
-    }
+farther r s = record {
+  owner = r.owner;
+  shown = max r.shown s.shown;
+  printed = max r.printed s.printed;
+  gone = max r.gone s.gone;
+  gone_before = max r.gone_before s.gone_before;
+}
 
 -- a reach as another one of its owner raises it
 abbrev pub raised : OwnerReach → OwnerReach → OwnerReach

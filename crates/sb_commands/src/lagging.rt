@@ -26,8 +26,8 @@ fn owner_of<'a>(change: &RowChange<'a>) -> &'a Name {
 /// Whether the node has shown less of the owner since its start than was printed, or shows a row that is outdated.
 fn is_behind(reaches: &[OwnerReach], difference: &RowChange<'_>) -> bool {
     let owner = owner_of(difference);
-    let shows_less =
-        reaches.iter().any(|reach| reach.owner == *owner && reach.shown < reach.printed);
+    let shows_less = reaches.iter().any(|reach| reach.owner == *owner
+        && reach.shown < reach.printed);
     match difference {
         RowChange::Set(row) => shows_less || is_outdated(reaches, row),
         RowChange::Gone(_) => shows_less,

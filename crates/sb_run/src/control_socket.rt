@@ -410,7 +410,9 @@ impl<S: RoundsTag, H: Wait + Drop, Q: Wait + Clock> NodeContext<'_, S, H, Q> {
                     uptime,
                     workers: self.directory.settings().workers(),
                     busy_workers: self.counts.busy_workers(),
-                    troubles: self.counts.troubles(uptime, self.reported_versions.falls(self.rt)),
+                    troubles: self
+                        .counts
+                        .troubles(uptime, self.reported_versions.falls(self.rt)),
                     purges: self.counts.purges(),
                     audits: self.counts.audits(),
                     keys,

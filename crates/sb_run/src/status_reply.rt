@@ -156,7 +156,9 @@ impl<S: RoundsTag, H: Wait + Drop, Q: Wait + Clock> NodeContext<'_, S, H, Q> {
             sessions: self.counts.sessions(),
             workers: self.directory.settings().workers(),
             workers_busy: self.counts.busy_workers(),
-            troubles: self.counts.troubles(uptime, self.reported_versions.falls(self.rt)),
+            troubles: self
+                .counts
+                .troubles(uptime, self.reported_versions.falls(self.rt)),
         }
     }
 

@@ -681,7 +681,9 @@ impl<S: RoundsTag, H: Wait + Drop, Q: Wait + Clock> Gate for NodeGate<'_, '_, S,
     }
 
     fn digest_came(&self, arrival: &Arrival, theirs: &Digest) {
-        self.node.reported_versions.hear(self.node.rt, arrival, theirs);
+        self.node
+            .reported_versions
+            .hear(self.node.rt, arrival, theirs);
     }
 
     fn entered(&self, delta: &Delta) {
