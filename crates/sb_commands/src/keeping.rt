@@ -153,15 +153,34 @@ fn keep_rest(
     Ok(())
 }
 
-/// Returns the rows that a watch shows after it found a listing. It walks once through the rows that were printed
-/// before (`held`) and the rows of the listing (`found`). It keeps:
+/// Walks once through the rows that were printed before (`held`) and the rows of a listing (`found`), and keeps those that a watch shows
+/// then. `NoMemory`.
+fn merged_rows(
+    alloc: Global,
+    held: &[Row],
+    found: &[Row],
+    reaches: &[OwnerReach],
+) -> Result<Vec<Row>, Fault>
+    ensures kept { IfOk result (λ rows. rows.items ≡ spec.rows_after reaches.now held.now found.now) }
+    ensures memory { IfErr result (λ fault. fault ≡ Fault.NoMemory) }
+{
+    let mut kept = Vec::new(alloc);
+    let mut rest = held;
+    for row in found {
+        rest = keep_to(alloc, &mut kept, rest, row, reaches)?;
+    }
+    keep_rest(alloc, &mut kept, rest, reaches)?;
+    Ok(kept)
+}
+
+/// Returns the rows that a watch shows after it found a listing (`found`). Before, it printed those of `held`. It keeps:
 ///
 /// - Each row of the listing, unless it is held back, or a later version of the same owner and key was printed. Then it keeps the printed row, if
 ///   there is one. If there is none, the row must not be outdated either.
 /// - Each printed row of an owner and key that the listing does not have, unless the node knows better.
 ///
-/// If both ascend by owner and key, no row is of an earlier version than the printed one. And of what went before the last start of the
-/// node, none comes back, nor any earlier version.
+/// If both ascend by owner and key, no row is of an earlier version than the printed one. Of what went before the last start of the node, no row
+/// comes back, nor any earlier version.
 ///
 /// `reaches` is what was printed and shown before the first page of the listing. `NoMemory`.
 pub(crate) fn kept_rows(
@@ -176,11 +195,5 @@ pub(crate) fn kept_rows(
     ensures gone { IfOk result (λ rows. AllByRecursion (λ row. spec.is_outdated reaches.now row ≡ true → spec.is_printed held.now row ≡ true) rows.items) }
     ensures memory { IfErr result (λ fault. fault ≡ Fault.NoMemory) }
 {
-    let mut kept = Vec::new(alloc);
-    let mut rest = held;
-    for row in found {
-        rest = keep_to(alloc, &mut kept, rest, row, reaches)?;
-    }
-    keep_rest(alloc, &mut kept, rest, reaches)?;
-    Ok(kept)
+    merged_rows(alloc, held, found, reaches)
 }
