@@ -15,11 +15,7 @@ use crate::own_writes::{ClosableLog, OwnWrites};
 use crate::sockets::BoundSockets;
 use crate::threads::{Links, ThreadsEnd, gather_seats, part_seats};
 use sb_directory::Directory;
-<<<<<<< HEAD
-use sb_handlers::{ForgottenOwners, ReportedVersions, VainOffers};
-=======
 use sb_handlers::ForgottenOwners;
->>>>>>> 90c86765 (run_tagged and run_within in parts (not checked yet))
 use sb_log::WriteLog;
 use sb_node::NodeCore;
 use sb_table::Table;
@@ -529,38 +525,8 @@ fn run_seated<
         return Err(Fault::ReadFailed);
     };
     observer.listening();
-<<<<<<< HEAD
-    let acceptor = Acceptor::new(alloc, poll, events, handover);
-    let links = Links::new(acceptor, jobs, requests, turns, rounds);
-    let (workers, forgotten) = (directory.settings().workers(), start.forgotten);
-    let (ending, counts, asked) = (EndFlag::new(), Counts::new(rt, workers), Asked::new());
-    let (vain_offers, hearing) = (VainOffers::new(alloc), Mutex::new(hearing));
-    let heard = HeardTimes::new(rt, alloc, directory.name());
-    let (reported_versions, watchers) = (ReportedVersions::new(rt, alloc), WatcherCount::new());
-    let node = NodeContext {
-        rt,
-        alloc,
-        directory: &directory,
-        sockets: &sockets,
-        ending: &ending,
-        bell: &bell,
-        counts: &counts,
-        asked: &asked,
-        desk: &desk,
-        forgotten: &forgotten,
-        vain_offers: &vain_offers,
-        hearing: &hearing,
-        watchers: &watchers,
-        heard: &heard,
-        reported_versions: &reported_versions,
-        pace,
-        beat: start.beat,
-    };
-    let finished = dialing.run_threads(&node, start.writes, thread_seats, links);
-=======
     let links = channels.into_links(setup.alloc, poll, turns);
     let ran = run_bound(rt, seated, setup, &sockets, writes, links);
->>>>>>> 90c86765 (run_tagged and run_within in parts (not checked yet))
     sockets.remove(rt);
     ran
 }

@@ -15,7 +15,7 @@ use crate::threads::{EndFlag, Links, NodeContext, ThreadSeats};
 use crate::watchers::WatcherCount;
 use mio::{Events, Poll};
 use sb_directory::Directory;
-use sb_handlers::{ForgottenOwners, ToldVersions, VainOffers};
+use sb_handlers::{ForgottenOwners, ReportedVersions, VainOffers};
 use sb_types::Fault;
 use std::alloc::Global;
 use std::sync::{Mutex, Wait};
@@ -104,7 +104,7 @@ pub(crate) struct NodeRecords {
     vain_offers: VainOffers,
     watchers: WatcherCount,
     heard: HeardTimes,
-    told: ToldVersions,
+    reported_versions: ReportedVersions,
 }
 
 impl NodeRecords {
@@ -121,7 +121,7 @@ impl NodeRecords {
             vain_offers: VainOffers::new(alloc),
             watchers: WatcherCount::new(),
             heard: HeardTimes::new(rt, alloc, directory.name()),
-            told: ToldVersions::new(rt, alloc),
+            reported_versions: ReportedVersions::new(rt, alloc),
         }
     }
 }
@@ -167,7 +167,7 @@ impl<O> NodeSetup<'_, '_, O> {
             hearing: &self.hearing,
             watchers: &records.watchers,
             heard: &records.heard,
-            told: &records.told,
+            reported_versions: &records.reported_versions,
             pace: self.pace,
             beat: self.beat,
         }
