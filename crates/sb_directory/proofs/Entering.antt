@@ -25,4 +25,4 @@ pub received-event : (opening : Node) (blocks given : List Block) (history : Lis
     → IfOk result (λ applied. (made : MakesEvent delta_due_after (events.Applied blocks applied.ends) old new) × Treats (node_after opening made.history) blocks applied.ends)
 received-event opening blocks given history old new result same begins due last_call treats =
     subst (λ (all : List Block). IfOk result (λ applied. (made : MakesEvent delta_due_after (events.Applied all applied.ends) old new)
-        × Treats (node_after opening made.history) all applied.ends)) same (delta-event opening given history old new result begins due last_call treats)
+    × Treats (node_after opening made.history) all applied.ends)) same (delta-event opening given history old new result begins due last_call treats)
