@@ -162,21 +162,8 @@ fn about_exchange(fault: &Fault, place: FaultPlace<'_>) -> &'static str {
     }
 }
 
-/// What to do about a part of a line of standard input that is no value.
-fn about_line_part(part: &[u8]) -> &'static str {
-    match part {
-        [.., b'\r'] => "it ends with a carriage return, \\0d: end each line with a newline alone",
-        [b't', b'e', b'x', b't', b' ', ..] => {
-            "a text has 1 to 512 bytes; write a backslash as \\5c and a newline as \\0a"
-        }
-        _ =>
-            "give a kind and a word, for example addr 10.0.0.1:80, weight 5, flag true or text zone b",
-    }
-}
-
 fn about_value(place: FaultPlace<'_>) -> &'static str {
     match place {
-        FaultPlace::LinePart(_, part) => about_line_part(part.bytes()),
         FaultPlace::Value("text", _) => {
             "a text has 1 to 512 bytes; write a backslash as \\5c and a newline as \\0a, or give --raw"
         }

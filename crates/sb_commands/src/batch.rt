@@ -3,8 +3,8 @@ ghost use Rattle.std.specs.Prelude.{◌≡◌, ◌∷◌, ◌++◌, IfOk, IfSome
 ghost use Rattle.sb_commands.specs.Lines.{slot_words, write_line};
 
 use crate::asking::put;
-use crate::failure::{Failure, FaultPlace};
-use sb_types::{Fault, Key, ShortText, Slot, Value, Write};
+use crate::failure::Failure;
+use sb_types::{Fault, Key, Slot, Value, Write};
 use std::alloc::Global;
 use std::io::{BufRead, BufReader, ErrorKind};
 
@@ -51,23 +51,6 @@ fn write_of(alloc: Global, line: &[u8]) -> Result<Write, Fault>
     }
 }
 
-/// The place of a fault of a line: the part that it is about. A part that is longer than 128 bytes, or not UTF-8, is not named.
-fn place_in(line: &[u8], fault: &Fault) -> FaultPlace<'static> {
-    let (key, words) = match split_at_space(line) {
-        Some(parts) => parts,
-        None => (line, b"".as_slice()),
-    };
-    let (what, part) = match fault {
-        Fault::BadKey => ("key", key),
-        Fault::BadValue => ("value", words),
-        _ => return FaultPlace::Line,
-    };
-    match ShortText::read(part) {
-        Ok(part) => FaultPlace::LinePart(what, part),
-        Err(_) => FaultPlace::Line,
-    }
-}
-
 /// A line without its end.
 fn without_end(line: &[u8]) -> &[u8] {
     match line.split_last() {
@@ -90,10 +73,7 @@ fn read_line<R: BufRead>(reader: &mut R, line: &mut Vec<u8>) -> Result<bool, Fau
 /// Makes a node write what a line asks for, and prints the version of the write. The faults of `write_of` and of `put`,
 /// then `WriteFailed`.
 fn write_line<'a>(rt: &HostRuntime, control: &'a str, line: &[u8]) -> Result<(), Failure<'a>> {
-    let write = match write_of(rt.alloc(), line) {
-        Ok(write) => write,
-        Err(fault) => return Err(Failure::at(place_in(line, &fault), fault)),
-    };
+    let write = write_of(rt.alloc(), line)?;
     let version = put(rt, control, write.key, write.slot)?;
     match println!(rt; "version {version}") {
         Ok(()) => Ok(()),

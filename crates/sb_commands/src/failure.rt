@@ -3,7 +3,7 @@ use crate::advice::{about_cause, advice};
 use crate::asking::LONGEST_SILENCE;
 use crate::part::Range;
 use sb_log::StoreCause;
-use sb_types::{Fault, ShortText, Spelled};
+use sb_types::Fault;
 use std::alloc::AllocError;
 use std::{fmt, io};
 
@@ -57,8 +57,6 @@ pub enum FaultPlace<'a> {
     OwnName(&'a str),
     /// In the kind and the word of a value.
     Value(&'a str, &'a str),
-    /// In a part of a line of standard input: what it is for, and the part.
-    LinePart(&'a str, ShortText),
     /// In the number of an option: its name, and the numbers that it takes.
     Number(&'a str, Range),
     /// In the version that the node at a socket for peers heard of.
@@ -321,13 +319,6 @@ impl fmt::Display for FaultPlace<'_> {
             FaultPlace::Word(what, word) => write!(f, "{what} '{word}': "),
             FaultPlace::OwnName(name) => write!(f, "--forget '{name}': "),
             FaultPlace::Value(kind, word) => write!(f, "value '{kind} {word}': "),
-            FaultPlace::LinePart(what, part) => {
-                write!(
-                    f,
-                    "{what} '{}': ",
-                    Spelled(str::from_utf8(part.bytes()).unwrap_or(""))
-                )
-            }
             FaultPlace::Number(name, _) => write!(f, "--{name}: "),
             FaultPlace::Log(path)
             | FaultPlace::NoLog(path)
