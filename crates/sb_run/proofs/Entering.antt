@@ -26,11 +26,14 @@ use Rattle.sb_views.specs.declared.event.Event.{Event}
 use Rattle.sb_views.specs.declared.event.Event.TheVariants.{Applied}
 use Rattle.sb_views.proofs.Prefixes.{prefix_self, prefix_trans}
 use Rattle.sb_directory.specs.Seats.{Seat, Begins}
-use Rattle.sb_directory.specs.Serving.{Serves, IsStill}
-use Rattle.sb_directory.specs.Handling.{still-same, still-on}
+use Rattle.sb_directory.specs.Serving.{Serves, IsStill, IsLater}
+use Rattle.sb_directory.specs.Handling.{serves-nothing, still-same, still-on}
 use Rattle.sb_handlers.specs.declared.gate.GatePoint.{GatePoint}
 use Rattle.sb_handlers.specs.Forgetting.{kept_blocks, LeavesOut, ForgettingStep}
-use Rattle.sb_handlers.specs.Gates.{GatedStep}
+use Rattle.sb_handlers.specs.declared.vain_offers.Offer.{Offer}
+use Rattle.sb_handlers.specs.Deferring.{DeferringStep, Notes, deferring-nothing}
+use Rattle.sb_handlers.specs.Gates.{IsShut, GatedStep}
+use Rattle.sb_handlers.proofs.LeavingOut.{forgetting_applies, gated_applies}
 use Rattle.sb_run.specs.Entering.{Enters, EntersAny, EntersAll, HearsFrom, Hears, HearsInput, IsLooking, Served, ServesEach, ServesOnly, EachServes}
 
 -- ---- a seat that stayed still before
@@ -263,14 +266,6 @@ session_hears step rounds session first last old new result talks seat forgets s
     let begun = subst (λ (s : Seat). HearsFrom names old.stream old new s (seat last)) from named in
     subst (λ (s : Seat). HearsFrom names old.stream old new before s) (sym to) begun
 
--- the same, under other names
-pub hears_at : (named : List (List ℕ)) (old new : Connection) (from to : Seat) → Hears named old new from to
-    → (names : List (List ℕ)) (before after : Seat) → named ≡ names → from ≡ before → after ≡ to → Hears names old new before after
-hears_at named old new from to heard names before after is begun ended =
-    let first = subst (λ (ns : List (List ℕ)). Hears ns old new from to) is heard in
-    let second = subst (λ (s : Seat). Hears names old new s to) begun first in
-    subst (λ (s : Seat). Hears names old new before s) (sym ended) second
-
 -- ---- a seat behind what is around it
 
 module _ {H : Type 0} (step : H → Act → H → Type 0) (stays grows : H → H → Type 0) (old new : H) where
@@ -305,6 +300,66 @@ serves_enters opening settings names blocks old new ends step = record {
   events = step.events;
   seen = step.grows;
 }
+
+-- ---- the handler of a session of a node: it forgets owners, stands behind a gate, and defers what was offered in vain
+
+module _ {A B C G W : Type 0} (first : A) (forgotten : A → W) (names_of : W → List (List ℕ)) (gated : A → B) (gate : B → G) (number : B → ℕ) (deferring : B → C)
+    (offers : C → List Offer) (seat : C → Seat) (lets turns_away : G → ℕ → GatePoint → Type 0) (opening : Node) (settings : Settings) where
+  abbrev Within : C → Act → C → Type 0
+  Within a act b = DeferringStep (offers a) (Serves opening settings) (seat a) act (seat b) × Notes (offers a) act (offers b)
+
+  abbrev StillWithin : C → C → Type 0
+  StillWithin a b = IsStill (seat a) (seat b)
+
+  abbrev LaterWithin : C → C → Type 0
+  LaterWithin a b = IsLater (seat a) (seat b)
+
+  abbrev Passes : B → Act → B → Type 0
+  Passes a act b = (gate b ≡ gate a) × (number b ≡ number a)
+      × GatedStep (lets (gate a) (number a)) (turns_away (gate a) (number a)) Within StillWithin LaterWithin (deferring a) act (deferring b)
+
+  abbrev StaysBehind : B → B → Type 0
+  StaysBehind a b = (gate b ≡ gate a) × (number b ≡ number a) × StillWithin (deferring a) (deferring b)
+
+  abbrev GrowsBehind : B → B → Type 0
+  GrowsBehind a b = (gate b ≡ gate a) × (number b ≡ number a) × LaterWithin (deferring a) (deferring b)
+      × (IsShut (lets (gate a) (number a)) → StillWithin (deferring a) (deferring b))
+
+  abbrev Forgetting : A → Act → A → Type 0
+  Forgetting a act b = (forgotten b ≡ forgotten a) × ForgettingStep (names_of (forgotten a)) Passes StaysBehind GrowsBehind (gated a) act (gated b)
+
+  abbrev named : A → List (List ℕ)
+  named a = names_of (forgotten a)
+
+  abbrev seat_of : A → Seat
+  seat_of a = seat (deferring (gated a))
+
+  none_still : (a b : A) (act : Act) → may_enter act ≡ false → Forgetting a act b → IsStill (seat_of a) (seat_of b)
+  none_still a b act none step =
+      forgetting_still Passes StaysBehind GrowsBehind (gated a) (gated b) (named a) act none step.1 (IsStill (seat_of a) (seat_of b))
+          (λ other quiet inner.
+          gated_still Within StillWithin LaterWithin (deferring (gated a)) (deferring (gated b)) (lets (gate (gated a)) (number (gated a)))
+              (turns_away (gate (gated a)) (number (gated a))) other inner.2 (IsStill (seat_of a) (seat_of b))
+              (λ own.
+              deferring-nothing (offers (deferring (gated a))) (Serves opening settings) IsStill (serves-nothing opening settings) still-same still-on (seat_of a) (seat_of b)
+                  other quiet own.0)
+              (λ stays. stays))
+          (λ stays. stays.2)
+
+  delta_entered : (a b : A) (blocks : List Block) (ends : List BlockEnd) → Forgetting a (applies blocks (Ok ends)) b → Enters (named a) blocks (seat_of a) (seat_of b)
+  delta_entered a b blocks ends step =
+      let inner = forgetting_applies (named a) Passes StaysBehind GrowsBehind (gated a) (gated b) blocks ends step.1 in
+      let own = gated_applies (lets (gate (gated a)) (number (gated a))) (turns_away (gate (gated a)) (number (gated a))) Within StillWithin LaterWithin
+          (deferring (gated a)) (deferring (gated b)) (kept_blocks (named a) blocks) inner.0 inner.1.2 in
+      serves_enters opening settings (named a) blocks (seat_of a) (seat_of b) inner.0 own.0
+
+  -- what a session of it enters came over its connection
+  pub session_enters : (rounds : Option ℕ) (session : Session) (last : A) (old new : Connection) (result : Result Ended Fault)
+      → Talks Forgetting (party_of true rounds session first) last old new result
+      → (names : List (List ℕ)) (before after : Seat) → named first ≡ names → seat_of first ≡ before → after ≡ seat_of last → Hears names old new before after
+  session_enters rounds session last old new result talks names before after forgot from to =
+      session_hears Forgetting rounds session first last old new result talks seat_of named (λ a b act step. ap names_of step.0) none_still delta_entered
+          names before after forgot from to
 
 -- ---- the sessions of a worker
 
