@@ -126,8 +126,8 @@ impl<L: WriteLog> OwnWrites<L> {
     }
 
     /// Puts a write into the log, and takes down whether that took it.
-    fn keep(&mut self, asked: &WriteRequest) -> Result<Committed, Fault>
-        ensures puts { Puts (L.seen self.old.log) asked.now.key asked.now.slot result (L.seen self.new.log) }
+    fn keep(&mut self, asked: WriteRequest) -> Result<Committed, Fault>
+        ensures puts { Puts (L.seen self.old.log) asked.key asked.slot result (L.seen self.new.log) }
         ensures settled { IsSettled (L.seen self.new.log) (L.leaves self.new.log) }
         ensures owed { self.new.owed ≡ self.old.owed }
         ensures stored { IfOk result (λ committed. self.new.stored ≡ Some committed.entry.version) }
@@ -139,7 +139,7 @@ impl<L: WriteLog> OwnWrites<L> {
         // One that was open and is closed now has failed.
         ensures closes { (L.seen self.old.log).is_open ≡ true → (L.seen self.new.log).is_open ≡ false → self.new.has_failed ≡ true }
     {
-        let kept = self.log.put(asked.key(), asked.slot());
+        let kept = asked.put_into(&mut self.log);
         match &kept {
             Ok(committed) => self.stored = Some(committed.entry().version()),
             Err(Fault::StoreFailed) => self.has_failed = true,
@@ -213,7 +213,7 @@ impl<L: WriteLog> OwnWrites<L> {
         ensures closes { (L.seen self.old.log).is_open ≡ true → (L.seen self.new.log).is_open ≡ false → self.new.has_failed ≡ true }
     {
         self.hand_in(rt, directory, seat)?;
-        let committed = self.keep(&asked)?;
+        let committed = self.keep(asked)?;
         let version = committed.entry().version();
         match directory.take_own(rt, seat, &committed) {
             Ok(receipt) => Ok(Stored::Shared(receipt)),

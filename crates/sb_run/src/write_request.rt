@@ -1,13 +1,15 @@
 //! Who asked for an own write of the node.
 ghost use Rattle.std.specs.Prelude.{◌≡◌, false, IfOk, IfErr};
 ghost use Rattle.sb_codec.specs.declared.message.Message.TheVariants as kinds;
+ghost use Rattle.sb_log.specs.Puts.{Puts, IsSettled};
 ghost use Rattle.sb_run.specs.WriteRequests.{is_put, beat_write};
 
 use crate::node::Beat;
 use sb_codec::Message;
 use sb_control::ControlRequest;
 use sb_http::HttpWrite;
-use sb_types::{Key, Slot, Value, Write};
+use sb_log::{Committed, WriteLog};
+use sb_types::{Fault, Slot, Value, Write};
 use std::marker::Model;
 
 /// A write that was asked for: by a request at the control socket, by one over HTTP, or by the next beat of the node. It can't be
@@ -58,17 +60,12 @@ impl WriteRequest {
         }
     }
 
-    /// The key that is written.
-    pub(crate) fn key(&self) -> &Key
-        ensures { result.now ≡ self.now.key }
+    /// Puts it into a log, which uses it up. Its faults are those of `WriteLog::put`.
+    pub(crate) fn put_into<L: WriteLog>(self, log: &mut L) -> Result<Committed, Fault>
+        ensures puts { Puts (L.seen log.old) self.key self.slot result (L.seen log.new) }
+        ensures closed { (L.seen log.old).is_open ≡ false → log.new ≡ log.old }
+        ensures settled { IsSettled (L.seen log.new) (L.leaves log.new) }
     {
-        &self.write.key
-    }
-
-    /// What is put under it.
-    pub(crate) fn slot(&self) -> &Slot
-        ensures { result.now ≡ self.now.slot }
-    {
-        &self.write.slot
+        log.put(&self.write.key, &self.write.slot)
     }
 }
