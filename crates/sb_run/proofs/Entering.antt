@@ -337,20 +337,20 @@ module _ {A B C G W : Type 0} (first : A) (forgotten : A → W) (names_of : W �
   none_still : (a b : A) (act : Act) → may_enter act ≡ false → Forgetting a act b → IsStill (seat_of a) (seat_of b)
   none_still a b act none step =
       forgetting_still Passes StaysBehind GrowsBehind (gated a) (gated b) (named a) act none step.1 (IsStill (seat_of a) (seat_of b))
-          (λ other quiet inner.
-          gated_still Within StillWithin LaterWithin (deferring (gated a)) (deferring (gated b)) (lets (gate (gated a)) (number (gated a)))
-              (turns_away (gate (gated a)) (number (gated a))) other inner.2 (IsStill (seat_of a) (seat_of b))
-              (λ own.
-              deferring-nothing (offers (deferring (gated a))) (Serves opening settings) IsStill (serves-nothing opening settings) still-same still-on (seat_of a) (seat_of b)
-                  other quiet own.0)
-              (λ stays. stays))
-          (λ stays. stays.2)
+      (λ other quiet inner.
+      gated_still Within StillWithin LaterWithin (deferring (gated a)) (deferring (gated b)) (lets (gate (gated a)) (number (gated a)))
+      (turns_away (gate (gated a)) (number (gated a))) other inner.2 (IsStill (seat_of a) (seat_of b))
+      (λ own.
+      deferring-nothing (offers (deferring (gated a))) (Serves opening settings) IsStill (serves-nothing opening settings) still-same still-on (seat_of a) (seat_of b)
+      other quiet own.0)
+      (λ stays. stays))
+      (λ stays. stays.2)
 
   delta_entered : (a b : A) (blocks : List Block) (ends : List BlockEnd) → Forgetting a (applies blocks (Ok ends)) b → Enters (named a) blocks (seat_of a) (seat_of b)
   delta_entered a b blocks ends step =
       let inner = forgetting_applies (named a) Passes StaysBehind GrowsBehind (gated a) (gated b) blocks ends step.1 in
       let own = gated_applies (lets (gate (gated a)) (number (gated a))) (turns_away (gate (gated a)) (number (gated a))) Within StillWithin LaterWithin
-          (deferring (gated a)) (deferring (gated b)) (kept_blocks (named a) blocks) inner.0 inner.1.2 in
+      (deferring (gated a)) (deferring (gated b)) (kept_blocks (named a) blocks) inner.0 inner.1.2 in
       serves_enters opening settings (named a) blocks (seat_of a) (seat_of b) inner.0 own.0
 
   -- what a session of it enters came over its connection
@@ -359,7 +359,7 @@ module _ {A B C G W : Type 0} (first : A) (forgotten : A → W) (names_of : W �
       → (names : List (List ℕ)) (before after : Seat) → named first ≡ names → seat_of first ≡ before → after ≡ seat_of last → Hears names old new before after
   session_enters rounds session last old new result talks names before after forgot from to =
       session_hears Forgetting rounds session first last old new result talks seat_of named (λ a b act step. ap names_of step.0) none_still delta_entered
-          names before after forgot from to
+      names before after forgot from to
 
 -- ---- the sessions of a worker
 

@@ -32,7 +32,7 @@ module _ {L : Type 0} (seen : L → Log) (opening : Node) (settings : Settings) 
       → (done : List Work) × WorksInTurn seen opening settings beat least done first new
   works_on first old new of_beat of_least before next =
       let does : DoesNext seen opening settings beat least work old new =
-          subst (λ (b : Option Beat). DoesNext seen opening settings b least work old new) of_beat
-          (subst (λ (l : ℕ). DoesNext seen opening settings of l work old new) of_least next)
+      subst (λ (b : Option Beat). DoesNext seen opening settings b least work old new) of_beat
+      (subst (λ (l : ℕ). DoesNext seen opening settings of l work old new) of_least next)
       in
       (work ∷ before.0, (old, before.1, does))
