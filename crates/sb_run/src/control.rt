@@ -71,7 +71,7 @@ pub(crate) fn look_up<S: NodeTag>(
     }
 }
 
-/// Answers an Ask by a page of what the seat reads.
+/// Answers an Ask by a page of what the seat reads; by `NoMemory` also if the seat cannot enter.
 pub(crate) fn reply_to_ask<S: NodeTag>(
     alloc: Global,
     settings: &Settings,
@@ -85,7 +85,7 @@ pub(crate) fn reply_to_ask<S: NodeTag>(
             let reply = look_up(alloc, settings, &entered, ask);
             (entered.leave(), reply)
         }
-        Err(seat) => (seat, refused_by(Fault::Closed)),
+        Err(seat) => (seat, refused_by(Fault::NoMemory)),
     }
 }
 

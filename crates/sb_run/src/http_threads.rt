@@ -106,7 +106,7 @@ impl<S: RoundsTag, H: Wait + Drop, Q: Wait + Clock> NodeContext<'_, S, H, Q> {
         }
     }
 
-    /// The owners that a seat sees, with the ages from before it entered. `NoMemory`; `Closed` if it cannot enter.
+    /// The owners that a seat sees, with the ages from before it entered. `NoMemory`, also if it cannot enter.
     fn owners_seen(&self, seat: ReaderSeat<S>) -> (ReaderSeat<S>, Result<Vec<HeldOwner>, Fault>)
         ensures owners { IfOk result.1 (λ owners. AreOwnersSeen S.opening result.0.seen owners.items) }
         ensures later { IsLater seat result.0 }
@@ -120,7 +120,7 @@ impl<S: RoundsTag, H: Wait + Drop, Q: Wait + Clock> NodeContext<'_, S, H, Q> {
                 let owners = owners_of(self.alloc, &entered, &ages);
                 (entered.leave(), owners)
             }
-            Err(seat) => (seat, Err(Fault::Closed)),
+            Err(seat) => (seat, Err(Fault::NoMemory)),
         }
     }
 }
