@@ -489,4 +489,4 @@ def made_up_digests(check):
         want(f"its first messages at {what}", made.messages[:2], begins)
 
 
-PARTS = (one_row, texts_of_scripts, lines_of_input, environment, marks, outlasting, removed_rows, earlier_versions, pages_apart, waiting, owners, whole_sessions, made_up_digests)
+PARTS = (one_row, texts_of_scripts, lines_of_input, environment, marks, outlasting, removed_rows, rows_in_pieces, earlier_versions, pages_apart, waiting, owners, whole_sessions, made_up_digests)
