@@ -95,7 +95,7 @@ def lost_logs(check):
         refuses_a_write(node, 15)
         awaits(path, "a", {("attrdir_log_open",): 0, ("attrdir_log_fault", cause): 1})
         front = f"attrdir: error log {node.log}: fault 18: its file was {cause}; no more writes are taken: "
-        awaits_line(node, front + "put the file back, or see RUNBOOK, A removed log, and start the node again")
+        awaits_line(node, front + "put the file back, or see RUNBOOK, A removed log; then start the node again")
         want("its rows", node.get(), ["a k 1 weight 5"])
         promtool_takes(check, path)
         node.kill()

@@ -369,7 +369,7 @@ impl Observer for Console<'_, '_> {
             LogCause::Lost(_) => ABOUT_LOSS,
         };
         let _ = eprintln!(rt;
-            "{head} log {}: fault {}: {cause}; no more writes are taken: {advice}, and start the node again",
+            "{head} log {}: fault {}: {cause}; no more writes are taken: {advice}; then start the node again",
             self.log,
             Fault::StoreFailed.number()
         );

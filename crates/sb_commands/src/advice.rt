@@ -110,7 +110,8 @@ fn about_store(place: FaultPlace<'_>) -> &'static str {
             "it belongs to the log that is lost: see that the path is right, move this file away, and give the command again"
         }
         FaultPlace::Node(_) => {
-            "the node could not write its log, and takes no more writes: see that its disk has room and works, and start the node again"
+            "the node could not write its log, and takes no more writes: its line on standard error says why; before you start it again, \
+see RUNBOOK, A full disk, or A removed log"
         }
         _ => {
             "see that the disk has room; that you may read and write the file, and write in its folder, where a file of its name with -wal is made; \
@@ -153,7 +154,8 @@ fn about_exchange(fault: &Fault, place: FaultPlace<'_>) -> &'static str {
             "give the --control of a node of the same release; its --sock, for other nodes, is another socket"
         }
         Fault::Closed => {
-            "the log of the node met a fault before, and the node takes no more writes: see that its disk has room and works, and start the node again"
+            "the log of the node met a fault before, and the node takes no more writes: its line on standard error says why; before you start it again, \
+see RUNBOOK, A full disk, or A removed log"
         }
         Fault::WriteFailed(_) => about_writing(place),
         Fault::Truncated => ASK_AGAIN,
