@@ -65,7 +65,7 @@ def full_disks_at_a_start(check):
         awaits(path, "a", {("attrdir_log_open",): 0, ("attrdir_log_fault", "no_space"): 1, **expected})
         refuses_a_write(node, 15)
         front = f"attrdir: error log {node.log}: fault 18: no space is left; no more writes are taken: "
-        said = [f"attrdir: warning log {node.log}: its removals could not be purged", front + "make room on its disk, and start the node again"]
+        said = [f"attrdir: warning log {node.log}: its removals could not be purged", front + "make room on its disk; then start the node again"]
         want("what it says", [it for it in node.lines() if "listens" not in it], said)
         promtool_takes(check, path)
         node.kill()
