@@ -5,7 +5,7 @@ use Rattle.sb_run.proofs.node.run_bound.Goals as goal
 pub returns-in_err-finished-clause-fault : goal.returns-in_err-finished-clause-fault
 returns-in_err-finished-clause-fault g c =
     let p = err_from_is_err_and c.from_residual.result c.from_residual.ensures.1 in
-    rw (p.1, p.2) c.in_err-finished.ensures.fault
+    rw (p.1, p.2) (rw c.node-node.ensures.pace at c.in_err-finished.ensures.fault)
 
 no-fault : {T E : Type 0} (answer : Result T E) (P : E → Type 0) → IsOk answer → IfErr answer P
 no-fault (Ok value) P ok = tt
