@@ -19,6 +19,9 @@ FIELDS = [("connection", "close"), ("cache-control", "no-store"), ("x-content-ty
 
 
 PARAMETERS = "the parameters are owner, prefix, after, wait and seen, or owner and key, or key for a write, each once"
+WAIT = "wait is 0s to 60s, as in wait=30s; seen is a mark of an answer, and goes with wait"
+VALUE = "a value is addr with 1 to 128 printing bytes, weight below 2^63, flag true or false, or text of 1 to 512 UTF-8 bytes"
+SPENT = "as many polls or writes wait at this node as may; a write was not made; ask again in a second, or give polls a shorter wait"
 
 
 def free_port():
@@ -206,10 +209,9 @@ def http_writes(check):
     form = 'the body is JSON of this form: {"kind":"weight","value":5}'
     for body in ("", "5", "{}", '{"kind":"weight"}', '{"kind":"weight","value":5,"x":1}', '{"kind":"weight","value":5', "\x01", 200 * "[", 900 * '{"value":'):
         refused(place, "/v1/keys/k", 400, form, None, "-X", "PUT", "-d", body)
-    value = run(check.program, "set", "--control", str(node.control), "k", "flag", "x")[2].splitlines()[1]
     for kind, word in (("x", 5), (5, 5), ("weight", "5"), ("weight", -1), ("weight", 2**63), ("weight", 1.5), ("flag", "true"), ("addr", "a b"), ("text", ""), ("text", 513 * "x"), ("text", None)):
         status, found = put(place, "k", kind, word)
-        want(f"the value {word!r} of {kind}", (status, found), (400, {"error": value, "fault": 4}))
+        want(f"the value {word!r} of {kind}", (status, found), (400, {"error": VALUE, "fault": 4}))
     want("the longest text", put(place, "k", "text", 512 * "x"), (200, {"version": 8}))
     head = b"PUT /v1/keys/k HTTP/1.1\r\nHost: x\r\n"
     want("a longer body", place.bytes(head + b"Content-Length: 8193\r\n\r\n" + 8193 * b" ")[0], 413)
@@ -248,7 +250,7 @@ def http_first_writes(check):
             it.start()
         while len(answers) < 2 and time.monotonic() < end:
             time.sleep(0.01)
-        want("who was turned away before the others were answered", [(status, found.get("fault")) for status, found in answers], [(503, 29), (503, 29)])
+        want("who was turned away before the others were answered", answers[:2], 2 * [(503, {"error": SPENT, "fault": 29})])
         want("an answer beside those that wait", place.curl("/v1/owners")[2], b'{"owners":[]}\n')
         for it in callers:
             it.join()
@@ -372,7 +374,7 @@ def http_polls(check):
     for it in callers:
         it.start()
     time.sleep(0.8)
-    want("who was turned away at once", [(it[0][0], it[0][1]["fault"]) for it in found], [(503, 29), (503, 29)])
+    want("who was turned away at once", [it[0] for it in found], 2 * [(503, {"error": SPENT, "fault": 29})])
     want("an answer beside four polls", place.curl("/v1/owners")[0], 200)
     want("a write beside four polls", put(place, "other/k", "weight", 2)[0], 200)
     for it in callers:
@@ -421,7 +423,9 @@ def http_refusals(check):
         refused(place, f"/v1/rows?{query}", 400, key, 3)
     for path, text, fault in (("/v1/rows/A/k", name, 2), ("/v1/rows/a", key, 3), ("/v1/rows/a/", key, 3), ("/v1/rows/a/K", key, 3)):
         refused(place, path, 400, text, fault)
-    for query in ("x=1", "owner", "wait=61s", "seen=x", "wait=1", "wait=1s&seen=A", "owner=a&owner=a", "prefix=&prefix=", "key=k", "owner=a&key=k&prefix=k", "owner=a&key=k&after=a/k", "Owner=a"):
+    for query in ("wait=61s", "wait=1", "wait=500ms", "wait=1m", "wait=", "seen=x", "wait=1s&seen=A"):
+        refused(place, f"/v1/rows?{query}", 400, WAIT)
+    for query in ("x=1", "owner", "wait=1s&wait=1s", "owner=a&owner=a", "prefix=&prefix=", "key=k", "owner=a&key=k&prefix=k", "owner=a&key=k&after=a/k", "Owner=a"):
         refused(place, f"/v1/rows?{query}", 400, PARAMETERS)
     for query in ("", "&", "owner=a&", "&&prefix="):
         want(f"rows by {query!r}", place.json(f"/v1/rows?{query}")[0], 200)
@@ -548,7 +552,12 @@ def http_places(check):
         want(f"two sockets in one place, and --http {place}", (said[0], said[2].split(" ")[0]), ("fault 16", wanted))
     want("what is left", sorted(it.name for it in folder.iterdir() if it.name.endswith((".sock", ".ctl"))), [])
     node = check.node("a", "--http", "x", "--seats", "3", "--workers", "1", folder=folder)
-    want("too few seats", run(check.program, *[str(it) for it in node.words()[1:]])[2].splitlines()[0], "fault 5")
+    said = run(check.program, *[str(it) for it in node.words()[1:]])[2].splitlines()
+    want("too few seats", (said[0], said[2]), ("fault 5", "--seats: give workers and 2 (3 with --http) to 64"))
+    for options in ((), ("--seats", "64")):
+        node = check.node("a", "--http", "x", "--workers", "62", *options, folder=folder)
+        said = run(check.program, *[str(it) for it in node.words()[1:]])[2].splitlines()
+        want(f"too many workers beside HTTP, with {options}", (said[0], said[2]), ("fault 5", "--workers: give 1 to 61 with --http"))
     path = folder / "a.http"
     node, place = node_at(check, "a", path, "--rounds", "3", "--pause", "100", folder=folder)
     if not lacks_curl(check):

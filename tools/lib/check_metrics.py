@@ -31,6 +31,7 @@ METRICS = {
     "attrdir_log_open": ("gauge", ()),
     "attrdir_log_fault": ("gauge", ("cause",)),
     "attrdir_name_conflict": ("gauge", ()),
+    "attrdir_version_falls_total": ("counter", ()),
     "attrdir_caught_up": ("gauge", ()),
     "attrdir_keys": ("gauge", ()),
     "attrdir_keys_limit": ("gauge", ()),

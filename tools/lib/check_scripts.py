@@ -12,7 +12,7 @@ from types import SimpleNamespace
 from check_asking import MadeUp, rows
 from check_purging import REMOVED
 from check_watch import Watching
-from nodes import BYE, SECONDS, Difference, connect, delta, frame, hello, number, pair, read_frame, run, text, want, weight
+from nodes import BYE, SECONDS, Difference, connect, delta, frame, hello, number, pair, pieces, read_frame, run, text, want, weight
 
 
 def ended(program, words, given="", **more):
@@ -194,9 +194,10 @@ def closed_output(node, words):
 
 
 def tell(node, owner, after, *entries):
-    """Brings a node these writes of an owner, as its peer."""
+    """Brings a node these writes of an owner, as its peer. A write without a value is a removal."""
+    told = [(key, version, REMOVED if value is None else weight(value)) for key, version, value in entries]
     with connect(node.sock) as stream:
-        stream.sendall(hello("teller") + delta(owner, after, [(key, version, weight(value)) for key, version, value in entries]) + BYE)
+        stream.sendall(hello("teller") + delta(owner, after, told) + BYE)
         while read_frame(stream):
             pass
 
@@ -299,6 +300,52 @@ def removed_rows(check):
     want("what it said", set(watch.ran.stderr.read().splitlines()) - set(away_and_back(node.control)), set())
 
 
+def rows_in_pieces(check):
+    """A watch that goes on prints no earlier version of a row that went where its node, started again, hears of the owner in pieces. It prints each
+    later one, and a row that comes back while the node runs."""
+    node = check.node("a").start()
+    tell(node, "b", 0, ("k", 1, 1), ("m", 2, 2))
+    watch = Watching(node, "--retry", "--every", "20")
+    try:
+        watch.awaits(["set b k 1 weight 1", "set b m 2 weight 2"])
+        tell(node, "b", 2, ("k", 3, 3))
+        watch.awaits(["set b k 3 weight 3"])
+        tell(node, "b", 3, ("k", 4, None))
+        watch.awaits(["gone b k"])
+        node.kill()
+        node.start()
+        # the owner wrote k again, which comes last: until then the node shows what was so before k went
+        tell(node, "b", 0, ("k", 1, 1), ("m", 2, 2))
+        tell(node, "b", 2, ("n", 5, 5))
+        watch.awaits(["set b n 5 weight 5"])
+        want("the rows", node.get(), ["b k 1 weight 1", "b m 2 weight 2", "b n 5 weight 5"])
+        tell(node, "b", 5, ("o", 6, 6))
+        watch.awaits(["set b o 6 weight 6"])
+        tell(node, "b", 6, ("k", 9, 9))
+        watch.awaits(["set b k 9 weight 9"])
+        tell(node, "b", 9, ("k", 10, None))
+        watch.awaits(["gone b k"])
+        node.kill()
+        node.start()
+        # now the same of the version that went last, and the owner's log is begun anew behind all of that
+        tell(node, "b", 0, ("m", 2, 2), ("n", 5, 5), ("o", 6, 6), ("k", 9, 9))
+        tell(node, "b", 9, ("n", 11, 11))
+        watch.awaits(["set b n 11 weight 11"])
+        tell(node, "b", 11, ("o", 12, 12))
+        watch.awaits(["set b o 12 weight 12"])
+        want("the row of k", node.get("--prefix", "k"), ["b k 9 weight 9"])
+        tell(node, "b", 12, ("k", 1048589, 1), ("l", 1048590, 2))
+        watch.awaits(["set b k 1048589 weight 1", "set b l 1048590 weight 2"])
+        want("that it runs", watch.ran.poll(), None)
+    finally:
+        watch.stop()
+    want("what it said", set(watch.ran.stderr.read().splitlines()) - set(away_and_back(node.control)), set())
+    whole, part = rows(("b", "k", 2, 1), ("b", "l", 3, 1)), rows(("b", "l", 3, 1))
+    made = MadeUp(check.folder() / "made.ctl", [whole, part, whole])
+    found = run(check.program, "watch", "--retry", "--every", "0", "--count", "3", "--control", str(made.path))
+    want("a row that comes back while the node runs", found, (0, "set b k 2 weight 1\nset b l 3 weight 1\ngone b k\nset b k 2 weight 1\n", ""))
+
+
 def earlier_versions(check):
     """A watch that goes on says that its node, started again, shows less of an owner than was printed, and prints the rest once it shows as much."""
     node = check.node("a").start()
@@ -307,10 +354,7 @@ def earlier_versions(check):
     watch = Watching(node, "--retry", "--every", "20")
     try:
         watch.awaits(["set p x 1 weight 10", "set p y 2 weight 20", "set p z 3 weight 30", "set q x 1 weight 10"])
-        with connect(node.sock) as stream:
-            stream.sendall(hello("teller") + delta("q", 1, [("x", 3, REMOVED), ("z", 4, weight(40))]) + BYE)
-            while read_frame(stream):
-                pass
+        tell(node, "q", 1, ("x", 3, None), ("z", 4, 40))
         watch.awaits(["gone q x", "set q z 4 weight 40"])
         node.kill()
         node.start()
@@ -375,6 +419,7 @@ def owners(check):
     rows_before = node.get()
     wanted = "".join(f"{name} {upto}\n" for name, upto in sorted([("a", 2), *zip(names, range(1, 41))]))
     want("owners", ask("--cluster", "c"), (0, wanted, ""))
+    want("its writes", pieces(check.program, "owners", "--sock", str(node.sock), "--cluster", "c"), [wanted])
     want("owners under another name", ask("--cluster", "c", "--name", "me"), (0, wanted, ""))
     want("the rows afterwards", node.get(), rows_before)
     for words, status, first, about in (
@@ -444,4 +489,4 @@ def made_up_digests(check):
         want(f"its first messages at {what}", made.messages[:2], begins)
 
 
-PARTS = (one_row, texts_of_scripts, lines_of_input, environment, marks, outlasting, removed_rows, earlier_versions, pages_apart, waiting, owners, whole_sessions, made_up_digests)
+PARTS = (one_row, texts_of_scripts, lines_of_input, environment, marks, outlasting, removed_rows, rows_in_pieces, earlier_versions, pages_apart, waiting, owners, whole_sessions, made_up_digests)

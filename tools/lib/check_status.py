@@ -4,7 +4,7 @@ import socket
 import subprocess
 import time
 
-from nodes import BYE, REFUSED, SECONDS, Difference, Reader, connect, delta, exchange, frame, hello, number, read_frame, throw, want, weight
+from nodes import BYE, REFUSED, SECONDS, Difference, Reader, connect, delta, exchange, frame, hello, number, pieces, read_frame, throw, want, weight
 
 ASK_STATUS, NODE_STATUS = 0x15, 0x16
 UNREACHABLE, UNREADABLE = 2, 4
@@ -75,6 +75,9 @@ def statuses(check):
     status, printed, said = node.command("status")
     words, peers = words_of(printed)
     want("its lines", (status, said, words["ready"], words["caught_up"], words["log_fault"], words["keys"], words["peers"]), (0, "", "yes", "yes", "none", "2", "3"))
+    for words, count in (((), len(printed.splitlines())), (("--format", "json"), 1)):
+        counts = [len(it.splitlines()) for it in pieces(check.program, "status", "--control", str(node.control), *words)]
+        want(f"how many lines each write of status {words} has", counts, [count])
     want("its peers in lines", peers, [["answers", str(other.sock)], ["unreachable", str(dead)], ["unreadable", str(late)]])
     more, name, cluster, release, figures, peers = read_status(exchange(node.control, ask_status(1)))
     want("its frame", (more, name, cluster, release, figures[2], figures[6], [it[:2] for it in peers]), (0, "a", "c", found["release"], 1, 2, [(str(dead), UNREACHABLE), (str(late), UNREADABLE)]))

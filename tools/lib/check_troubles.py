@@ -65,7 +65,7 @@ def full_disks_at_a_start(check):
         awaits(path, "a", {("attrdir_log_open",): 0, ("attrdir_log_fault", "no_space"): 1, **expected})
         refuses_a_write(node, 15)
         front = f"attrdir: error log {node.log}: fault 18: no space is left; no more writes are taken: "
-        said = [f"attrdir: warning log {node.log}: its removals could not be purged", front + "make room on its disk, and start the node again"]
+        said = [f"attrdir: warning log {node.log}: its removals could not be purged", front + "make room on its disk; then start the node again"]
         want("what it says", [it for it in node.lines() if "listens" not in it], said)
         promtool_takes(check, path)
         node.kill()
@@ -95,7 +95,7 @@ def lost_logs(check):
         refuses_a_write(node, 15)
         awaits(path, "a", {("attrdir_log_open",): 0, ("attrdir_log_fault", cause): 1})
         front = f"attrdir: error log {node.log}: fault 18: its file was {cause}; no more writes are taken: "
-        awaits_line(node, front + "put the file back, or see RUNBOOK, A removed log, and start the node again")
+        awaits_line(node, front + "put the file back, or see RUNBOOK, A removed log; then start the node again")
         want("its rows", node.get(), ["a k 1 weight 5"])
         promtool_takes(check, path)
         node.kill()
@@ -157,7 +157,7 @@ def busy_workers(check):
 
 
 def callers_turned_away(check):
-    """A caller whom the node cannot accept for want of descriptors is counted, and said."""
+    """That a node accepts nobody for want of descriptors is said, and counted once however often it tries."""
     folder = check.folder()
     path = folder / "a.prom"
     node = check.node("a", "--pause", "10", "--metrics", str(path), folder=folder).start()
@@ -168,12 +168,14 @@ def callers_turned_away(check):
     resource.prlimit(pid, resource.RLIMIT_NOFILE, (next(it for it in range(hard) if str(it) not in open_ones), hard))
     connect(node.sock).close()
     end = time.monotonic() + SECONDS
-    while not any("warning node a: callers turned away: " in it and "; let the process open more files" in it for it in node.lines()):
+    said = "warning node a: callers turned away, or times that none could be accepted: 1; let the process open more files"
+    while not any(said in it for it in node.lines()):
         if time.monotonic() > end:
-            raise Difference(f"no caller was turned away, by {node.lines()}")
+            raise Difference(f"no failure to accept is said in {node.lines()}")
         time.sleep(0.02)
+    time.sleep(0.5)
     resource.prlimit(pid, resource.RLIMIT_NOFILE, (soft, hard))
-    awaits(path, "a", {}, lambda found: found["attrdir_turned_away_total",] >= 1)
+    awaits(path, "a", {("attrdir_turned_away_total",): 1})
 
 
 PARTS = (full_disks_at_a_start, lost_logs, faults_of_sessions, busy_workers, callers_turned_away)

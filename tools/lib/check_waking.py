@@ -175,7 +175,7 @@ def small_disks(check):
         disk.fill(None)
         want("the write that had no room", fill(node), (3, "fault 18"))
         awaits(path, "a", {("attrdir_log_open",): 0, ("attrdir_log_fault", "no_space"): 1})
-        said = f"attrdir: error log {node.log}: fault 18: no space is left; no more writes are taken: make room on its disk, and start the node again"
+        said = f"attrdir: error log {node.log}: fault 18: no space is left; no more writes are taken: make room on its disk; then start the node again"
         want("what it says", node.lines()[1:], [said])
         node.kill()
         status, _, said = run(*map(str, (check.program, "log", "--log", node.log, "--name", "a", "--cluster", "c")))

@@ -194,6 +194,15 @@ def run(program, *words, seconds=SECONDS):
     return ran.returncode, ran.stdout, ran.stderr
 
 
+def pieces(program, *words):
+    """What a command prints, as a list of what each of its writes has."""
+    ours, given = socket.socketpair(socket.AF_UNIX, socket.SOCK_SEQPACKET)
+    ours.settimeout(SECONDS)
+    with ours, subprocess.Popen([program, *words], stdin=subprocess.DEVNULL, stdout=given):
+        given.close()
+        return [it.decode() for it in iter(lambda: ours.recv(1 << 20), b"")]
+
+
 class Node:
     """A node of the cluster c in a folder, which can be started again and again."""
 

@@ -94,3 +94,15 @@ def files_of_values_without_row(files):
     for path in files:
         if not NOT_LISTED.match(path) and path not in listed and set(re.findall(r"[a-z]+", text_of(path).lower())).issuperset(kinds):
             yield f"{path}: names each kind of value, and is in no row of 'A kind of value' of {LIST_OF_KINDS}"
+
+
+# crates that no running node uses, and the one that declares what is looked for
+FEEDING = re.compile(r"crates/(?:sb_session|sb_world|sb_script|sb_testing|attrdir_bench|sb_\w+_tests)/")
+
+
+def messages_of_no_reader(files):
+    """Places where a crate that a running node uses makes a received message of frames that it feeds: there a message comes out of a reader alone."""
+    for path in files:
+        if re.match(r"crates/\w+/src/.*\.rt$", path) and not FEEDING.match(path):
+            for found in re.finditer(r"\btaken_from\b", text_of(path)):
+                yield f"{path}:{line_at(text_of(path), found.start())}: makes a received message that no reader gave"

@@ -9,7 +9,7 @@ use jiff::Timestamp;
 use sb_commands::{ABOUT_LOSS, DroppedRemovals, about_cause};
 use sb_control::{LogCause, LogLoss};
 use sb_directory::Difference;
-use sb_run::{Observer, PeerState, Status};
+use sb_run::{Observer, PeerState, Status, VersionFall};
 use sb_types::{Fault, KEYS_MOST, Name, OWNERS_MOST};
 use std::alloc::Global;
 use std::fmt;
@@ -194,7 +194,7 @@ impl Console<'_, '_> {
         );
         self.print_trouble(
             Level::Warning,
-            "callers turned away",
+            "callers turned away, or times that none could be accepted",
             lines.turned_away.take(troubles.turned_away, now),
             "let the process open more files, or end silent callers",
         );
@@ -353,6 +353,15 @@ impl Observer for Console<'_, '_> {
         );
     }
 
+    fn version_fell(&self, fall: &VersionFall) {
+        let (rt, head) = (self.rt, self.head(Level::Warning));
+        let other = str::from_utf8(fall.name.bytes()).unwrap_or("");
+        let _ = eprintln!(rt;
+            "{head} node {}: node {other} reports its version {}, and reported {} before: two nodes, or a node and an older copy of its log, have this name: see RUNBOOK, Two nodes with one name",
+            self.name, fall.version, fall.before
+        );
+    }
+
     fn log_failed(&self, cause: LogCause) {
         let (rt, head) = (self.rt, self.head(Level::Error));
         let advice = match cause {
@@ -360,7 +369,7 @@ impl Observer for Console<'_, '_> {
             LogCause::Lost(_) => ABOUT_LOSS,
         };
         let _ = eprintln!(rt;
-            "{head} log {}: fault {}: {cause}; no more writes are taken: {advice}, and start the node again",
+            "{head} log {}: fault {}: {cause}; no more writes are taken: {advice}; then start the node again",
             self.log,
             Fault::StoreFailed.number()
         );

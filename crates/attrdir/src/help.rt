@@ -220,6 +220,7 @@ Each line on standard error is `attrdir: LEVEL WHAT: ..`. LEVEL is info, warning
   - that it removed a socket which a killed node left, or purged tombstones
   - that its log cannot be written, or that its file was removed or replaced
   - that another node writes under its name, or an older copy of its log
+  - that the version which another node reports of itself falls: at most once a minute for each name
   - that peers have rows of an owner which it is to forget
   - that nine tenths of its keys or owners are used, or all, and that it refuses writes for that
   - that all its workers are busy, that it turns callers away, and that sessions which others dialed fail: at most once a minute each
@@ -418,8 +419,8 @@ output is closed, the command ends before it asks again.
 
 With --retry it goes on if the node cannot be reached, ends or refuses. It prints a line on standard error when the node stops answering, and one when it
 answers again. A node that was started again may know less for a while. So the command waits with `gone` until the node has shown a row of that owner
-with the same version or a later one. Only rows that it asks for count. It prints a row with an earlier version than before only while that node gets
-the rows of the owner in pieces. --count counts the askings that the node answered.
+with the same version or a later one. Only rows that it asks for count. It prints no row with an earlier version than it printed before, also of a key
+that is gone. --count counts the askings that the node answered.
 
 With --hold, --floor, --settle, --listings or --render it is careful. It goes on as with --retry, and takes no rows before the node is caught up, as
 `attrdir status` reports. It shows nothing before there is a row. A row that went stays for --hold, and changes are gathered for --settle. Rows that went

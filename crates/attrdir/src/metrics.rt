@@ -107,7 +107,7 @@ const OTHER_VERSIONS: Metric = Metric {
 const TURNED_AWAY: Metric = Metric {
     name: "attrdir_turned_away_total",
     kind: "counter",
-    help: "Connections that it could not accept, or closed to make room for others.",
+    help: "Connections that it closed to make room for others, and times that it could accept none.",
 };
 
 const WORKERS: Metric = Metric {
@@ -156,6 +156,12 @@ const NAME_CONFLICT: Metric = Metric {
     name: "attrdir_name_conflict",
     kind: "gauge",
     help: "1 where another node writes under its name, else 0.",
+};
+
+const VERSION_FALLS: Metric = Metric {
+    name: "attrdir_version_falls_total",
+    kind: "counter",
+    help: "Digests of other nodes with a version of themselves below one that they reported long before.",
 };
 
 const CAUGHT_UP: Metric = Metric {
@@ -408,6 +414,7 @@ impl Metrics<'_, '_> {
         self.write_one(f, &LOG_OPEN, u64::from(status.log_cause.is_none()))?;
         self.write_log_fault(f)?;
         self.write_one(f, &NAME_CONFLICT, u64::from(status.conflict.is_some()))?;
+        self.write_one(f, &VERSION_FALLS, troubles.version_falls)?;
         self.write_one(f, &CAUGHT_UP, u64::from(status.is_caught_up))
     }
 

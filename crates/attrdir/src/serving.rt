@@ -7,12 +7,12 @@ use crate::serve_command::SEATS;
 use crate::troubles::TroubleLines;
 use jiff::Timestamp;
 use sb_commands::{
-    Failure, FaultPlace, StartPurge, error_of, has_folder, name_of, open_log, purge_removals,
+    Failure, FaultPlace, Range, StartPurge, error_of, has_folder, name_of, open_log, purge_removals,
 };
 use sb_log::{LogError, WriteLog};
 use sb_run::{Beat, NodeConfig, Pace, Paths, Ran, Runtime, is_own_port, run_closed_node, run_node};
 use sb_table::Table;
-use sb_types::{Fault, Key, Name, RawSettings, Settings};
+use sb_types::{Fault, Key, Name, RawSettings, Settings, WORKERS_MOST};
 use std::alloc::Global;
 use std::fs::{remove_file, symlink_metadata};
 use std::io::ErrorKind;
@@ -342,6 +342,14 @@ fn run<'a, L: WriteLog + Drop, R: Runtime + Net<Listener = TcpListener, Stream =
     }
 }
 
+/// The place of too few seats: the workers, if so many have too few also of the most seats.
+fn place_of_seats(workers: u64, has_http: bool) -> FaultPlace<'static> {
+    if has_http && workers >= WORKERS_MOST {
+        return FaultPlace::Number("workers", Range::WithHttp(WORKERS_MOST - 1));
+    }
+    SEATS.place()
+}
+
 /// Runs a node. The faults before it opens the log, in this order:
 ///
 /// - `BadName` of its name.
@@ -363,7 +371,8 @@ pub(crate) fn serve<'a, R: Runtime + Net<Listener = TcpListener, Stream = TcpStr
         Err(fault) => return Err(Failure::at(place_of(rt, &fault, given), fault)),
     };
     if settings.seats() < settings.workers() + 2 + u64::from(given.http.is_some()) {
-        return Err(Failure::at(SEATS.place(), Fault::BadSetting));
+        let place = place_of_seats(settings.workers(), given.http.is_some());
+        return Err(Failure::at(place, Fault::BadSetting));
     }
     if let Some(address) = other_address(given) {
         return Err(Failure::at(FaultPlace::OtherAddress(address), Fault::BadSetting));

@@ -9,7 +9,7 @@ use sb_digest::Digest;
 use sb_frames::{Frames, send};
 use sb_holdings::Report;
 use sb_node::NodeCore;
-use sb_session::{Replies, Session};
+use sb_session::{ReceivedMessage, Replies, Session};
 use sb_types::{Block, Delta, Fault};
 use std::alloc::Global;
 use std::time::CpuClock;
@@ -95,7 +95,7 @@ impl End {
         from.clear();
         // Each message has at least one byte.
         for _ in 0..bytes {
-            let Some(message) = self.frames.next()? else {
+            let Some(message) = ReceivedMessage::taken_from(&mut self.frames)? else {
                 break;
             };
             let replies = self.session.take(message, core)?;

@@ -1,9 +1,9 @@
 -- An item put to its owner's block among blocks in order of their owners.
-use Rattle.std.proofs.Common.{◌≡◌, ℕ, zero, suc, ◌+◌, ◌<◌, ◌≤◌, Bool, true, false, nat_eq, if◌then◌else◌, List, [], ◌∷◌, ◌++◌, length, get_or, set, inl, inr, refl, sym, ap, ap₂, ◌∙◌, arith, add-one, append-nil, Option, Some, None, Result, Ok, Err, Ordering, Less, Equal, Greater, is_lt}
+use Rattle.std.proofs.Common.{◌≡◌, ℕ, zero, suc, ◌+◌, ◌-◌, ◌<◌, ◌≤◌, Bool, true, false, nat_eq, if◌then◌else◌, List, [], ◌∷◌, ◌++◌, length, get_or, set, inl, inr, refl, sym, ap, ap₂, ◌∙◌, arith, add-one, append-nil, Option, Some, None, Result, Ok, Err, Ordering, Less, Equal, Greater, is_lt}
 use Rattle.std.specs.Prelude.{sum_by, insert, map}
 use Rattle.std.specs.List.{cons_option}
 use Rattle.std.specs.Option.{option_map_or}
-use Rattle.std.specs.Ordering.{nat_cmp, is_eq, ordering_reverse, match_ordering}
+use Rattle.std.specs.Ordering.{nat_cmp, is_eq, ordering_index, ordering_reverse, match_ordering}
 use Rattle.std.specs.Cmp.Lexicographic.{slice_cmp, pointwise, texts_ties}
 use Rattle.std.specs.List.Sorted.{IsSearchInRange, IsBinarySearchResult, IsSortedBy}
 use Rattle.std.proofs.lemmas.Bool.{and_parts, and_from, cond-true, cond-false, cases_lt}
@@ -84,6 +84,28 @@ placed_is_joined o bs (Ok i) up l found = grown_at o [] bs i (block_of_item o) u
 placed_is_joined o bs (Err i) up l found =
     let point = found (searchable_from_sorted nat_list_cmp_total (λ (b : Block). b.owner) bs o.owner (owners_sorted [] bs up)) in
     inserted o bs i l (λ k d h. point.0 k d (omega arith) h) point.1
+
+-- ---- a place after all owners
+
+less_from_index : (r : Ordering) → ordering_index r ≤ 0 → r ≡ Less
+less_from_index Less l = refl
+less_from_index Equal l = absurd (omega (arith, l))
+less_from_index Greater l = absurd (omega (arith, l))
+
+same_block : (bs : List Block) (i : ℕ) (d e : Block) → i < length bs → get_or bs i d ≡ get_or bs i e
+same_block [] i d e lt = absurd (omega (arith, lt))
+same_block (b ∷ bs) zero d e lt = refl
+same_block (b ∷ bs) (suc i) d e lt = same_block bs i d e (omega (arith, lt))
+
+pub after_last : (owner : List ℕ) (bs : List Block) (last : Block) → 0 < length bs → last ≡ get_or bs (length bs - 1) last → text_cmp last.owner owner ≡ Less →
+    IsBinarySearchResult (λ (b : Block). text_cmp b.owner owner) bs (Err (length bs))
+after_last owner bs last some is less =
+    λ rise. (
+      λ k d low lt.
+          let same : text_cmp (get_or bs (length bs - 1) d).owner owner ≡ Less = ap (λ (b : Block). text_cmp b.owner owner) (same_block bs (length bs - 1) d last (omega (arith, some)) ∙ sym is) ∙ less in
+          less_from_index _ (omega (arith, rise k (length bs - 1) d (omega (arith, lt)) (omega (arith, some)), ap ordering_index same)),
+      λ k d low lt. absurd (omega (arith, low, lt)),
+    )
 
 -- ---- what the item adds
 

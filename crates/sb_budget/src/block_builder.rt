@@ -1,5 +1,5 @@
 //! Entries collected by owner, as the blocks that they will make.
-ghost use Rattle.std.specs.Prelude.{◌≡◌, ◌≤◌, ◌+◌, true, length, OnOk, OnErr, IfOk, IfErr};
+ghost use Rattle.std.specs.Prelude.{◌≡◌, ◌≤◌, ◌+◌, true, Ok, length, OnOk, OnErr, IfOk, IfErr};
 ghost use Rattle.std.specs.Option.{option_map_or};
 ghost use Rattle.std.specs.Ordering.{nat_cmp};
 ghost use Rattle.std.specs.Cmp.Lexicographic.{slice_cmp};
@@ -50,10 +50,10 @@ impl BlockBuilder {
         Ok(BlockBuilder { head, entries })
     }
 
-    fn owner(&self) -> Name
-        ensures { result ≡ self.now.owner }
+    fn owner(&self) -> &Name
+        ensures { result.now ≡ self.now.owner }
     {
-        self.head.owner
+        &self.head.owner
     }
 
     fn push(&mut self, entry: Option<Entry>) -> Result<(), Fault>
@@ -95,11 +95,41 @@ fn last_of(before: u64, entries: &[Entry]) -> u64
 }
 
 /// Returns the place of the owner's entries; or, if there are none, the place at which they would be inserted.
-pub(crate) fn place_of(gathered: &[BlockBuilder], owner: Name) -> Result<usize, usize>
+pub(crate) fn place_of(gathered: &[BlockBuilder], owner: &Name) -> Result<usize, usize>
     ensures bound { IsSearchInRange result (length gathered.now) }
-    ensures place { IsBinarySearchResult (λ b. slice_cmp nat_cmp b.owner owner) gathered.now result }
+    ensures place { IsBinarySearchResult (λ b. slice_cmp nat_cmp b.owner owner.now) gathered.now result }
 {
-    gathered.binary_search_by_key(&owner, |group| group.owner())
+    gathered.binary_search_by(|group| group.owner().cmp(owner))
+}
+
+/// Returns such a place too. It looks first at a place and at the next one, and then after the last owner.
+pub(crate) fn place_near(
+    gathered: &[BlockBuilder],
+    owner: &Name,
+    near: usize,
+) -> Result<usize, usize>
+    ensures bound { IsSearchInRange result (length gathered.now) }
+    ensures place { IsBinarySearchResult (λ b. slice_cmp nat_cmp b.owner owner.now) gathered.now result }
+{
+    if is_at(gathered, owner, near) {
+        return Ok(near);
+    }
+    let next = near.saturating_add(1);
+    if is_at(gathered, owner, next) {
+        return Ok(next);
+    }
+    match gathered {
+        [.., last] if last.owner().cmp(owner).is_lt() => Err(gathered.len()),
+        _ => place_of(gathered, owner),
+    }
+}
+
+/// Returns whether the owner's entries are at this place.
+fn is_at(gathered: &[BlockBuilder], owner: &Name, place: usize) -> bool
+    ensures bound { result ≡ true → IsSearchInRange (Ok place) (length gathered.now) }
+    ensures owner { result ≡ true → IsBinarySearchResult (λ b. slice_cmp nat_cmp b.owner owner.now) gathered.now (Ok place) }
+{
+    place < gathered.len() && gathered[place].owner().cmp(owner).is_eq()
 }
 
 /// Returns how many bytes an entry takes, or 0 if there is no entry.

@@ -5,7 +5,7 @@ ghost use Rattle.sb_budget.specs.BlocksByOwner.{item_at, HasParts};
 ghost use Rattle.sb_budget.specs.Cut.{delta_frame_length};
 ghost use Rattle.sb_budget.specs.Making.{IsFrontOf, AfterNext, left_by};
 
-use crate::block_builder::{BlockBuilder, cost, place_of, put};
+use crate::block_builder::{BlockBuilder, cost, place_near, place_of, put};
 use crate::head::Head;
 use sb_types::{
     BUDGET_LEAST, BUDGET_MOST, BYTE_LENGTH, Block, COUNT_LENGTH, Delta, Entry, Fault,
@@ -23,6 +23,8 @@ pub struct DeltaBuilder {
     alloc: Global,
     gathered: Vec<BlockBuilder>,
     room: u64,
+    /// The place of the item that was taken last.
+    last: usize,
 }
 
 impl Model for DeltaBuilder {
@@ -48,6 +50,7 @@ impl DeltaBuilder {
             alloc,
             gathered: Vec::new(alloc),
             room: budget - EMPTY_FRAME,
+            last: 0,
         }
     }
 
@@ -60,12 +63,15 @@ impl DeltaBuilder {
         ensures err { OnErr result (self.new ≡ self.old) }
         ensures memory { IfErr result (λ fault. fault ≡ Fault.NoMemory) }
     {
-        let place = place_of(&self.gathered, head.owner);
+        let place = place_near(&self.gathered, &head.owner, self.last);
         let Some(left) = self.room.checked_sub(cost(&head, &entry, place)) else {
             return Ok(false);
         };
         put(self.alloc, &mut self.gathered, place, head, entry)?;
         self.room = left;
+        self.last = match place {
+            Ok(at) | Err(at) => at,
+        };
         Ok(true)
     }
 
@@ -73,7 +79,7 @@ impl DeltaBuilder {
     pub fn leave(&mut self, owner: Name)
         ensures { self.new ≡ left_by owner self.old }
     {
-        if let Ok(index) = place_of(&self.gathered, owner) {
+        if let Ok(index) = place_of(&self.gathered, &owner) {
             self.gathered[index].lower();
         }
     }

@@ -23,7 +23,8 @@
 //!
 //! - The reader of lists takes its room without `room_for`, which limits it by the bytes that are left. Nothing refuses
 //!   it.
-//! - `decode_payload` reports `NoMemory` for bytes that are not a message. Tests refuse it.
+//! - `decode_payload` reports `NoMemory` for malformed bytes of a kind that takes memory. Tests refuse it. Of another kind a clause
+//!   refuses it.
 //! - `encode_payload`, `append_payload` or `decode_payload` reports `NoMemory` without need. `decode_payload` may do so
 //!   even for a Put that removes a key, although that takes no memory. Tests run each with ample memory, and once at
 //!   full size. They compare exact answers.

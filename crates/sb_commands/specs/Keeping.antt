@@ -4,7 +4,7 @@ use Rattle.std.specs.List.{list_any}
 use Rattle.std.specs.Cmp.Lexicographic.{pointwise}
 use Rattle.std.specs.Ordering.{match_ordering}
 use Rattle.sb_codec.specs.Records.{Row}
-use Rattle.sb_listing.specs.Changes.{place_order}
+use Rattle.sb_listing.specs.Changes.{place_order, is_at}
 use Rattle.sb_commands.specs.declared.reaches.OwnerReach.{OwnerReach}
 
 abbrev pub is_of : List ℕ → OwnerReach → Bool
@@ -12,7 +12,13 @@ is_of owner r = pointwise nat_eq r.owner owner
 
 -- of two reaches of one owner, the farther version of each kind
 abbrev pub farther : OwnerReach → OwnerReach → OwnerReach
-farther r s = record { owner = r.owner; shown = max r.shown s.shown; printed = max r.printed s.printed }
+farther r s = record {
+  owner = r.owner;
+  shown = max r.shown s.shown;
+  printed = max r.printed s.printed;
+  gone = max r.gone s.gone;
+  gone_before = max r.gone_before s.gone_before;
+}
 
 -- a reach as another one of its owner raises it
 abbrev pub raised : OwnerReach → OwnerReach → OwnerReach
@@ -22,9 +28,9 @@ raised s r = if is_of s.owner r then farther r s else r
 abbrev pub entered : List OwnerReach → OwnerReach → List OwnerReach
 entered reaches s = if list_any (is_of s.owner) reaches then map (raised s) reaches else reaches ++ s ∷ []
 
--- the node was started again, and has shown nothing since
+-- the node was started again, and has shown nothing since; what went until then does not come back
 abbrev pub unshown : OwnerReach → OwnerReach
-unshown r = record { owner = r.owner; shown = 0; printed = r.printed }
+unshown r = record { owner = r.owner; shown = 0; printed = r.printed; gone = r.gone; gone_before = r.gone }
 
 -- the node has shown this owner at the version of this row or later, so it holds the write of this row
 abbrev pub is_known : List OwnerReach → Row → Bool
@@ -34,6 +40,10 @@ is_known reaches x = list_any (λ r. is_of x.owner r && nat_le x.version r.shown
 abbrev pub is_held_back : List OwnerReach → Row → Bool
 is_held_back reaches x = list_any (λ r. is_of x.owner r && (nat_le x.version r.printed && nat_lt r.shown r.printed)) reaches
 
+-- before the last start of the node a row of this owner went that had this version or a later one
+abbrev pub is_outdated : List OwnerReach → Row → Bool
+is_outdated reaches x = list_any (λ r. is_of x.owner r && nat_le x.version r.gone_before) reaches
+
 -- of a printed row and one that was found, both of one owner and key: the one of the later version, unless the found one is held back
 abbrev pub later_row : List OwnerReach → Row → Row → Row
 later_row reaches x y = if nat_lt y.version x.version || (nat_lt x.version y.version && is_held_back reaches y) then x else y
@@ -42,9 +52,9 @@ later_row reaches x y = if nat_lt y.version x.version || (nat_lt x.version y.ver
 abbrev pub unless_known : List OwnerReach → Row → List Row → List Row
 unless_known reaches x xs = if is_known reaches x then xs else x ∷ xs
 
--- a row that was found before others, unless it is held back
+-- a row that was found, and of whose key none is printed, before others, unless it is held back or outdated
 abbrev pub unless_held_back : List OwnerReach → Row → List Row → List Row
-unless_held_back reaches y ys = if is_held_back reaches y then ys else y ∷ ys
+unless_held_back reaches y ys = if is_held_back reaches y || is_outdated reaches y then ys else y ∷ ys
 
 -- The printed rows up to the place of y, without those that the node knows better. Then y, and then what comes of the rows after it.
 abbrev pub rows_past_row : List OwnerReach → Row → (List Row → List Row) → List Row → List Row
@@ -63,3 +73,15 @@ unknown_rows reaches (x ∷ xs) = unless_known reaches x (unknown_rows reaches x
 abbrev pub rows_after : List OwnerReach → List Row → List Row → List Row
 rows_after reaches held [] = unknown_rows reaches held
 rows_after reaches held (y ∷ ys) = rows_past_row reaches y (λ rest. rows_after reaches rest ys) held
+
+-- of two rows of one owner and key, the first is the earlier version
+abbrev pub is_earlier : Row → Row → Bool
+is_earlier y x = is_at x y && nat_lt y.version x.version
+
+-- a later version of this row was printed
+abbrev pub goes_back : List Row → Row → Bool
+goes_back held y = list_any (is_earlier y) held
+
+-- a row of this owner and key is printed
+abbrev pub is_printed : List Row → Row → Bool
+is_printed held y = list_any (λ x. is_at x y) held

@@ -110,7 +110,8 @@ fn about_store(place: FaultPlace<'_>) -> &'static str {
             "it belongs to the log that is lost: see that the path is right, move this file away, and give the command again"
         }
         FaultPlace::Node(_) => {
-            "the node could not write its log, and takes no more writes: see that its disk has room and works, and start the node again"
+            "the node could not write its log, and takes no more writes: its line on standard error says why; before you start it again, \
+see RUNBOOK, A full disk, or A removed log"
         }
         _ => {
             "see that the disk has room; that you may read and write the file, and write in its folder, where a file of its name with -wal is made; \
@@ -153,7 +154,8 @@ fn about_exchange(fault: &Fault, place: FaultPlace<'_>) -> &'static str {
             "give the --control of a node of the same release; its --sock, for other nodes, is another socket"
         }
         Fault::Closed => {
-            "the log of the node met a fault before, and the node takes no more writes: see that its disk has room and works, and start the node again"
+            "the log of the node met a fault before, and the node takes no more writes: its line on standard error says why; before you start it again, \
+see RUNBOOK, A full disk, or A removed log"
         }
         Fault::WriteFailed(_) => about_writing(place),
         Fault::Truncated => ASK_AGAIN,
@@ -207,7 +209,7 @@ fn about_log(fault: &Fault, place: FaultPlace<'_>) -> &'static str {
 a copy helps only if the node has written nothing since"
         }
         Fault::WrongOwner => {
-            "give --name and --cluster as the log has them (sqlite3 FILE 'SELECT owner, cluster FROM meta'), or give the log of this node"
+            "give the log of this node, or correct --name or --cluster; to see whose log it is, see RUNBOOK, A log of another name"
         }
         Fault::OwnerConflict(_) => {
             "end the other node of this name; if there is none, the log is an older copy, or began too low: see RUNBOOK, An older copy of a log"
@@ -264,7 +266,8 @@ fn about_session(fault: &Fault) -> &'static str {
         Fault::NoMemory => about_fault(fault, FaultPlace::Line),
         Fault::WrongCluster => "give --cluster as the node has it",
         Fault::SameName => {
-            "the node has this name: give another --name; for `begin` end that node, and ask another one"
+            "the node has this name: for `owners` give another --name; for `restore` give the --sock of another node after --from; \
+for `begin` end that node, and ask another one"
         }
         Fault::NothingThere => {
             "a node that was started since has forgotten it: give the --sock of a node that runs for longer, or begin with --after; a name that never \

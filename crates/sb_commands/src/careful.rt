@@ -5,13 +5,12 @@ use crate::care::{
     most_of, rows_with,
 };
 use crate::keeping::copy_of;
-use crate::output::Output;
+use crate::output::print_at_once;
 use crate::rendered_file::{FileWrite, RenderedFile};
 use sb_codec::Row;
 use sb_listing::{add_json_array, changes, print_changes};
 use sb_types::Fault;
 use std::alloc::Global;
-use std::io::Write;
 use std::time::{Clock, Instant};
 
 /// How a watch shows rows.
@@ -57,15 +56,6 @@ fn listing_line(alloc: Global, rows: &[Row]) -> Result<Vec<u8>, Fault> {
     add_json_array(alloc, &mut line, rows)?;
     line.push(b'\n')?;
     Ok(line)
-}
-
-/// Prints a line in one piece. `WriteFailed`.
-fn print_line(rt: &HostRuntime, line: &[u8]) -> Result<(), Fault> {
-    let mut output = Output::new(rt);
-    match output.write_all(line) {
-        Ok(()) => Ok(()),
-        Err(_) => Err(Fault::WriteFailed(output.taken())),
-    }
 }
 
 /// Prints what changed from the rows that were shown before. `NoMemory`; `WriteFailed`.
@@ -157,7 +147,7 @@ impl<'a> CarefulWatch<'a> {
                 Ok(true)
             }
             View::Listings => {
-                print_line(rt, &listing_line(rt.alloc(), rows)?)?;
+                print_at_once(rt, &listing_line(rt.alloc(), rows)?)?;
                 Ok(true)
             }
             View::File(file) => print_written(rt, file, now, rows),

@@ -1,5 +1,6 @@
 //! The rows that a watch keeps if it outlasts its node: a row stays unless the node knows better.
-ghost use Rattle.std.specs.Prelude.{◌≡◌, ◌++◌, List, OnOk, IfOk, IfErr};
+ghost use Rattle.std.specs.Prelude.{◌≡◌, ◌++◌, true, false, List, OnOk, IfOk, IfErr};
+ghost use Rattle.std.specs.List.{AllByRecursion};
 ghost use Rattle.sb_codec.specs.Records as records;
 ghost use Rattle.sb_listing.specs.Changes as changes;
 ghost use Rattle.sb_commands.specs.Keeping as spec;
@@ -34,6 +35,16 @@ fn is_held_back(reaches: &[OwnerReach], row: &Row) -> bool
     reaches.iter().any(|reach| {
         reach.owner == *row.owner()
             && (row.version() <= reach.printed && reach.shown < reach.printed)
+    })
+}
+
+/// Whether a row of the same owner went before the last start of the node, at the version of this row or later. The node then held
+/// all rows of the owner up to that version, and those that were printed since are kept. So any other such row was replaced or removed.
+pub(crate) fn is_outdated(reaches: &[OwnerReach], row: &Row) -> bool
+    ensures { result ≡ spec.is_outdated reaches.now row.now }
+{
+    reaches.iter().any(|reach| {
+        reach.owner == *row.owner() && row.version() <= reach.gone_before
     })
 }
 
@@ -76,7 +87,7 @@ fn keep_unknown(
     Ok(())
 }
 
-/// Keeps a row that was found, unless it is held back. `NoMemory`.
+/// Keeps a row that was found, and of whose key none is printed, unless it is held back or outdated. `NoMemory`.
 fn keep_found(
     alloc: Global,
     kept: &mut Vec<Row>,
@@ -86,7 +97,7 @@ fn keep_found(
     ensures kept { OnOk result ((next : List records.Row) → kept.new.items ++ next ≡ kept.old.items ++ spec.unless_held_back reaches.now row.now next) }
     ensures memory { IfErr result (λ fault. fault ≡ Fault.NoMemory) }
 {
-    if !is_held_back(reaches, row) {
+    if !is_held_back(reaches, row) && !is_outdated(reaches, row) {
         kept.push(copy_of(alloc, row)?)?;
     }
     Ok(())
@@ -142,15 +153,9 @@ fn keep_rest(
     Ok(())
 }
 
-/// Returns the rows that a watch shows after it found a listing. It walks once through the rows that were printed
-/// before (`held`) and the rows of the listing (`found`). It keeps:
-///
-/// - Each row of the listing, unless it is held back, or a later version of the same owner and key was printed. Then it keeps the printed row, if
-///   there is one.
-/// - Each printed row of an owner and key that the listing does not have, unless the node knows better.
-///
-/// `reaches` is what was printed and shown before the first page of the listing. `NoMemory`.
-pub(crate) fn kept_rows(
+/// Walks once through the rows that were printed before (`held`) and the rows of a listing (`found`), and keeps those that a watch shows
+/// then. `NoMemory`.
+fn merged_rows(
     alloc: Global,
     held: &[Row],
     found: &[Row],
@@ -166,4 +171,29 @@ pub(crate) fn kept_rows(
     }
     keep_rest(alloc, &mut kept, rest, reaches)?;
     Ok(kept)
+}
+
+/// Returns the rows that a watch shows after it found a listing (`found`). Before, it printed those of `held`. It keeps:
+///
+/// - Each row of the listing, unless it is held back, or a later version of the same owner and key was printed. Then it keeps the printed row, if
+///   there is one. If there is none, the row must not be outdated either.
+/// - Each printed row of an owner and key that the listing does not have, unless the node knows better.
+///
+/// If both ascend by owner and key, no row is of an earlier version than the printed one. Of what went before the last start of the node, no row
+/// comes back, nor any earlier version.
+///
+/// `reaches` is what was printed and shown before the first page of the listing. `NoMemory`.
+pub(crate) fn kept_rows(
+    alloc: Global,
+    held: &[Row],
+    found: &[Row],
+    reaches: &[OwnerReach],
+) -> Result<Vec<Row>, Fault>
+    ensures kept { IfOk result (λ rows. rows.items ≡ spec.rows_after reaches.now held.now found.now) }
+    ensures forth { changes.AreAscending held.now → changes.AreAscending found.now →
+        IfOk result (λ rows. AllByRecursion (λ row. spec.goes_back held.now row ≡ false) rows.items) }
+    ensures gone { IfOk result (λ rows. AllByRecursion (λ row. spec.is_outdated reaches.now row ≡ true → spec.is_printed held.now row ≡ true) rows.items) }
+    ensures memory { IfErr result (λ fault. fault ≡ Fault.NoMemory) }
+{
+    merged_rows(alloc, held, found, reaches)
 }

@@ -1,4 +1,5 @@
 //! What a watch reports if its node, started again, does not show as much as was printed.
+use crate::keeping::is_outdated;
 use crate::reaches::OwnerReach;
 use sb_codec::Row;
 use sb_listing::{RowChange, changes};
@@ -22,18 +23,26 @@ fn owner_of<'a>(change: &RowChange<'a>) -> &'a Name {
     }
 }
 
-/// Whether more of an owner was printed than the node has shown since its start.
-fn is_behind(reaches: &[OwnerReach], owner: &Name) -> bool {
-    reaches.iter().any(|reach| reach.owner == *owner && reach.shown < reach.printed)
+/// Whether the node has shown less of the owner since its start than was printed, or shows a row that is outdated.
+fn is_behind(reaches: &[OwnerReach], difference: &RowChange<'_>) -> bool {
+    let owner = owner_of(difference);
+    let shows_less = reaches.iter().any(|reach| reach.owner == *owner
+        && reach.shown < reach.printed);
+    match difference {
+        RowChange::Set(row) => shows_less || is_outdated(reaches, row),
+        RowChange::Gone(_) => shows_less,
+    }
 }
 
-/// The owners of these differences, without those that the node has shown as far as they were printed. The differences ascend by owner.
+/// The owners of these differences, without those that the node has shown as far as they were printed, and with no outdated row. The
+/// differences ascend by owner.
 fn owners_behind(differences: &[RowChange<'_>], reaches: &[OwnerReach]) -> Option<DifferingOwners> {
     let mut found: Option<DifferingOwners> = None;
     let mut last = None;
     for difference in differences {
         let owner = *owner_of(difference);
-        if last != Some(owner) && is_behind(reaches, &owner) {
+        if last != Some(owner) && is_behind(reaches, difference) {
+            last = Some(owner);
             found = Some(match found {
                 Some(before) => DifferingOwners {
                     count: before.count.saturating_add(1),
@@ -45,19 +54,19 @@ fn owners_behind(differences: &[RowChange<'_>], reaches: &[OwnerReach]) -> Optio
                 },
             });
         }
-        last = Some(owner);
     }
     found
 }
 
-/// The owners whose printed rows differ from a listing, if more was printed of them than the node has shown. `NoMemory`.
+/// The owners whose printed rows differ from a listing, if more was printed of them than the node has shown, or the listing has outdated
+/// rows of them. `NoMemory`.
 pub(crate) fn differing_owners(
     alloc: Global,
     printed: &[Row],
     found: &[Row],
     reaches: &[OwnerReach],
 ) -> Result<Option<DifferingOwners>, Fault> {
-    if !reaches.iter().any(|reach| reach.shown < reach.printed) {
+    if !reaches.iter().any(|reach| reach.shown < reach.printed || reach.gone_before > 0) {
         return Ok(None);
     }
     let differences = changes(alloc, printed, found)?;

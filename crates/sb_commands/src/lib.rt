@@ -34,7 +34,7 @@
 //! - `set`, `del`, `get`, `watch`, `status` or `owners` opens another file or socket, sends another request, or prints
 //!   something else. `tools/check-node` refuses it.
 //! - `watch --retry` enters wrongly what a node has shown and what it printed (`enter_shown`, `enter_printed`). It then
-//!   prints a row as gone, keeps it or holds it back. `tools/check-node` refuses it.
+//!   prints a row as gone or again, keeps it or holds it back. `tools/check-node` refuses it.
 //! - `watch` with care shows rows at another time, takes rows of a node that is not caught up, reads a template wrongly, or
 //!   writes another file. `tools/check-node` refuses it.
 #![tactic(auto)]

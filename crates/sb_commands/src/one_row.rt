@@ -1,7 +1,7 @@
 //! The row of one key, and its value alone.
 use crate::asking::{RowFormat, first_page_of, print_page};
 use crate::failure::Failure;
-use crate::output::Output;
+use crate::output::{Output, print_at_once};
 use sb_codec::{Ask, Row, Rows};
 use sb_query::first_at;
 use sb_types::{ContentRef, Fault, Key, Name, Prefix, Spelled, Value};
@@ -33,24 +33,24 @@ fn page_with(alloc: Global, row: &Row) -> Result<Rows, Fault> {
     Rows::new(false, vec![in alloc; copy]?)
 }
 
-/// Prints a value alone, and the end of a line. It prints a text as it is spelled, or as it is if `is_raw` is true.
+/// Prints a value alone, and the end of a line. It prints a text as it is spelled, or as it is if `is_raw` is true. `NoMemory`;
 /// `WriteFailed`, with the number of bytes that the output took.
 fn print_value(rt: &HostRuntime, value: &Value, is_raw: bool) -> Result<(), Fault> {
-    let mut output = Output::new(rt);
-    let printed = match value.content() {
-        ContentRef::Number(number) => writeln!(output, "{number}"),
-        ContentRef::Truth(truth) => writeln!(output, "{truth}"),
+    let mut line = Vec::new(rt.alloc());
+    let added = match value.content() {
+        ContentRef::Number(number) => writeln!(line, "{number}"),
+        ContentRef::Truth(truth) => writeln!(line, "{truth}"),
         ContentRef::Text(text) if !is_raw => {
-            writeln!(output, "{}", Spelled(str::from_utf8(text).unwrap_or("")))
+            writeln!(line, "{}", Spelled(str::from_utf8(text).unwrap_or("")))
         }
         ContentRef::Word(text) | ContentRef::Text(text) => {
-            writeln!(output, "{}", str::from_utf8(text).unwrap_or(""))
+            writeln!(line, "{}", str::from_utf8(text).unwrap_or(""))
         }
     };
-    match printed {
-        Ok(()) => Ok(()),
-        Err(_) => Err(Fault::WriteFailed(output.taken())),
+    if added.is_err() {
+        return Err(Fault::NoMemory);
     }
+    print_at_once(rt, &line)
 }
 
 /// Prints the row of one owner and key, or its value alone. Returns whether there is one. The faults of asking, then

@@ -1,4 +1,5 @@
 //! Standard output, with a count of the bytes that it took.
+use sb_types::Fault;
 use std::io::{self, Write};
 
 /// Standard output, which counts the bytes that it took.
@@ -28,5 +29,15 @@ impl Write for Output<'_> {
 
     fn flush(&mut self) -> io::Result<()> {
         self.rt.stdout().flush()
+    }
+}
+
+/// Prints lines by one write, if standard output takes them all. So a reader that wants only the first of them has them all.
+/// `WriteFailed`, with the number of bytes that it took.
+pub(crate) fn print_at_once(rt: &HostRuntime, lines: &[u8]) -> Result<(), Fault> {
+    let mut output = Output::new(rt);
+    match output.write_all(lines) {
+        Ok(()) => Ok(()),
+        Err(_) => Err(Fault::WriteFailed(output.taken())),
     }
 }

@@ -6,11 +6,12 @@ ghost use Rattle.sb_commands.specs.Owners as spec;
 use crate::ages::age_of;
 use crate::asking::{READS_OF_ONE, is_silent, limit};
 use crate::failure::{Failure, FaultPlace, Obstacle};
+use crate::output::print_at_once;
 use sb_codec::{Ages, Bye, Message};
 use sb_digest::{Digest, Pair};
 use sb_frames::{Connection, Steps};
 use sb_holdings::Report;
-use sb_session::{Handler, Replies, Session};
+use sb_session::{Handler, ReceivedDelta, ReceivedMessage, Replies, Session};
 use sb_types::{Delta, Fault, KIND_DIGEST, Name, OWNERS_MOST, REASON_ROUNDS_DONE};
 use std::alloc::Global;
 use std::io::{Read, Write};
@@ -86,7 +87,7 @@ impl Handler for HeardDigests {
         granted(Delta::new(Vec::new(self.alloc)))
     }
 
-    fn apply(&mut self, _delta: &Delta) -> Result<Report, Fault> {
+    fn apply(&mut self, _delta: &ReceivedDelta) -> Result<Report, Fault> {
         Ok(Report::new(Vec::new(self.alloc)))
     }
 
@@ -112,7 +113,7 @@ fn hear<R: Read, W: Write, L: Ledger>(
 ) -> Result<Replies, Fault>
     ensures unwritten { connection.new.last_write ≡ connection.old.last_write }
 {
-    let Some(message) = connection.receive()? else {
+    let Some(message) = ReceivedMessage::read_from(connection)? else {
         return Err(Fault::Truncated);
     };
     match session.take(message, heard)? {
@@ -185,20 +186,25 @@ fn hear_from<L: Ledger>(
 /// Prints how far each owner is held, a line for each, and the age of the owner after it if ages are given. `-` is the age of
 /// an owner without one. `NoMemory`; `WriteFailed`.
 fn print_pairs(rt: &HostRuntime, pairs: &[Pair], ages: Option<&Ages>) -> Result<(), Fault> {
+    let mut lines = Vec::new(rt.alloc());
     for pair in pairs {
-        let name = str::from_utf8(pair.owner.bytes()).unwrap_or("");
-        let printed = match ages {
-            None => println!(rt; "{name} {}", pair.upto),
-            Some(ages) => match age_of(ages, &pair.owner) {
-                Some(age) => println!(rt; "{name} {} {age}", pair.upto),
-                None => println!(rt; "{name} {} -", pair.upto),
-            },
-        };
-        if printed.is_err() {
-            return Err(Fault::WriteFailed(0));
+        if add_pair(&mut lines, pair, ages).is_err() {
+            return Err(Fault::NoMemory);
         }
     }
-    Ok(())
+    print_at_once(rt, &lines)
+}
+
+/// Adds the line of a pair, with the age of its owner if ages are given. An error if there is no memory.
+fn add_pair(out: &mut Vec<u8>, pair: &Pair, ages: Option<&Ages>) -> std::io::Result<()> {
+    let name = str::from_utf8(pair.owner.bytes()).unwrap_or("");
+    let Some(ages) = ages else {
+        return writeln!(out, "{name} {}", pair.upto);
+    };
+    match age_of(ages, &pair.owner) {
+        Some(age) => writeln!(out, "{name} {} {age}", pair.upto),
+        None => writeln!(out, "{name} {} -", pair.upto),
+    }
 }
 
 /// Asks the node at a socket for peers how far it holds each owner, as a peer of this name. Returns a pair of each, in ascending owner. It

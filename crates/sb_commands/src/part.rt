@@ -13,6 +13,8 @@ pub enum Range {
     Within(u64, u64),
     /// From two more than the workers to this.
     Seats(u64),
+    /// From 1 to this, with `--http`.
+    WithHttp(u64),
 }
 
 impl Range {
@@ -21,7 +23,7 @@ impl Range {
         match self {
             Range::Any => true,
             Range::Within(least, most) => least <= number && number <= most,
-            Range::Seats(most) => number <= most,
+            Range::Seats(most) | Range::WithHttp(most) => number <= most,
         }
     }
 }
@@ -32,6 +34,7 @@ impl fmt::Display for Range {
             Range::Any => f.write_str("any number"),
             Range::Within(least, most) => write!(f, "{least} to {most}"),
             Range::Seats(most) => write!(f, "workers and 2 (3 with --http) to {most}"),
+            Range::WithHttp(most) => write!(f, "1 to {most} with --http"),
         }
     }
 }

@@ -15,6 +15,10 @@ pub(crate) struct OwnerReach {
     pub(crate) shown: u64,
     /// The greatest version that the watch has printed. A row that is gone counts as one version more.
     pub(crate) printed: u64,
+    /// The greatest version of a row that the watch has printed as gone.
+    pub(crate) gone: u64,
+    /// The same at the last start of the node.
+    pub(crate) gone_before: u64,
 }
 
 impl OwnerReach {
@@ -26,6 +30,8 @@ impl OwnerReach {
             owner: self.owner,
             shown: self.shown.max(other.shown),
             printed: self.printed.max(other.printed),
+            gone: self.gone.max(other.gone),
+            gone_before: self.gone_before.max(other.gone_before),
         }
     }
 
@@ -38,11 +44,12 @@ impl OwnerReach {
         }
     }
 
-    /// The node was started again, and has shown nothing since.
+    /// The node was started again, and has shown nothing since. What went until then does not come back.
     fn forget_shown(&mut self)
         ensures { self.new ≡ spec.unshown self.old }
     {
         self.shown = 0;
+        self.gone_before = self.gone;
     }
 }
 
@@ -114,6 +121,8 @@ fn shown_by(row: &Row) -> OwnerReach {
         owner: *row.owner(),
         shown: row.version(),
         printed: 0,
+        gone: 0,
+        gone_before: 0,
     }
 }
 
@@ -124,6 +133,8 @@ fn printed_by(change: &RowChange<'_>) -> OwnerReach {
             owner: *row.owner(),
             shown: 0,
             printed: row.version(),
+            gone: 0,
+            gone_before: 0,
         },
         RowChange::Gone(row) => {
             let removed = row.version().saturating_add(1);
@@ -131,6 +142,8 @@ fn printed_by(change: &RowChange<'_>) -> OwnerReach {
                 owner: *row.owner(),
                 shown: removed,
                 printed: removed,
+                gone: row.version(),
+                gone_before: 0,
             }
         }
     }

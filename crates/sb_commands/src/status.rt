@@ -1,7 +1,7 @@
 //! How a node is, which it is asked at its control socket.
 use crate::asking::{RowFormat, answer_of, unanswered};
 use crate::failure::{Failure, FaultPlace};
-use crate::output::Output;
+use crate::output::print_at_once;
 use sb_codec::{AskStatus, Figure, FigureKind, Message, NodeIdentity, NodeStatus, PeerStatus};
 use sb_control::LogCause;
 use sb_query::{is_ready, status_in};
@@ -135,53 +135,55 @@ impl fmt::Display for FigureLine<'_> {
 }
 
 impl WholeStatus {
-    /// Prints it in lines: whether the node is ready, which it is, its figures and its peers.
-    fn print_lines(&self, output: &mut Output<'_>) -> std::io::Result<()> {
+    /// Adds its lines: whether the node is ready, which it is, its figures and its peers. An error if there is no memory.
+    fn add_lines(&self, out: &mut Vec<u8>) -> std::io::Result<()> {
         let identity = self.head.identity();
         let ready = if is_ready(&self.head) { "yes" } else { "no" };
-        writeln!(output, "ready {ready}")?;
-        writeln!(output, "node {}", name_text(&identity.node))?;
-        writeln!(output, "cluster {}", name_text(&identity.cluster))?;
-        writeln!(output, "release {}", Spelled(text_of(&identity.release)))?;
+        writeln!(out, "ready {ready}")?;
+        writeln!(out, "node {}", name_text(&identity.node))?;
+        writeln!(out, "cluster {}", name_text(&identity.cluster))?;
+        writeln!(out, "release {}", Spelled(text_of(&identity.release)))?;
         for figure in self.head.figures() {
-            writeln!(output, "{}", FigureLine(figure))?;
+            writeln!(out, "{}", FigureLine(figure))?;
         }
         for peer in self.head.peers() {
-            print_peer(output, peer)?;
+            add_peer(out, peer)?;
         }
         for peer in &self.rest {
-            print_peer(output, peer)?;
+            add_peer(out, peer)?;
         }
         Ok(())
     }
 
-    /// Prints it as an object in one line.
-    fn print_json(
-        &self,
-        alloc: Global,
-        output: &mut Output<'_>,
-    ) -> Result<std::io::Result<()>, AllocError> {
-        let text = object_of(alloc, self)?.to_string(alloc)?;
-        Ok(writeln!(output, "{}", text.as_str()))
+    /// Its lines. `NoMemory`.
+    fn lines(&self, alloc: Global) -> Result<Vec<u8>, AllocError> {
+        let mut lines = Vec::new(alloc);
+        match self.add_lines(&mut lines) {
+            Ok(()) => Ok(lines),
+            Err(_) => Err(AllocError),
+        }
+    }
+
+    /// Its object, in one line. `NoMemory`.
+    fn json_line(&self, alloc: Global) -> Result<Vec<u8>, AllocError> {
+        let mut line = object_of(alloc, self)?.to_vec(alloc)?;
+        line.push(b'\n')?;
+        Ok(line)
     }
 
     /// Prints it. `NoMemory`; `WriteFailed`, with the number of bytes that the output took.
     fn print(&self, rt: &HostRuntime, format: RowFormat) -> Result<(), Fault> {
-        let mut output = Output::new(rt);
-        let printed = match format {
-            RowFormat::Text => self.print_lines(&mut output),
-            RowFormat::Json => self.print_json(rt.alloc(), &mut output)?,
+        let lines = match format {
+            RowFormat::Text => self.lines(rt.alloc())?,
+            RowFormat::Json => self.json_line(rt.alloc())?,
         };
-        match printed {
-            Ok(()) => Ok(()),
-            Err(_) => Err(Fault::WriteFailed(output.taken())),
-        }
+        print_at_once(rt, &lines)
     }
 }
 
-fn print_peer(output: &mut Output<'_>, peer: &PeerStatus) -> std::io::Result<()> {
+fn add_peer(out: &mut Vec<u8>, peer: &PeerStatus) -> std::io::Result<()> {
     writeln!(
-        output,
+        out,
         "peer {} {}",
         StateWord(peer.state),
         Spelled(text_of(&peer.path))

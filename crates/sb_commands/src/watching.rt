@@ -291,7 +291,7 @@ impl<'a> PrintedRows<'a> {
 ///
 /// It prints that a row is gone only if the node knows it. The node knows it if it showed a row of that owner with the same
 /// version or a later one, at an earlier asking since its last start. It does not print a row of an earlier version than
-/// it printed before. It ends after `count` askings that were answered.
+/// it printed before, also of a key that is gone. It ends after `count` askings that were answered.
 ///
 /// If the watch is careful, it takes no rows before the node is caught up.
 pub fn watch_on<'a>(

@@ -1,2 +1,3 @@
 pub mod OneMessage
 pub mod LogCauses
+pub mod Pieces

@@ -5,6 +5,7 @@ ghost use Rattle.sb_frames.specs.declared.last_write.Outcome.{Outcome};
 ghost use Rattle.sb_frames.specs.Connections.{KeepsOutput};
 ghost use Rattle.sb_control.specs.OneMessage.{ReceivesOne, Asks};
 
+use crate::request::ControlRequest;
 use sb_codec::Message;
 use sb_frames::Connection;
 use sb_types::Fault;
@@ -29,8 +30,8 @@ fn receive_one<R: Read, W: Write, K: Ledger>(
     }
 }
 
-/// The message that a talk begins with. Its faults are those of `receive_one`.
-pub fn receive_first<R: Read, W: Write, K: Ledger>(
+/// The message that a connection begins with. Its faults are those of `receive_one`.
+fn receive_first<R: Read, W: Write, K: Ledger>(
     connection: &mut Connection<R, W, K>,
 ) -> Result<Message, Fault>
     ensures receives { ReceivesOne connection.old connection.new result }
@@ -41,6 +42,23 @@ pub fn receive_first<R: Read, W: Write, K: Ledger>(
 {
     connection.start()?;
     receive_one(connection)
+}
+
+/// The request that a connection begins with. Its faults are those of `Connection::receive`, and `Truncated` at an end before the
+/// request.
+pub fn receive_request<R: Read, W: Write, K: Ledger>(
+    connection: &mut Connection<R, W, K>,
+) -> Result<ControlRequest, Fault>
+    ensures receives { ReceivesOne connection.old connection.new result }
+    ensures counted { connection.new.steps + connection.new.left ≡ connection.old.steps + connection.old.left }
+    ensures output { connection.new.output ≡ connection.old.output }
+    ensures unwritten { (last : Outcome) → OnlyWhereFailed result last }
+    ensures goes_on { IfOk result (λ _. has_failed connection.new.last_write ≡ false) }
+{
+    match receive_first(connection) {
+        Ok(message) => Ok(ControlRequest::new(message)),
+        Err(fault) => Err(fault),
+    }
 }
 
 /// Sends one request and gives the message that answers it, a `Refused` as any other. After the call the connection says

@@ -13,12 +13,16 @@
 //!
 //! These wrong bodies would still be proved. `docs/GAPS.md` also has those of every crate.
 //!
-//! - `ask_control` or `receive_first` never returns. Tests end.
+//! - `ask_control`, `receive_request` or `read_piece` never returns. Tests end.
 //! - The words of a `LogCause` for people, or its name for programs, are others. `tools/check-node` refuses it.
 #![tactic(auto)]
 
 mod asking;
 mod log_cause;
+mod pieces;
+mod request;
 
-pub use asking::{ask_control, receive_first};
+pub use asking::{ask_control, receive_request};
 pub use log_cause::{LogCause, LogLoss};
+pub use pieces::read_piece;
+pub use request::ControlRequest;

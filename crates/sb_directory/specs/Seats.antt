@@ -12,19 +12,25 @@ use Rattle.sb_views.specs.declared.event.Event.{Event}
 use Rattle.sb_views.specs.Histories.{node_after}
 use Rattle.sb_directory.specs.ViewedNodes.{ViewedNode, unless_spent}
 
--- the prefix that it has seen, the history as it was when its last call was answered, and how many events its calls made
+-- the prefix that it has seen, and the one that it knows by an answer; the history as it was when its last call was answered; and
+-- how many events its calls made
 pub record Seat : Type 0 where
   pub seen : List Event
+  pub knowledge : List Event
   pub last_call : List Event
   pub events : ℕ
 
 -- a seat whose calls made no event
 abbrev pub new_seat : List Event → Seat
-new_seat seen = record { seen = seen; last_call = seen; events = 0 }
+new_seat seen = record { seen = seen; knowledge = seen; last_call = seen; events = 0 }
 
--- the seat once a further call was answered after this history
+-- the seat once a further call was answered after this history, which it knows then
 abbrev pub with_last_call : Seat → List Event → Seat
-with_last_call seat last_call = record { seen = seat.seen; last_call = last_call; events = seat.events }
+with_last_call seat last_call = record { seen = seat.seen; knowledge = last_call; last_call = last_call; events = seat.events }
+
+-- the seat once it called after this history, and knows no more by the answer
+abbrev pub with_call : Seat → List Event → Seat
+with_call seat last_call = record { seen = seat.seen; knowledge = seat.knowledge; last_call = last_call; events = seat.events }
 
 -- the history begins with what the seat has seen, and with its last call
 pub record Begins (history : List Event) (seat : Seat) : Type 0 where

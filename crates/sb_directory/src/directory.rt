@@ -32,6 +32,7 @@ use sb_budget::Backlog;
 use sb_digest::Digest;
 use sb_log::Committed;
 use sb_node::NodeCore;
+use sb_session::ReceivedDelta;
 use sb_types::{Block, Delta, Fault, Name, SEATS_MOST, Settings};
 use sb_views::{NewHistory, views};
 use sb_watch::{Filter, Polled};
@@ -56,7 +57,9 @@ struct Identity<S: DirectoryTag> {
 /// its watches and the writing of its views. Reading from a seat that has entered takes no lock. No call waits while it has the lock,
 /// except to publish: then it waits for readers that entered before the last publish. A call from a seat is answered as the node is
 /// after its history up to then. That history begins with what the seat has seen and with its last call, and is the seat's last call
-/// from then on. Each seat's history is a `HistoryPrefix` of the one history, so of two seats' histories one begins the other. Once the
+/// from then on. Each seat's history is a `HistoryPrefix` of the one history, so of two seats' histories one begins the other. No
+/// seat enters a view from before the history of its last answer (`knowledge`). If a call makes an event, that history is without the event.
+/// Calls that only ask publish what was not published yet, if there is memory. Once the
 /// directory is closed, the history has as many events as the calls of all seats made. The example at the top of the crate makes a
 /// directory, writes from a seat, reads what it wrote, and closes the directory.
 #[derive(Drop)]
@@ -157,13 +160,14 @@ impl<S: DirectoryTag, R: Wait + Drop> Directory<S, R> {
         ensures begins { OnErr result (spec.Begins seat.new.last_call seat.old) }
         ensures seat { OnErr result (seat.new ≡ spec.with_last_call seat.old seat.new.last_call) }
         ensures count { OnOk result (seat.new.events ≡ seat.old.events + 1) }
+        ensures knows { IsPrefix seat.old.knowledge seat.new.knowledge }
         ensures grows { IsPrefix seat.old.seen seat.new.seen }
         ensures version { IfOk result (λ receipt. receipt.version ≡ committed.now.entry.version) }
     {
         self.node.lock(rt).take_own(seat, committed)
     }
 
-    /// Takes each block of a delta in turn, and publishes all that happened. It notes each entry that it entered in watches,
+    /// Takes each block of a delta that a peer sent in turn, and publishes all that happened. It notes each entry that it entered in watches,
     /// and each table that it replaced. It gives how the blocks ended, and says whether the seat has seen it. If it has not,
     /// the next call that publishes makes up for it.
     /// `TurnsSpent` after 2^64 - 1 events; `NoMemory` if there is no room for the ends, or to note whose writes watches and views
@@ -172,7 +176,7 @@ impl<S: DirectoryTag, R: Wait + Drop> Directory<S, R> {
         &self,
         rt: &Q,
         seat: &mut ReaderSeat<S>,
-        delta: &Delta,
+        delta: &ReceivedDelta,
     ) -> Result<Applied, Fault>
         ensures event { IfOk result (λ applied. (made : spec.MakesEvent spec.delta_due_after (events.Applied delta.now applied.ends) seat.old seat.new)
             × Treats (node_after S.opening made.history) delta.now applied.ends) }
@@ -182,9 +186,10 @@ impl<S: DirectoryTag, R: Wait + Drop> Directory<S, R> {
         ensures begins { OnErr result (spec.Begins seat.new.last_call seat.old) }
         ensures seat { OnErr result (seat.new ≡ spec.with_last_call seat.old seat.new.last_call) }
         ensures count { OnOk result (seat.new.events ≡ seat.old.events + 1) }
+        ensures knows { IsPrefix seat.old.knowledge seat.new.knowledge }
         ensures grows { IsPrefix seat.old.seen seat.new.seen }
     {
-        self.node.lock(rt).apply(seat, delta)
+        self.node.lock(rt).apply(seat, delta.delta())
     }
 
     /// Purges the node's own table if that is due, and then publishes all that happened. It is due if the table has `least` removed
@@ -212,6 +217,7 @@ impl<S: DirectoryTag, R: Wait + Drop> Directory<S, R> {
         ensures due { OnErr result (IsSome (purging.own_due_floor least (node_after S.opening seat.new.last_call))) }
         ensures begins { OnErr result (spec.Begins seat.new.last_call seat.old) }
         ensures seat { OnErr result (seat.new ≡ spec.with_last_call seat.old seat.new.last_call) }
+        ensures knows { IsPrefix seat.old.knowledge seat.new.knowledge }
         ensures grows { IsPrefix seat.old.seen seat.new.seen }
     {
         self.node.lock(rt).purge(seat, least)
@@ -244,6 +250,7 @@ impl<S: DirectoryTag, R: Wait + Drop> Directory<S, R> {
         ensures still { result ≡ Ok None → seat.new ≡ spec.with_last_call seat.old seat.new.last_call }
         ensures begins { OnErr result (spec.Begins seat.new.last_call seat.old) }
         ensures seat { OnErr result (seat.new ≡ spec.with_last_call seat.old seat.new.last_call) }
+        ensures knows { IsPrefix seat.old.knowledge seat.new.knowledge }
         ensures grows { IsPrefix seat.old.seen seat.new.seen }
     {
         self.node.lock(rt).audit(seat, block)
@@ -260,11 +267,12 @@ impl<S: DirectoryTag, R: Wait + Drop> Directory<S, R> {
     ) -> Result<Digest, Fault>
         ensures answer { AnswersAfter S.opening S.settings seat.new.last_call (tells from want result) }
         ensures begins { spec.Begins seat.new.last_call seat.old }
+        ensures knows { IsPrefix seat.old.knowledge seat.new.knowledge }
         ensures seat { seat.new ≡ spec.with_last_call seat.old seat.new.last_call }
         ensures memory { IfErr result (λ fault. fault ≡ Fault.NoMemory) }
     {
         let mut node = self.node.lock(rt);
-        node.note_call(seat);
+        node.note_question(seat);
         node.core().digest(from, want)
     }
 
@@ -277,11 +285,12 @@ impl<S: DirectoryTag, R: Wait + Drop> Directory<S, R> {
     ) -> Result<Delta, Fault>
         ensures answer { AnswersAfter S.opening S.settings seat.new.last_call (gives digest.now result) }
         ensures begins { spec.Begins seat.new.last_call seat.old }
+        ensures knows { IsPrefix seat.old.knowledge seat.new.knowledge }
         ensures seat { seat.new ≡ spec.with_last_call seat.old seat.new.last_call }
         ensures memory { IfErr result (λ fault. fault ≡ Fault.NoMemory) }
     {
         let mut node = self.node.lock(rt);
-        node.note_call(seat);
+        node.note_question(seat);
         node.core().deltas(digest)
     }
 
@@ -304,11 +313,12 @@ impl<S: DirectoryTag, R: Wait + Drop> Directory<S, R> {
         ensures answer { AnswersAfter S.opening S.settings seat.new.last_call
             (gives (digest_since (node_after S.opening seat.new.last_call).held backlog.now) result) }
         ensures begins { spec.Begins seat.new.last_call seat.old }
+        ensures knows { IsPrefix seat.old.knowledge seat.new.knowledge }
         ensures seat { seat.new ≡ spec.with_last_call seat.old seat.new.last_call }
         ensures memory { IfErr result (λ fault. fault ≡ Fault.NoMemory) }
     {
         let mut node = self.node.lock(rt);
-        node.note_call(seat);
+        node.note_question(seat);
         node.core().news(backlog)
     }
 
@@ -317,10 +327,11 @@ impl<S: DirectoryTag, R: Wait + Drop> Directory<S, R> {
     pub fn conflict<Q: Wait>(&self, rt: &Q, seat: &mut ReaderSeat<S>) -> Option<u64>
         ensures answer { result ≡ (node_after S.opening seat.new.last_call).conflict }
         ensures begins { spec.Begins seat.new.last_call seat.old }
+        ensures knows { IsPrefix seat.old.knowledge seat.new.knowledge }
         ensures seat { seat.new ≡ spec.with_last_call seat.old seat.new.last_call }
     {
         let mut node = self.node.lock(rt);
-        node.note_call(seat);
+        node.note_question(seat);
         node.core().conflict()
     }
 
@@ -328,10 +339,11 @@ impl<S: DirectoryTag, R: Wait + Drop> Directory<S, R> {
     pub fn key_count<Q: Wait>(&self, rt: &Q, seat: &mut ReaderSeat<S>) -> usize
         ensures answer { result ≡ own_keys (node_after S.opening seat.new.last_call) }
         ensures begins { spec.Begins seat.new.last_call seat.old }
+        ensures knows { IsPrefix seat.old.knowledge seat.new.knowledge }
         ensures seat { seat.new ≡ spec.with_last_call seat.old seat.new.last_call }
     {
         let mut node = self.node.lock(rt);
-        node.note_call(seat);
+        node.note_question(seat);
         node.core().key_count()
     }
 
@@ -382,6 +394,7 @@ impl<S: DirectoryTag, R: Wait + Drop> Directory<S, R> {
         ensures seen { result ≡ true → seat.new.seen ≡ seat.new.last_call }
         ensures begins { spec.Begins seat.new.last_call seat.old }
         ensures made { result ≡ true → seat.new.events ≤ length seat.new.seen }
+        ensures knows { IsPrefix seat.old.knowledge seat.new.knowledge }
         ensures grows { IsPrefix seat.old.seen seat.new.seen }
         ensures count { seat.new.events ≡ seat.old.events }
     {
@@ -391,7 +404,7 @@ impl<S: DirectoryTag, R: Wait + Drop> Directory<S, R> {
     /// Publishes all that happened, lets the seat see it, and gives the watch's next answer, one a call. If the watch lost notes
     /// since its last `Lagged`, the answer is `Lagged` with how many. Else it is `Note` with its oldest note, which it then no longer
     /// has; else `Empty`. It is `Empty` exactly if nothing that the watch is for changed since it was added, or since a poll left it
-    /// without notes. A watch that has no note left begins anew after this call. Either way it is the seat's last call. Its faults:
+    /// without notes. A watch that has no note left begins again after this call. Either way it is the seat's last call. Its faults:
     ///
     /// - `NoWatch` if it is not a watch of this directory. Nothing is published, and nothing else changes.
     /// - `NoMemory` if there is none to publish what happened, or the seat can't enter. Then the note is still to come.
@@ -411,6 +424,7 @@ impl<S: DirectoryTag, R: Wait + Drop> Directory<S, R> {
         ensures seen { OnOk result (seat.new.seen ≡ seat.new.last_call) }
         ensures begins { spec.Begins seat.new.last_call seat.old }
         ensures made { OnOk result (seat.new.events ≤ length seat.new.seen) }
+        ensures knows { IsPrefix seat.old.knowledge seat.new.knowledge }
         ensures grows { IsPrefix seat.old.seen seat.new.seen }
         ensures count { seat.new.events ≡ seat.old.events }
     {

@@ -71,6 +71,7 @@
 //!   wrong version. A delta for any backlog is honest. Clauses of `add_risen` and tests in
 //!   `crates/sb_directory_tests` refuse it.
 //! - Views find no memory, or `enter` is refused, so `shown` is never true. Tests refuse it.
+//! - A call that only asks leaves what is not published as it is. Then `enter` is refused until another call publishes. Tests refuse it.
 //! - `refresh` returns true before all that others' calls made is published. No clause can state it across the
 //!   lock.
 //! - Two threads do not take turns. No clause can state it.

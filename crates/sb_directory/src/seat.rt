@@ -11,8 +11,9 @@ use std::marker::Model;
 use std::sync::ledger::{Book, Share};
 
 /// A seat: one thread's place at a directory. The thread reads from it, without the lock, and passes it to the calls that take the
-/// lock. Contracts see it as two prefixes of the history and a number. Its reader entered the view of `seen` last, or a call let it see
-/// that view. `last_call` is the history as it was when its last call was answered. `events` says how many events its calls made.
+/// lock. Contracts see it as three prefixes of the history and a number. It entered the view of `seen` last, or a call let it see
+/// that view. `last_call` is the history as it was when its last call was answered. `knowledge` is the history that it
+/// knows by an answer: of a call that makes an event, the one before that event. `events` says how many events its calls made.
 ///
 /// ```rust
 /// /// The version of the row that an owner has under a key, if there is one, and the seat, which has left again.
@@ -36,25 +37,30 @@ use std::sync::ledger::{Book, Share};
 #[derive(Drop)]
 pub struct ReaderSeat<S: NodeTag> {
     reader: Reader<S>,
+    /// Less than its reader has seen, if that also entered a view from before what the seat knows.
+    seen: HistoryPrefix<S>,
+    knowledge: HistoryPrefix<S>,
     last_call: HistoryPrefix<S>,
     share: Share<S>,
 }
 
 impl<S: NodeTag> Model for ReaderSeat<S> {
     ghost use Rattle.std.specs.Prelude.{◌≡◌};
+    ghost use mathlib.Core.List.{IsPrefix};
     ghost use Rattle.sb_directory.specs.Seats as spec;
 
     ghost Value = { spec.Seat };
 
-    ghost view = { λ s. record { seen = s.reader; last_call = s.last_call; events = s.share.amount } };
+    ghost view = { λ s. record { seen = s.seen; knowledge = s.knowledge; last_call = s.last_call; events = s.share.amount } };
 
-    ghost invariant = { λ s. s.share.parts ≡ 1 };
+    ghost invariant = { λ s. (s.share.parts ≡ 1) × IsPrefix s.seen s.reader };
 }
 
 /// A seat that has entered: it reads a snapshot, and makes no call until it leaves. Contracts see it as they see the seat.
 #[derive(Drop)]
 pub struct EnteredSeat<S: NodeTag> {
     entered: Entered<S>,
+    knowledge: HistoryPrefix<S>,
     last_call: HistoryPrefix<S>,
     share: Share<S>,
 }
@@ -65,45 +71,68 @@ impl<S: NodeTag> Model for EnteredSeat<S> {
 
     ghost Value = { spec.Seat };
 
-    ghost view = { λ s. record { seen = s.entered; last_call = s.last_call; events = s.share.amount } };
+    ghost view = { λ s. record { seen = s.entered; knowledge = s.knowledge; last_call = s.last_call; events = s.share.amount } };
 
     ghost invariant = { λ s. s.share.parts ≡ 1 };
 }
 
 impl<S: NodeTag> ReaderSeat<S> {
-    /// The seat of a reader, with one part of the ledger. It made no call: its last call is what its reader has seen.
+    /// The seat of a reader, with one part of the ledger. It made no call: it knows what its reader has seen.
     pub(crate) fn new(reader: Reader<S>, share: Share<S>) -> ReaderSeat<S>
         requires { share.parts ≡ 1 }
-        ensures { result ≡ record { seen = reader; last_call = reader; events = share.amount } }
+        ensures { result ≡ record { seen = reader; knowledge = reader; last_call = reader; events = share.amount } }
     {
-        let last_call = reader.seen().copy();
+        let seen = reader.seen().copy();
+        let knowledge = seen.copy();
+        let last_call = seen.copy();
         ReaderSeat {
             reader,
+            seen,
+            knowledge,
             last_call,
             share,
         }
     }
 
-    /// Enters the snapshot that is published, which does not change until the seat leaves. It takes no memory, and no lock: for
-    /// that a call needs a `Wait`, and this one has none. So it waits for nobody. If it is refused, as when the directory is
-    /// gone, it gives the seat back unchanged.
+    /// Enters the snapshot that is published, which does not change until the seat leaves. It shows at least what the seat has seen,
+    /// and what it knows by an answer. It takes no memory, and no lock: for that a call needs a `Wait`, and this one has none. So it waits
+    /// for nobody. It is refused if there was no memory to publish what the seat knows, or if the directory is gone. Then it
+    /// gives the seat back unchanged.
     pub fn enter(self) -> Result<EnteredSeat<S>, ReaderSeat<S>>
-        ensures { MatchResult result (λ entered. IsPrefix self.seen entered.seen × (entered.last_call ≡ self.last_call) × (entered.events ≡ self.events))
+        ensures { MatchResult result (λ entered. IsPrefix self.seen entered.seen × (entered.last_call ≡ self.last_call) × (entered.events ≡ self.events)
+            × IsPrefix self.knowledge entered.seen × (entered.knowledge ≡ self.knowledge))
             (λ seat. seat ≡ self) }
     {
         let ReaderSeat {
             reader,
+            seen,
+            knowledge,
             last_call,
             share,
         } = self;
         match reader.enter() {
-            Ok(entered) => Ok(EnteredSeat {
-                entered,
-                last_call,
-                share,
-            }),
+            Ok(entered) => {
+                if knowledge.is_prefix_of(entered.seen()) {
+                    Ok(EnteredSeat {
+                        entered,
+                        knowledge,
+                        last_call,
+                        share,
+                    })
+                } else {
+                    Err(ReaderSeat {
+                        reader: entered.leave(),
+                        seen,
+                        knowledge,
+                        last_call,
+                        share,
+                    })
+                }
+            }
             Err(reader) => Err(ReaderSeat {
                 reader,
+                seen,
+                knowledge,
                 last_call,
                 share,
             }),
@@ -114,12 +143,13 @@ impl<S: NodeTag> ReaderSeat<S> {
     pub fn seen(&self) -> &HistoryPrefix<S>
         ensures { result.now ≡ self.now.seen }
     {
-        self.reader.seen()
+        &self.seen
     }
 
     // Enters and leaves at once, unless that is refused.
     fn entered_and_left(self) -> (ReaderSeat<S>, ())
         ensures grows { IsPrefix self.seen result.0.seen }
+        ensures knows { result.0.knowledge ≡ self.knowledge }
         ensures last_call { result.0.last_call ≡ self.last_call }
         ensures events { result.0.events ≡ self.events }
     {
@@ -133,23 +163,36 @@ impl<S: NodeTag> ReaderSeat<S> {
     pub(crate) fn look(&mut self, history: &HistoryPrefix<S>) -> bool
         ensures seen { MatchBool result (self.new.seen ≡ history.now) (Unit {0}) }
         ensures grows { IsPrefix self.old.seen self.new.seen }
+        ensures knows { self.new.knowledge ≡ self.old.knowledge }
         ensures last_call { self.new.last_call ≡ self.old.last_call }
         ensures events { self.new.events ≡ self.old.events }
     {
         replace_with(self, (), |seat, _| seat.entered_and_left());
-        history.is_same(self.reader.seen())
+        history.is_same(&self.seen)
     }
 
-    /// Notes a call that is answered after this history. It needs no test: the lock guards the whole history, and what the seat has
-    /// seen and its last call are prefixes of it.
+    /// Notes a call after this history, and lets the seat know no more. It needs no test: the lock guards the whole history, and what the seat
+    /// has seen and its last call are prefixes of it.
+    pub(crate) fn note_call_at(&mut self, history: &mut History<S>)
+        ensures begins { spec.Begins history.old self.old }
+        ensures last_call { self.new ≡ spec.with_call self.old history.old }
+        ensures history { history.new ≡ history.old }
+    {
+        history.audit(&self.seen);
+        history.audit(&self.last_call);
+        self.last_call = history.prefix().copy();
+    }
+
+    /// Notes a call that is answered after this history, which the seat knows from then on.
     pub(crate) fn call_at(&mut self, history: &mut History<S>)
         ensures begins { spec.Begins history.old self.old }
+        ensures before { IsPrefix self.old.knowledge history.old }
         ensures last_call { self.new ≡ spec.with_last_call self.old history.old }
         ensures history { history.new ≡ history.old }
     {
-        history.audit(self.reader.seen());
-        history.audit(&self.last_call);
-        self.last_call = history.prefix().copy();
+        history.audit(&self.knowledge);
+        self.note_call_at(history);
+        self.knowledge = history.prefix().copy();
     }
 
     /// Its part of the ledger, with the number of events that its calls made.
@@ -159,6 +202,8 @@ impl<S: NodeTag> ReaderSeat<S> {
     {
         let ReaderSeat {
             reader: _reader,
+            seen: _seen,
+            knowledge: _knowledge,
             last_call: _last_call,
             share,
         } = self;
@@ -177,7 +222,7 @@ impl<S: NodeTag> ReaderSeat<S> {
     /// Counts an event that its call made.
     pub(crate) fn count(&mut self, book: &mut Book<S>)
         ensures total { book.new.total ≡ book.old.total + 1 }
-        ensures seat { self.new ≡ record { seen = self.old.seen; last_call = self.old.last_call; events = self.old.events + 1 } }
+        ensures seat { self.new ≡ record { seen = self.old.seen; knowledge = self.old.knowledge; last_call = self.old.last_call; events = self.old.events + 1 } }
     {
         book.add(&mut self.share, 1);
     }
@@ -204,11 +249,15 @@ impl<S: NodeTag> EnteredSeat<S> {
     {
         let EnteredSeat {
             entered,
+            knowledge,
             last_call,
             share,
         } = self;
+        let seen = entered.seen().copy();
         ReaderSeat {
             reader: entered.leave(),
+            seen,
+            knowledge,
             last_call,
             share,
         }

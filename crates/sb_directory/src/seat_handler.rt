@@ -7,7 +7,7 @@ use crate::seat::ReaderSeat;
 use crate::tag::DirectoryTag;
 use sb_digest::Digest;
 use sb_holdings::Report;
-use sb_session::Handler;
+use sb_session::{Handler, ReceivedDelta};
 use sb_types::{Delta, Fault, Name};
 use std::marker::Model;
 use std::sync::Wait;
@@ -76,7 +76,7 @@ impl<'a, S: DirectoryTag, R: Wait + Drop, Q: Wait> Handler for SeatHandler<'a, S
         self.directory.deltas(self.rt, &mut self.seat, theirs)
     }
 
-    fn apply(&mut self, delta: &Delta) -> Result<Report, Fault> {
+    fn apply(&mut self, delta: &ReceivedDelta) -> Result<Report, Fault> {
         match self.directory.apply(self.rt, &mut self.seat, delta) {
             Ok(Applied { ends, shown: _ }) => Ok(ends),
             Err(fault) => Err(fault),

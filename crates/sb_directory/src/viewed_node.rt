@@ -128,6 +128,8 @@ impl<S: DirectoryTag, R: Wait + Drop> ViewedNode<S, R> {
         ensures refused { IfErr result (spec.Refuses (spec.own_due_after S.opening self.old.history committed.now)) }
         ensures seat { OnErr result (seat.new ≡ spec.with_last_call seat.old self.old.history) }
         ensures begins { spec.Begins self.old.history seat.old }
+        ensures before { IsPrefix seat.old.knowledge self.old.history }
+        ensures knows { seat.new.knowledge ≡ self.old.history }
         ensures grows { IsPrefix seat.old.seen seat.new.seen }
         ensures version { IfOk result (λ receipt. receipt.version ≡ committed.now.entry.version) }
     {
@@ -173,6 +175,8 @@ impl<S: DirectoryTag, R: Wait + Drop> ViewedNode<S, R> {
         ensures fault { IfErr result IsRefusal }
         ensures seat { OnErr result (seat.new ≡ spec.with_last_call seat.old self.old.history) }
         ensures begins { spec.Begins self.old.history seat.old }
+        ensures before { IsPrefix seat.old.knowledge self.old.history }
+        ensures knows { seat.new.knowledge ≡ self.old.history }
         ensures grows { IsPrefix seat.old.seen seat.new.seen }
     {
         seat.call_at(&mut self.history);
@@ -219,6 +223,8 @@ impl<S: DirectoryTag, R: Wait + Drop> ViewedNode<S, R> {
         ensures seat { OnErr result (seat.new ≡ spec.with_last_call seat.old self.old.history) }
         ensures still { result ≡ Ok None → seat.new ≡ spec.with_last_call seat.old self.old.history }
         ensures begins { spec.Begins self.old.history seat.old }
+        ensures before { IsPrefix seat.old.knowledge self.old.history }
+        ensures knows { seat.new.knowledge ≡ self.old.history }
         ensures grows { IsPrefix seat.old.seen seat.new.seen }
     {
         seat.call_at(&mut self.history);
@@ -242,6 +248,8 @@ impl<S: DirectoryTag, R: Wait + Drop> ViewedNode<S, R> {
         ensures due { OnOk result (spec.delta_due_after self.old.history ≡ Ok tt) }
         ensures seat { OnErr result (seat.new ≡ spec.with_last_call seat.old self.old.history) }
         ensures begins { spec.Begins self.old.history seat.old }
+        ensures before { IsPrefix seat.old.knowledge self.old.history }
+        ensures knows { seat.new.knowledge ≡ self.old.history }
         ensures grows { IsPrefix seat.old.seen seat.new.seen }
     {
         seat.call_at(&mut self.history);
@@ -278,6 +286,8 @@ impl<S: DirectoryTag, R: Wait + Drop> ViewedNode<S, R> {
         ensures still { result ≡ Ok None → seat.new ≡ spec.with_last_call seat.old self.old.history }
         ensures seat { OnErr result (seat.new ≡ spec.with_last_call seat.old self.old.history) }
         ensures begins { spec.Begins self.old.history seat.old }
+        ensures before { IsPrefix seat.old.knowledge self.old.history }
+        ensures knows { seat.new.knowledge ≡ self.old.history }
         ensures grows { IsPrefix seat.old.seen seat.new.seen }
     {
         self.note_call(seat);
@@ -301,6 +311,8 @@ impl<S: DirectoryTag, R: Wait + Drop> ViewedNode<S, R> {
         ensures fault { IfErr result IsRefusal }
         ensures seat { OnErr result (seat.new ≡ spec.with_last_call seat.old self.old.history) }
         ensures begins { spec.Begins self.old.history seat.old }
+        ensures before { IsPrefix seat.old.knowledge self.old.history }
+        ensures knows { seat.new.knowledge ≡ self.old.history }
         ensures grows { IsPrefix seat.old.seen seat.new.seen }
     {
         self.note_call(seat);
@@ -314,13 +326,28 @@ impl<S: DirectoryTag, R: Wait + Drop> ViewedNode<S, R> {
         }
     }
 
-    /// Notes a call of a seat, which changes nothing else.
-    pub(crate) fn note_call(&mut self, seat: &mut ReaderSeat<S>)
+    /// Notes a call of a seat, which knows the history from then on. It changes nothing else.
+    fn note_call(&mut self, seat: &mut ReaderSeat<S>)
         ensures same { self.new ≡ self.old }
         ensures begins { spec.Begins self.old.history seat.old }
+        ensures before { IsPrefix seat.old.knowledge self.old.history }
         ensures last_call { seat.new ≡ spec.with_last_call seat.old self.old.history }
     {
         seat.call_at(&mut self.history);
+    }
+
+    /// Notes a call of a seat that asks, and publishes all that happened if there is memory for it. So the seat can enter what it
+    /// knows by the answer.
+    pub(crate) fn note_question(&mut self, seat: &mut ReaderSeat<S>)
+        ensures left { self.new ≡ nodes.with_published self.old self.new.published }
+        ensures history { self.new.history ≡ self.old.history }
+        ensures shown { spec.PublishesWhereSaid false self.old self.new }
+        ensures begins { spec.Begins self.old.history seat.old }
+        ensures before { IsPrefix seat.old.knowledge self.old.history }
+        ensures last_call { seat.new ≡ spec.with_last_call seat.old self.old.history }
+    {
+        self.note_call(seat);
+        let _ = self.publish();
     }
 
     /// The node core, for calls that only read it.
@@ -433,12 +460,13 @@ impl<S: DirectoryTag, R: Wait + Drop> ViewedNode<S, R> {
         ensures shown { spec.PublishesWhereSaid result self.old self.new }
         ensures begins { spec.Begins self.old.history seat.old }
         ensures last_call { seat.new.last_call ≡ self.old.history }
+        ensures knows { seat.new.knowledge ≡ seat.old.knowledge }
         ensures grows { IsPrefix seat.old.seen seat.new.seen }
         ensures count { seat.new.events ≡ seat.old.events }
         ensures seen { result ≡ true → seat.new.seen ≡ self.new.history }
         ensures made { result ≡ true → seat.new.events ≤ length seat.new.seen }
     {
-        seat.call_at(&mut self.history);
+        seat.note_call_at(&mut self.history);
         seat.audit(&mut self.book);
         if !self.publish() {
             return false;
@@ -483,13 +511,14 @@ impl<S: DirectoryTag, R: Wait + Drop> ViewedNode<S, R> {
         ensures seat { result ≡ Err Fault.NoWatch → seat.new ≡ spec.with_last_call seat.old seat.new.last_call }
         ensures begins { spec.Begins self.old.history seat.old }
         ensures last_call { seat.new.last_call ≡ self.old.history }
+        ensures knows { IsPrefix seat.old.knowledge seat.new.knowledge }
         ensures grows { IsPrefix seat.old.seen seat.new.seen }
         ensures count { seat.new.events ≡ seat.old.events }
         ensures seen { OnOk result (seat.new.seen ≡ self.new.history) }
         ensures made { OnOk result (seat.new.events ≤ length seat.new.seen) }
     {
-        self.note_call(seat);
         if !self.has(watch) {
+            self.note_call(seat);
             return Err(Fault::NoWatch);
         }
         if !self.refresh(seat) {

@@ -1,7 +1,8 @@
 //! A node, with its log and watches. Its calls as data, with what they answer.
 
 use crate::making::{
-    Range, commit, commit_removal, delta_of, delta_with_floor, first_of, key, name, node_of, prefix,
+    Range, commit, commit_removal, delta_of, delta_with_floor, first_of, key, name, node_of,
+    prefix, received,
 };
 use crate::reached::Seated;
 use crate::{got, same_at, there};
@@ -306,7 +307,7 @@ impl<S: DirectoryTag, H: Wait + Drop> Desk<S, H> {
         letters: &[u8],
     ) -> Answer {
         let delta = delta_of(rt, self.alloc, owner, after, letters);
-        self.apply(rt, &delta)
+        self.apply(rt, delta)
     }
 
     fn take_part<Q: Wait + Abort>(
@@ -317,17 +318,18 @@ impl<S: DirectoryTag, H: Wait + Drop> Desk<S, H> {
         letters: &[u8],
     ) -> Answer {
         let delta = delta_with_floor(rt, self.alloc, range, before, letters);
-        self.apply(rt, &delta)
+        self.apply(rt, delta)
     }
 
     fn take_of_peer<Q: Wait + Abort>(&mut self, rt: &Q) -> Answer {
         let digest = got(rt, self.node.digest(rt, true));
         let delta = delta_of_peer(rt, self.alloc, &mut self.log, &digest);
-        self.apply(rt, &delta)
+        self.apply(rt, delta)
     }
 
-    fn apply<Q: Wait + Abort>(&mut self, rt: &Q, delta: &Delta) -> Answer {
-        match self.node.apply(rt, delta) {
+    fn apply<Q: Wait + Abort>(&mut self, rt: &Q, delta: Delta) -> Answer {
+        let delta = received(rt, self.alloc, delta);
+        match self.node.apply(rt, &delta) {
             Ok((ends, is_shown)) => shown(is_shown, ended(rt, &ends)),
             Err(fault) => Answer::Refused(fault),
         }

@@ -1,7 +1,10 @@
 //! Nodes, writes and deltas for the tests.
-use crate::got;
+use crate::{got, there};
+use sb_codec::Message;
+use sb_frames::{Frames, frame_of};
 use sb_log::{Committed, PlainLog, WriteLog};
 use sb_node::NodeCore;
+use sb_session::{ReceivedDelta, ReceivedMessage};
 use sb_table::Table;
 use sb_testing::{SETTINGS, delta_of_block, delta_of_write, letters_of};
 use sb_types::{Block, Delta, Entry, Key, Name, Prefix, RawSettings, Settings, Slot, Value};
@@ -145,4 +148,13 @@ pub(crate) fn written_log(rt: &impl Abort, alloc: Global, count: u64) -> PlainLo
         commit(rt, &mut log, b"x");
     }
     log
+}
+
+/// A delta as the node takes it that a peer sent it to.
+pub(crate) fn received(rt: &impl Abort, alloc: Global, delta: Delta) -> ReceivedDelta {
+    let frame = got(rt, frame_of(alloc, &Message::Delta(delta)));
+    let mut frames = Frames::new(alloc);
+    got(rt, frames.feed(&frame));
+    let message = there(rt, got(rt, ReceivedMessage::taken_from(&mut frames)));
+    there(rt, message.into_delta())
 }

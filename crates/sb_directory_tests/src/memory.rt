@@ -42,6 +42,26 @@ fn the_next_call_shows_a_write(rt: HostRuntime) {
     write_then_call(&rt, alloc, TAKE_OF_B, TAKEN, Answer::Read(2, 1, 1));
 }
 
+/// A call that only asks shows it too. So the reader enters what it knows by the answer.
+#[test]
+fn a_question_shows_a_write(rt: HostRuntime) {
+    let alloc = rt.alloc();
+    write_then_call(
+        &rt,
+        alloc,
+        Call::Conflict,
+        Answer::Conflict(None),
+        Answer::Read(1, 1, 0),
+    );
+    write_then_call(
+        &rt,
+        alloc,
+        Call::Keys,
+        Answer::Keys(1),
+        Answer::Read(1, 1, 0),
+    );
+}
+
 #[test]
 fn the_next_call_shows_a_delta(rt: HostRuntime) {
     run_new(&rt, rt.alloc(), Course::LateDelta);

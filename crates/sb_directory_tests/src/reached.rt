@@ -9,6 +9,7 @@ use sb_directory::{Difference, Directory, DirectoryTag, DirectoryWatch, ReaderSe
 use sb_holdings::Report;
 use sb_log::Committed;
 use sb_node::NodeCore;
+use sb_session::ReceivedDelta;
 use sb_types::{Block, Delta, Fault, Name};
 use sb_views::{NewHistory, NodeTag, Snapshot};
 use sb_watch::{Filter, Polled};
@@ -95,7 +96,7 @@ impl<S: DirectoryTag, H: Wait + Drop> Seated<S, H> {
     pub(crate) fn apply<Q: Wait + Abort>(
         &mut self,
         rt: &Q,
-        delta: &Delta,
+        delta: &ReceivedDelta,
     ) -> Result<(Report, bool), Fault> {
         let seat = there(rt, self.seat.as_mut());
         let applied = self.directory.apply(rt, seat, delta)?;

@@ -1,7 +1,7 @@
 //! A reader in a thread of its own, beside a writer in another.
 ghost use Rattle.std.specs.Prelude.{◌≡◌};
 
-use crate::making::{commit, delta_under, log_of, name, new_node, prefix};
+use crate::making::{commit, delta_under, log_of, name, new_node, prefix, received};
 use crate::seats::{all_shown, close};
 use crate::{got, same, there};
 use sb_directory::{Applied, Directory, DirectoryTag, ReaderSeat};
@@ -107,6 +107,7 @@ fn take_of_b<S: DirectoryTag, H: Wait + Drop, R: Wait + Abort>(
     version: u64,
 ) {
     let delta = delta_under(rt, alloc, b"b", version, &key_behind(version));
+    let delta = received(rt, alloc, delta);
     is_taken(rt, &got(rt, directory.apply(rt, seat, &delta)));
 }
 

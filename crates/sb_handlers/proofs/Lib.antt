@@ -1,2 +1,4 @@
 pub mod Deferring
 pub mod KeptOffers
+pub mod LeavingOut
+pub mod Falls

@@ -4,7 +4,7 @@ ghost use Rattle.sb_handlers.specs.Forgetting as spec;
 
 use sb_digest::Digest;
 use sb_holdings::{BlockEnd, Report};
-use sb_session::Handler;
+use sb_session::{Handler, ReceivedDelta};
 use sb_types::{Block, Delta, Entry, Fault, Name};
 use std::alloc::Global;
 use std::sync::atomic::{AtomicBool, Ordering};
@@ -164,12 +164,13 @@ fn copy_kept(alloc: Global, names: &[Name], blocks: &[Block]) -> Result<Vec<Bloc
 }
 
 /// The delta without the blocks of these owners. `NoMemory`.
-fn kept_delta(alloc: Global, names: &[Name], delta: &Delta) -> Result<Delta, Fault>
+#[tactic(auto, using(crate::proofs::LeavingOut::kept_part))]
+fn kept_delta(alloc: Global, names: &[Name], delta: &ReceivedDelta) -> Result<ReceivedDelta, Fault>
     ensures kept { IfOk result (λ kept. kept ≡ spec.kept_blocks names.now delta.now) }
     ensures memory { IfErr result (λ fault. fault ≡ Fault.NoMemory) }
 {
     match Delta::new(copy_kept(alloc, names, delta.blocks())?) {
-        Ok(kept) => Ok(kept),
+        Ok(kept) => Ok(delta.part(kept)),
         // Never: some of the blocks of a delta are a delta too.
         Err(_) => Err(Fault::NoMemory),
     }
@@ -244,7 +245,7 @@ impl<H: Handler> Handler for ForgettingHandler<'_, H> {
         self.inner.deltas(theirs)
     }
 
-    fn apply(&mut self, delta: &Delta) -> Result<Report, Fault> {
+    fn apply(&mut self, delta: &ReceivedDelta) -> Result<Report, Fault> {
         let names = self.forgotten.names.as_slice();
         let blocks = delta.blocks();
         if !has_forgotten(names, blocks) {

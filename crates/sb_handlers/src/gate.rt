@@ -1,9 +1,10 @@
 //! Gates: a session of a pool passes one before it applies a delta, and before it sends the delta that answers a digest.
 ghost use Rattle.std.specs.Prelude.{◌≡◌, ◌⊎◌, MatchBool};
 
+use crate::reported_versions::Arrival;
 use sb_digest::Digest;
 use sb_holdings::{BlockEnd, Report};
-use sb_session::{Ended, Handler};
+use sb_session::{Ended, Handler, ReceivedDelta};
 use sb_types::{Block, Delta, Fault, Name};
 
 /// At which point a session asks its gate.
@@ -29,6 +30,9 @@ pub trait Gate {
     /// Whether the session may go on. If not, it ends with `TurnsSpent`.
     fn pass(&self, session: u64, point: GatePoint) -> bool
         ensures { MatchBool result (lets self.now session point) (turns_away self.now session point) };
+
+    /// Sessions call it for each digest of a peer, before they answer it. The peer's connection came so.
+    fn digest_came(&self, _arrival: &Arrival, _theirs: &Digest) {}
 
     /// Sessions call it after each delta that entered something.
     fn entered(&self, _delta: &Delta) {}
@@ -91,9 +95,9 @@ fn is_gap(end: &BlockEnd) -> bool {
     matches!(end, BlockEnd::Gap)
 }
 
-/// Tells a gate whose held version a delta raised.
-fn tell_heard<G: Gate>(gate: &G, delta: &Delta, report: &Report) {
-    for (block, end) in delta.blocks().iter().zip(report.ends()) {
+/// Tells a gate whose held version the blocks of a delta raised.
+fn tell_heard<G: Gate>(gate: &G, blocks: &[Block], report: &Report) {
+    for (block, end) in blocks.iter().zip(report.ends()) {
         if is_risen(block, end) {
             gate.heard(block.owner());
         }
@@ -106,10 +110,11 @@ pub struct GatedHandler<'a, H, G> {
     inner: H,
     gate: &'a G,
     session: u64,
+    arrival: Arrival,
 }
 
 impl<'a, H: Handler, G: Gate> GatedHandler<'a, H, G> {
-    pub fn new(inner: H, gate: &'a G, session: u64) -> GatedHandler<'a, H, G>
+    pub fn new(inner: H, gate: &'a G, session: u64, arrival: Arrival) -> GatedHandler<'a, H, G>
         ensures inner { result.inner ≡ inner }
         ensures gate { result.gate.now ≡ gate.now }
         ensures session { result.session ≡ session }
@@ -118,6 +123,7 @@ impl<'a, H: Handler, G: Gate> GatedHandler<'a, H, G> {
             inner,
             gate,
             session,
+            arrival,
         }
     }
 
@@ -128,6 +134,7 @@ impl<'a, H: Handler, G: Gate> GatedHandler<'a, H, G> {
             inner,
             gate: _,
             session: _,
+            arrival: _,
         } = self;
         inner
     }
@@ -152,6 +159,7 @@ impl<H: Handler, G: Gate> Handler for GatedHandler<'_, H, G> {
     }
 
     fn deltas(&mut self, theirs: &Digest) -> Result<Delta, Fault> {
+        self.gate.digest_came(&self.arrival, theirs);
         let delta = self.inner.deltas(theirs)?;
         if !self.gate.pass(self.session, GatePoint::AfterAnswer) {
             return Err(Fault::TurnsSpent);
@@ -159,14 +167,14 @@ impl<H: Handler, G: Gate> Handler for GatedHandler<'_, H, G> {
         Ok(delta)
     }
 
-    fn apply(&mut self, delta: &Delta) -> Result<Report, Fault> {
+    fn apply(&mut self, delta: &ReceivedDelta) -> Result<Report, Fault> {
         if !self.gate.pass(self.session, GatePoint::BeforeApply) {
             return Err(Fault::TurnsSpent);
         }
         let report = self.inner.apply(delta)?;
-        tell_heard(self.gate, delta, &report);
+        tell_heard(self.gate, delta.blocks(), &report);
         if report.ends().iter().any(has_entered) {
-            self.gate.entered(delta);
+            self.gate.entered(delta.delta());
         }
         if report.ends().iter().any(is_gap) {
             self.gate.missed();

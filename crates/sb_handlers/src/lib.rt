@@ -1,8 +1,9 @@
-//! What is around the handler of a session: a gate that it passes, owners that its node forgets, and offers in vain.
+//! What is around the handler of a session: a gate that it passes, owners that its node forgets, and offers in vain. Also the
+//! version that each node reports of itself.
 //!
 //! Each is a `Handler` that passes the calls of a session on to the one inside. `GatedHandler` asks a `Gate` whether the session
 //! may go on. `ForgettingHandler` leaves out the blocks of `ForgottenOwners`. `DeferringHandler` first offers what was not offered
-//! in vain, as `VainOffers` has it.
+//! in vain, as `VainOffers` has it. A gate hears of each digest, and `ReportedVersions` finds that a version falls.
 //!
 //! ```rust
 //! /// A gate that holds session 1 before it applies a delta, until session 2 has answered a digest. It holds it for at
@@ -50,14 +51,20 @@
 //!   `tools/check-node` refuse it.
 //! - `ForgottenOwners::take_sighting` is true of an owner whose rows no peer had, never, or again and again. The tests of
 //!   `sb_run` and `tools/check-node` refuse it.
-//! - `GatedHandler` reports nothing to its gate of what was entered, missed or heard. The tests of `sb_run` and
+//! - `GatedHandler` reports to its gate no digest, or nothing of what was entered, missed or heard. The tests of `sb_run` and
 //!   `tools/check-node` refuse it.
+//! - `ReportedVersions` takes nothing of a digest, takes another moment, or returns another fall than one of its own. The tests of
+//!   `sb_run` and `tools/check-node` refuse it.
 #![tactic(auto)]
 
 mod forgetting;
 mod gate;
+mod laws;
+mod reported_versions;
 mod vain_offers;
 
 pub use forgetting::{ForgettingHandler, ForgottenOwners};
 pub use gate::{Gate, GatePoint, GatedHandler, Open};
+pub use laws::{nothing_is_reported_of_one_log, reported_versions_are_found};
+pub use reported_versions::{Arrival, ReportedVersions, VersionFall};
 pub use vain_offers::{Asker, DeferringHandler, VainOffers};

@@ -6,7 +6,7 @@ ghost use Rattle.sb_handlers.specs.KeptOffers as kept_spec;
 
 use sb_digest::{Digest, Pair};
 use sb_holdings::Report;
-use sb_session::Handler;
+use sb_session::{Handler, ReceivedDelta};
 use sb_types::{Block, Delta, Fault, Name, OWNERS_MOST};
 use std::alloc::Global;
 use std::sync::{Mutex, Wait};
@@ -500,7 +500,7 @@ impl<H: Handler> Handler for DeferringHandler<'_, H> {
         }
     }
 
-    fn apply(&mut self, delta: &Delta) -> Result<Report, Fault> {
+    fn apply(&mut self, delta: &ReceivedDelta) -> Result<Report, Fault> {
         self.inner.apply(delta)
     }
 

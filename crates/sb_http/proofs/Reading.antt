@@ -16,7 +16,7 @@ use Rattle.sb_http.specs.declared.operation.Refusal.TheVariants.{NotByPort, Only
 use Rattle.sb_http.specs.declared.rows_query.RowsQuery.{RowsQuery}
 use Rattle.sb_http.specs.RowsQueries.{polled, then_read, asked_by_key, asked_with, key_asked, rows_asked, query_asked, with_query, no_parameters, row_asked, place_in}
 use Rattle.sb_http.specs.Requests.{is_open, is_reading, is_writing, reading, writing, write_refusal, port_refusal, unless_refused, written_as, slot_by, asked_for_key, asked_for_row, asked_at_place, asked_at, asked_by, after_start, query_of, key_asked_by, key_at}
-use Rattle.sb_http.specs.Acts.{Act, asks, polls, lists, measures, fails, IsQuestion, OnlyReads}
+use Rattle.sb_http.specs.Acts.{Act, asks, puts, polls, lists, measures, fails, IsQuestion, OnlyReads}
 use Rattle.sb_http.specs.Answers.{IsCallFor}
 
 -- what is asked for is no write
@@ -105,6 +105,14 @@ only_reads (Poll ask patience) (asks request reply) read call = absurd call
 only_reads Page (asks request reply) read call = absurd call
 only_reads Metrics (asks request reply) read call = absurd call
 only_reads (Put write) (asks request reply) read call = absurd read
+only_reads (Put write) (puts asked reply) read call = absurd read
+only_reads (Rows ask) (puts asked reply) read call = absurd call
+only_reads (Row owner key) (puts asked reply) read call = absurd call
+only_reads Health (puts asked reply) read call = absurd call
+only_reads Owners (puts asked reply) read call = absurd call
+only_reads (Poll ask patience) (puts asked reply) read call = absurd call
+only_reads Page (puts asked reply) read call = absurd call
+only_reads Metrics (puts asked reply) read call = absurd call
 
 pub at_ports : (request : Request (List ℕ)) (asked : Operation) (act : Act) → asked_by Port request ≡ Ok asked → IsCallFor asked act → OnlyReads act
 at_ports request asked act is call = only_reads asked act (subst OnlyAsks is (by_asks Port request (port_refused (is_writing (head_of request).method)))) call

@@ -1,5 +1,6 @@
 -- The calls of a backend, and what each answered.
 use Rattle.std.specs.Prelude.{ℕ, List}
+use Rattle.sb_types.specs.declared.entry.Write.{Write}
 use Rattle.sb_types.specs.declared.fault.Fault.{Fault}
 use Rattle.sb_codec.specs.declared.message.Message.{Message}
 use Rattle.sb_codec.specs.declared.message.Message.TheVariants as kinds
@@ -7,9 +8,11 @@ use Rattle.sb_codec.specs.declared.message.ask.Ask as asking
 use Rattle.sb_http.specs.declared.operation.Patience.{Patience}
 use Rattle.sb_http.specs.declared.backend.HeldOwner.{HeldOwner}
 
--- a request and the message that answers it; the same of a poll, with a mark; the owners; the metrics; or a call for these that failed
+-- a question and the message that answers it; a write that was asked for, and the message that answers that; a poll with a mark; the
+-- owners; the metrics; or a call for these that failed
 pub data Act : Type 0 where
   asks : Message → Message → Act
+  puts : Write → Message → Act
   polls : asking.Ask → Patience → Message → List ℕ → Act
   lists : List HeldOwner → Act
   measures : List ℕ → Act
@@ -36,6 +39,7 @@ IsQuestion (kinds.Ages x) = ⊥
 -- the call writes nothing
 abbrev pub OnlyReads : Act → Type 0
 OnlyReads (asks request reply) = IsQuestion request
+OnlyReads (puts write reply) = ⊥
 OnlyReads (polls ask patience reply mark) = Unit {0}
 OnlyReads (lists owners) = Unit {0}
 OnlyReads (measures text) = Unit {0}

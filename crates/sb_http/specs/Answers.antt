@@ -21,10 +21,10 @@ use Rattle.sb_http.specs.declared.operation.Operation.{Operation}
 use Rattle.sb_http.specs.declared.operation.Operation.TheVariants.{Health, Metrics, Owners, Page, Rows, Row, Poll, Put}
 use Rattle.sb_http.specs.declared.operation.Door.{Door}
 use Rattle.sb_http.specs.declared.operation.Refusal.{Refusal}
-use Rattle.sb_http.specs.declared.operation.Refusal.TheVariants.{OtherHost, NotFound, NotAllowed, OnlyWritten, NotByPort, Bad, BadParameters, BadBody, NoMemory}
+use Rattle.sb_http.specs.declared.operation.Refusal.TheVariants.{OtherHost, NotFound, NotAllowed, OnlyWritten, NotByPort, Bad, BadParameters, BadWait, BadBody, NoMemory}
 use Rattle.sb_http.specs.declared.contents.Content as rust
 use Rattle.sb_http.specs.declared.page.TheConstants.{PAGE, POLICY}
-use Rattle.sb_http.specs.Acts.{Act, asks, polls, lists, measures, fails}
+use Rattle.sb_http.specs.Acts.{Act, asks, puts, polls, lists, measures, fails}
 use Rattle.sb_http.specs.Requests.{asked_by}
 use Rattle.sb_http.specs.Texts.{line_of, page_data, marked_page_data, owners_data, health_data, version_data, error_data, fault_data}
 
@@ -104,7 +104,7 @@ abbrev pub IsCallFor : Operation → Act → Type 0
 IsCallFor (Rows ask) (asks request reply) = request ≡ kinds.Ask ask
 IsCallFor (Row owner key) (asks request reply) = request ≡ kinds.Ask (row_question owner key)
 IsCallFor Health (asks request reply) = request ≡ kinds.AskStatus 0
-IsCallFor (Put write) (asks request reply) = request ≡ kinds.Put write
+IsCallFor (Put write) (puts asked reply) = asked ≡ write
 IsCallFor (Poll ask patience) (polls asked given reply mark) = (asked ≡ ask) × (given ≡ patience)
 IsCallFor (Poll ask patience) (fails fault) = Unit {0}
 IsCallFor Owners (lists owners) = Unit {0}
@@ -123,7 +123,7 @@ Says Health (asks request reply) content =
 Says (Poll ask patience) (polls asked given reply mark) content =
     (page : Result records.Rows NoAnswer) × TellsPage reply page × IsMarkedPage mark page content
 Says (Poll ask patience) (fails fault) content = IsFault 503 fault content
-Says (Put write) (asks request reply) content = (version : Result ℕ NoAnswer) × TellsVersion reply version × IsWritten version content
+Says (Put write) (puts asked reply) content = (version : Result ℕ NoAnswer) × TellsVersion reply version × IsWritten version content
 Says Owners (lists owners) content = content ≡ (200, line_of (owners_data owners))
 Says Owners (fails fault) content = IsFault 503 fault content
 Says Metrics (measures text) content = content ≡ (200, text)
@@ -161,6 +161,8 @@ Refuses NotByPort response = Has (fields_for json_kind) (is_error 403 (codes "wr
 Refuses (Bad fault) response = (content : Content) × IsFault 400 fault content × Has (fields_for json_kind) content response
 Refuses BadParameters response =
     Has (fields_for json_kind) (is_error 400 (codes "the parameters are owner, prefix, after, wait and seen, or owner and key, or key for a write, each once")) response
+Refuses BadWait response =
+    Has (fields_for json_kind) (is_error 400 (codes "wait is 0s to 60s, as in wait=30s; seen is a mark of an answer, and goes with wait")) response
 Refuses BadBody response =
     Has (fields_for json_kind) (is_error 400 (codes "the body is JSON of this form: {\"kind\":\"weight\",\"value\":5}")) response
 Refuses NoMemory response = ⊥

@@ -9,7 +9,7 @@ use Rattle.sb_http.specs.declared.operation.Operation.{Operation}
 use Rattle.sb_codec.specs.declared.message.ask.Ask as asking
 use Rattle.sb_http.specs.declared.operation.Operation.TheVariants.{Rows, Row, Poll}
 use Rattle.sb_http.specs.declared.operation.Refusal.{Refusal}
-use Rattle.sb_http.specs.declared.operation.Refusal.TheVariants.{Bad, BadParameters}
+use Rattle.sb_http.specs.declared.operation.Refusal.TheVariants.{Bad, BadParameters, BadWait}
 use Rattle.sb_http.specs.declared.rows_query.RowsQuery.{RowsQuery}
 use Rattle.sb_http.specs.Parts.{parted, all_parts}
 
@@ -63,16 +63,16 @@ seconds_in (one ∷ s ∷ []) = if is_ascii_digit one && s == 115 then Some (one
 seconds_in (ten ∷ one ∷ s ∷ []) = if is_ascii_digit ten && is_ascii_digit one && s == 115 then up_to_sixty (10 * (ten - 48) + (one - 48)) else None
 seconds_in text = None
 
-abbrev pub or_parameters : {X : Type 0} → Option X → Result X Refusal
-or_parameters (Some x) = Ok x
-or_parameters None = Err BadParameters
+abbrev pub or_bad_wait : {X : Type 0} → Option X → Result X Refusal
+or_bad_wait (Some x) = Ok x
+or_bad_wait None = Err BadWait
 
 abbrev pub with_wait : RowsQuery → List ℕ → Result RowsQuery Refusal
-with_wait q text = once q.wait (then_read (or_parameters (seconds_in text)) (λ seconds. Ok (record q { wait = Some seconds })))
+with_wait q text = once q.wait (then_read (or_bad_wait (seconds_in text)) (λ seconds. Ok (record q { wait = Some seconds })))
 
 -- a mark is opaque: it has the bytes of a key
 abbrev pub with_seen : RowsQuery → List ℕ → Result RowsQuery Refusal
-with_seen q text = once q.seen (if is_key text then Ok (record q { seen = Some text }) else Err BadParameters)
+with_seen q text = once q.seen (if is_key text then Ok (record q { seen = Some text }) else Err BadWait)
 
 abbrev pub with_poll_parameter : RowsQuery → List ℕ → List ℕ → Result RowsQuery Refusal
 with_poll_parameter q name value =
@@ -112,7 +112,7 @@ rows_asked owner prefix after = record { owner = owner; prefix = unwrap_or prefi
 -- a mark goes with a time to wait
 abbrev pub polled : asking.Ask → Option ℕ → Option (List ℕ) → Result Operation Refusal
 polled ask (Some seconds) seen = Ok (Poll ask (record { seconds = seconds; seen = seen }))
-polled ask None (Some seen) = Err BadParameters
+polled ask None (Some seen) = Err BadWait
 polled ask None None = Ok (Rows ask)
 
 -- a key goes with an owner alone

@@ -1,7 +1,8 @@
 //! What a service asks of a node.
 ghost use Rattle.std.specs.Prelude.{◌≡◌, IfOk, IfErr};
-ghost use Rattle.sb_http.specs.Acts.{asks, polls, lists, measures, fails};
+ghost use Rattle.sb_http.specs.Acts.{asks, puts, polls, lists, measures, fails};
 
+use crate::http_write::HttpWrite;
 use crate::operation::Patience;
 use sb_codec::{Ask, Message};
 use sb_types::{Fault, Key, Name};
@@ -32,9 +33,13 @@ pub trait Backend {
     /// By this call, the backend can change from the first state to the second.
     ghost step: { Self → Act → Self → Type 0 };
 
-    /// Returns the message with which the node answers this request of its control socket.
+    /// Returns the message with which the node answers this question of its control socket.
     fn ask(&mut self, request: &Message) -> Message
         ensures { step self.old (asks request.now result) self.new };
+
+    /// Asks the node for a write, and returns the message with which it answers that.
+    fn put(&mut self, asked: HttpWrite) -> Message
+        ensures { step self.old (puts asked result) self.new };
 
     /// Waits until the rows that are asked for have another mark than the one that was seen, or until the time is over. Then it
     /// returns what the node answers to the Ask, with the mark.

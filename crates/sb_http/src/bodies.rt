@@ -225,11 +225,28 @@ fn fault_object(alloc: Global, text: &str, number: u8) -> Result<Value, AllocErr
     json!(in alloc; {"error": text, "fault": number})
 }
 
+/// The text of a fault, as a response has it: what to write in JSON, and when to ask again.
+fn fault_text(alloc: Global, fault: Fault) -> Result<String, AllocError> {
+    let text = match fault {
+        Fault::BadValue => {
+            "a value is addr with 1 to 128 printing bytes, weight below 2^63, flag true or false, or text of 1 to 512 UTF-8 bytes"
+        }
+        Fault::WatchesFull => {
+            "64 callers wait for changes at this node; ask again after one of them, or without wait"
+        }
+        Fault::TurnsSpent => {
+            "as many polls or writes wait at this node as may; a write was not made; ask again in a second, or give polls a shorter wait"
+        }
+        other => return format!(in alloc; "{other}"),
+    };
+    String::from_str(alloc, text)
+}
+
 /// The line of a fault: its text and its number.
 pub(crate) fn fault_line(alloc: Global, fault: Fault) -> Result<Vec<u8>, AllocError>
     ensures { IfOk result (λ line. (text : List ℕ) × (line.items ≡ line_of (spec.fault_data text (number_of fault)))) }
 {
-    let text = format!(in alloc; "{fault}")?;
+    let text = fault_text(alloc, fault)?;
     let object = fault_object(alloc, text.as_str(), fault.number())?;
     line_of_value(alloc, &object)
 }

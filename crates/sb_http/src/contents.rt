@@ -10,6 +10,7 @@ use crate::bodies::{
     error_line, fault_line, health_line, marked_page_line, owners_line, page_line, row_line,
     version_line,
 };
+use crate::http_write::HttpWrite;
 use crate::operation::{Operation, Patience};
 use http::StatusCode;
 use sb_codec::{Ask, AskStatus, Message, NodeStatus, Rows};
@@ -230,7 +231,7 @@ fn version_of(reply: Message) -> Result<u64, NoAnswer>
 fn answer_put<B: Backend>(alloc: Global, backend: &mut B, write: Write) -> Result<Content, Fault>
     ensures { (act : Act) × B.step backend.old act backend.new × IsCallFor (Operation.Put write) act × IfOk result (λ content. Says (Operation.Put write) act (content.status, content.body.items)) }
 {
-    let version = version_of(backend.ask(&Message::Put(write)));
+    let version = version_of(backend.put(HttpWrite::new(write)));
     put_content(alloc, version)
 }
 

@@ -34,6 +34,7 @@ mod backend;
 mod bodies;
 mod contents;
 mod host;
+mod http_write;
 mod laws;
 mod operation;
 mod page;
@@ -44,6 +45,7 @@ mod serving;
 mod write_body;
 
 pub use backend::{Backend, HeldOwner, MarkedReply};
+pub use http_write::HttpWrite;
 pub use laws::{other_methods_only_read, ports_only_read, ports_take_local_hosts};
 pub use operation::{Door, Operation, Patience, Refusal, asked_by};
 pub use service::HttpService;

@@ -69,6 +69,8 @@ pub enum Refusal {
     Bad(Fault),
     /// A parameter is not one of those of its path, or they do not go together.
     BadParameters,
+    /// A time to wait is not `0s` to `60s`, or a mark is none, or has no time to wait with it.
+    BadWait,
     /// The body of a PUT is not JSON, or not an object with a kind and a value.
     BadBody,
     /// There was no memory to read the request.
@@ -269,7 +271,7 @@ fn query_of(request: &Request<Bytes>) -> &str
 /// - `NotAllowed` for another method than `GET` and `HEAD`, and `OnlyWritten` for another than `PUT` and `DELETE` at the path of a
 ///   key.
 /// - `NotByPort` if it would write, and came in at a port.
-/// - `Bad` and `BadParameters` for the first part of the query, or of the path, that is not what it should be.
+/// - `Bad`, `BadParameters` and `BadWait` for the first part of the query, or of the path, that is not what it should be.
 /// - `BadBody`, and `Bad` with `BadValue`, for the body of a `PUT`.
 ///
 /// `NoMemory` may come instead.

@@ -160,7 +160,7 @@ impl RowsQuery {
                 wait: Some(seconds),
                 ..self
             }),
-            None => Err(Refusal::BadParameters),
+            None => Err(Refusal::BadWait),
         }
     }
 
@@ -176,7 +176,7 @@ impl RowsQuery {
                 seen: Some(mark),
                 ..self
             }),
-            Err(_) => Err(Refusal::BadParameters),
+            Err(_) => Err(Refusal::BadWait),
         }
     }
 
@@ -282,7 +282,7 @@ fn polled(ask: Ask, wait: Option<u64>, seen: Option<Key>) -> Result<Operation, R
     match wait {
         Some(seconds) => Ok(Operation::Poll(ask, Patience { seconds, seen })),
         None if seen.is_none() => Ok(Operation::Rows(ask)),
-        None => Err(Refusal::BadParameters),
+        None => Err(Refusal::BadWait),
     }
 }
 

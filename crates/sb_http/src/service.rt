@@ -132,6 +132,11 @@ fn refuse(alloc: Global, response: &mut Response, why: &Refusal) -> Result<(), A
                 "the parameters are owner, prefix, after, wait and seen, or owner and key, or key for a write, each once";
             refuse_with(alloc, response, StatusCode::BAD_REQUEST, text)
         }
+        Refusal::BadWait => {
+            let text =
+                "wait is 0s to 60s, as in wait=30s; seen is a mark of an answer, and goes with wait";
+            refuse_with(alloc, response, StatusCode::BAD_REQUEST, text)
+        }
         Refusal::BadBody => {
             let text = "the body is JSON of this form: {\"kind\":\"weight\",\"value\":5}";
             refuse_with(alloc, response, StatusCode::BAD_REQUEST, text)

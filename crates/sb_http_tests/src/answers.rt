@@ -63,19 +63,23 @@ fn polls_have_a_mark(rt: HostRuntime) {
         again.as_str(),
     );
     let spent =
-        "{\"error\":\"the reads, calls or events that were allowed are spent\",\"fault\":29}\n";
+        "{\"error\":\"as many polls or writes wait at this node as may; a write was not made; ask again in a second, or give polls a shorter wait\",\"fault\":29}\n";
     case(&rt, alloc, "/v1/rows?wait=60s&seen=x", "503", spent);
-    let parameters =
-        "{\"error\":\"the parameters are owner, prefix, after, wait and seen, or owner and key, or key for a write, each once\"}\n";
+    let wait =
+        "{\"error\":\"wait is 0s to 60s, as in wait=30s; seen is a mark of an answer, and goes with wait\"}\n";
     for target in [
         "/v1/rows?seen=x",
         "/v1/rows?wait=61s",
+        "/v1/rows?wait=500ms",
         "/v1/rows?wait=s",
         "/v1/rows?wait=5",
-        "/v1/rows?wait=1s&wait=1s",
         "/v1/rows?wait=1s&seen=A",
-        "/v1/rows?owner=a&key=k&wait=1s",
     ] {
+        case(&rt, alloc, target, "400", wait);
+    }
+    let parameters =
+        "{\"error\":\"the parameters are owner, prefix, after, wait and seen, or owner and key, or key for a write, each once\"}\n";
+    for target in ["/v1/rows?wait=1s&wait=1s", "/v1/rows?owner=a&key=k&wait=1s"] {
         case(&rt, alloc, target, "400", parameters);
     }
 }

@@ -1,7 +1,9 @@
 //! A backend with two rows and two owners that takes writes, and what comes out of a connection for the bytes that come in.
 
 use sb_codec::{Ask, Done, Message, Refused, Row, Rows};
-use sb_http::{Backend, Door, HeldOwner, HttpService, MarkedReply, Patience, serve_connection};
+use sb_http::{
+    Backend, Door, HeldOwner, HttpService, HttpWrite, MarkedReply, Patience, serve_connection,
+};
 use sb_types::{Fault, Key, Name, Slot, Value, ValueRef, Write};
 use std::alloc::Global;
 use std::hash::RandomState;
@@ -83,9 +85,12 @@ impl Backend for FixedBackend {
     fn ask(&mut self, request: &Message) -> Message {
         match request {
             Message::Ask(ask) => answer_to(self.alloc, ask),
-            Message::Put(write) => answer_to_write(write),
             _ => refused(&Fault::UnknownKind(0)),
         }
+    }
+
+    fn put(&mut self, asked: HttpWrite) -> Message {
+        answer_to_write(&asked.into_write())
     }
 
     fn poll(&mut self, ask: &Ask, patience: &Patience) -> Result<MarkedReply, Fault> {

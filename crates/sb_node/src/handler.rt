@@ -4,7 +4,7 @@ use crate::laws::deltas_keep_truth;
 use crate::node::NodeCore;
 use sb_digest::Digest;
 use sb_holdings::Report;
-use sb_session::Handler;
+use sb_session::{Handler, ReceivedDelta};
 use sb_types::{Delta, Fault, Name};
 
 impl Handler for NodeCore {
@@ -29,9 +29,9 @@ impl Handler for NodeCore {
         NodeCore::deltas(self, theirs)
     }
 
-    fn apply(&mut self, delta: &Delta) -> Result<Report, Fault> {
+    fn apply(&mut self, delta: &ReceivedDelta) -> Result<Report, Fault> {
         deltas_keep_truth();
-        NodeCore::apply(self, delta)
+        NodeCore::apply(self, delta.delta())
     }
 
     ghost enters_nothing = { enters_nothing };

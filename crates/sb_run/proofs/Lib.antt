@@ -7,13 +7,14 @@ pub mod Leaving
 pub mod Enduring
 pub mod Hellos
 pub mod Paging
-pub mod Arriving
 pub mod StatusPages
 pub mod StatusTexts
 pub mod StatusAnswers
-pub mod LeavingOut
 pub mod AskedDigests
 pub mod AuditedSeats
 pub mod WriteReplies
 pub mod HttpPolls
 pub mod Ages
+pub mod Staged
+pub mod Entering
+pub mod InTurn

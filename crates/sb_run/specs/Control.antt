@@ -4,7 +4,7 @@ use Rattle.std.specs.Io.KnownBytes.{Keeps}
 use mathlib.Core.List.{IsPrefix}
 use Rattle.sb_types.specs.declared.entry.Slot.{Slot}
 use Rattle.sb_types.specs.declared.fault.Fault.{Fault}
-use Rattle.sb_types.specs.declared.fault.Fault.TheVariants.{NoMemory, Closed}
+use Rattle.sb_types.specs.declared.fault.Fault.TheVariants.{NoMemory}
 use Rattle.sb_types.specs.Faults.{number_of}
 use Rattle.sb_types.specs.Records.{Settings}
 use Rattle.sb_holdings.specs.Nodes.{Node}
@@ -58,7 +58,7 @@ IsLookedUp opening budget seen ask reply =
 abbrev pub IsPageReply : Node → ℕ → Seat → asking.Ask → Seat → Message → Type 0
 IsPageReply opening budget before ask after reply =
     (IsPrefix before.seen after.seen × (after.last_call ≡ before.last_call) × (after.events ≡ before.events) × IsLookedUp opening budget after.seen ask reply)
-    ⊎ ((after ≡ before) × (reply ≡ kinds.Refused (number_of Closed)))
+    ⊎ ((after ≡ before) × (reply ≡ kinds.Refused (number_of NoMemory)))
 
 -- any other message is none that is answered here
 abbrev pub IsUnknown : Message → Type 0

@@ -10,13 +10,13 @@ use Rattle.sb_codec.specs.declared.message.Message.{Message}
 use Rattle.sb_codec.specs.declared.message.Message.TheVariants as kinds
 use Rattle.sb_codec.specs.declared.message.ages.OwnerAge.{OwnerAge}
 use Rattle.sb_views.specs.declared.event.Event.{Event}
-use Rattle.sb_views.specs.NodeViews.{NodeView, OwnerView}
+use Rattle.sb_views.specs.NodeViews.{NodeView, OwnerView, shown_owners}
 use Rattle.sb_views.specs.Histories.{node_after}
 use Rattle.sb_views.specs.Publishing.{IsView}
 use Rattle.sb_directory.specs.Seats.{Seat}
 use Rattle.sb_directory.specs.Serving.{IsLater}
 use Rattle.sb_http.specs.declared.backend.HeldOwner.{HeldOwner}
-use Rattle.sb_http.specs.Acts.{Act, asks, polls, lists, measures, fails}
+use Rattle.sb_http.specs.Acts.{Act, asks, puts, polls, lists, measures, fails}
 use Rattle.sb_codec.specs.declared.message.ask.Ask as asking
 use Rattle.sb_run.specs.HttpMarks.{IsMark}
 use Rattle.sb_run.specs.Control.{IsPageReply, IsLookedUp, IsUnknown}
@@ -31,7 +31,7 @@ abbrev pub held_owner : List OwnerAge → List ℕ × OwnerView → HeldOwner
 held_owner ages p = record { owner = p.0; version = p.1.upto; rows = length (entries p.1.rows); age = age_of p.0 ages }
 
 abbrev pub IsListed : List OwnerAge → NodeView → List HeldOwner → Type 0
-IsListed ages view owners = owners ≡ map (held_owner ages) (entries view)
+IsListed ages view owners = owners ≡ map (held_owner ages) (shown_owners (entries view))
 
 -- the message names the version of a write, or a fault
 abbrev pub is_write_reply : Message → Bool
@@ -42,8 +42,7 @@ is_write_reply other = false
 abbrev pub IsWriteReply : Message → Type 0
 IsWriteReply message = is_write_reply message ≡ true
 
--- a question for rows is answered by a page, and one how the node is by its status; a write by what the calling thread answers,
--- and the seat stays as it was; any other message is none
+-- a question for rows is answered by a page, and one how the node is by its status; any other message is none
 abbrev pub AnswersQuestion : Node → Settings → Seat → Message → Seat → Message → Type 0
 AnswersQuestion opening settings before (kinds.Ask ask) after reply = IsPageReply opening settings.budget before ask after reply
 AnswersQuestion opening settings before (kinds.AskStatus asked) after reply = IsStatusReply opening settings before asked after reply
@@ -51,7 +50,7 @@ AnswersQuestion opening settings before (kinds.Hello x) after reply = (after ≡
 AnswersQuestion opening settings before (kinds.Digest x) after reply = (after ≡ before) × IsUnknown reply
 AnswersQuestion opening settings before (kinds.Delta x) after reply = (after ≡ before) × IsUnknown reply
 AnswersQuestion opening settings before (kinds.Bye x) after reply = (after ≡ before) × IsUnknown reply
-AnswersQuestion opening settings before (kinds.Put x) after reply = (after ≡ before) × IsWriteReply reply
+AnswersQuestion opening settings before (kinds.Put x) after reply = (after ≡ before) × IsUnknown reply
 AnswersQuestion opening settings before (kinds.Rows x) after reply = (after ≡ before) × IsUnknown reply
 AnswersQuestion opening settings before (kinds.Done x) after reply = (after ≡ before) × IsUnknown reply
 AnswersQuestion opening settings before (kinds.Refused x) after reply = (after ≡ before) × IsUnknown reply
@@ -75,9 +74,11 @@ AreOwnersAfter opening seen ages owners = (view : NodeView) × IsView (node_afte
 abbrev pub AreOwnersSeen : Node → List Event → List HeldOwner → Type 0
 AreOwnersSeen opening seen owners = (ages : List OwnerAge) × AreOwnersAfter opening seen ages owners
 
--- what a call over HTTP reads or is answered, and what the seat has seen then
+-- what a call over HTTP reads or is answered, and what the seat has seen then; a write is answered by the calling thread, and the seat
+-- stays as it was
 abbrev pub Reads : Node → Settings → RandomState → Seat → Act → Seat → Type 0
 Reads opening settings keys before (asks request reply) after = AnswersQuestion opening settings before request after reply
+Reads opening settings keys before (puts write reply) after = (after ≡ before) × IsWriteReply reply
 Reads opening settings keys before (polls ask patience reply mark) after =
     IsPolled opening settings.budget keys before ask after reply mark
 Reads opening settings keys before (lists owners) after = IsLater before after × AreOwnersSeen opening after.seen owners

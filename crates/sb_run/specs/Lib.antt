@@ -4,6 +4,7 @@ pub mod Control
 pub mod Hellos
 pub mod Pools
 pub mod Sources
+pub mod Entering
 pub mod Arriving
 pub mod Running
 pub mod Turns
@@ -17,3 +18,6 @@ pub mod Auditing
 pub mod HttpPorts
 pub mod HttpMarks
 pub mod HttpReads
+pub mod WriteRequests
+pub mod Beating
+pub mod Works

@@ -2,8 +2,7 @@
 use Rattle.std.specs.Prelude.{◌≡◌, ◌⊎◌, ℕ, Bool, nat_lt, if◌then◌else◌, List, length, codes}
 use Rattle.std.specs.List.{list_all}
 use mathlib.Core.List.{IsPrefix}
-use Rattle.sb_types.specs.declared.fault.Fault.{Fault}
-use Rattle.sb_types.specs.declared.fault.Fault.TheVariants.{NoMemory, Closed}
+use Rattle.sb_types.specs.declared.fault.Fault.TheVariants.{NoMemory}
 use Rattle.sb_types.specs.Faults.{number_of}
 use Rattle.sb_types.specs.Records.{Settings}
 use Rattle.sb_types.specs.Text.{is_short_text}
@@ -67,11 +66,7 @@ pub record IsStatusPage (opening : Node) (settings : Settings) (after : Seat) (a
   pub are_facts : AreFacts opening peers after facts
   pub page : reply ≡ kinds.NodeStatus (status_page (identity_of opening.held.me settings.cluster release) (figures_of facts) peers asked settings.budget)
 
--- there was no memory, or the seat may not enter
-abbrev pub IsStatusFault : Fault → Type 0
-IsStatusFault fault = (fault ≡ NoMemory) ⊎ (fault ≡ Closed)
-
--- such a page, or the fault; the seat may have seen more
+-- such a page, or that there was no memory; the seat may have seen more
 abbrev pub IsStatusReply : Node → Settings → Seat → ℕ → Seat → Message → Type 0
 IsStatusReply opening settings before asked after reply =
-    IsLater before after × (IsStatusPage opening settings after asked reply ⊎ ((fault : Fault) × IsStatusFault fault × (reply ≡ kinds.Refused (number_of fault))))
+    IsLater before after × (IsStatusPage opening settings after asked reply ⊎ (reply ≡ kinds.Refused (number_of NoMemory)))

@@ -2,7 +2,7 @@
 ghost use Rattle.std.specs.Prelude.{◌≡◌, IfErr, ◌+◌, ◌<◌, ◌≤◌, ◌++◌, ◌∷◌, [], true, vec_len, length, position, MatchBool, OnOk, IfSome, IfOk};
 ghost use Rattle.sb_run.specs.declared.first_message.TheConstants.{FIRST_MOST};
 ghost use Rattle.sb_run.specs.declared.accepting.TheConstants.{WAITING_MOST};
-ghost use Rattle.sb_run.specs.Arriving.{ReadsPiece, is_silent, has_begun, has_number, without_oldest, with_room};
+ghost use Rattle.sb_run.specs.Arriving.{is_silent, has_begun, has_number, without_oldest, with_room};
 
 use crate::arrivals::Handover;
 use crate::counts::Counts;
@@ -13,8 +13,10 @@ use crate::threads::NodeContext;
 use crate::watchers::WatcherList;
 use mio::net::UnixStream;
 use mio::{Events, Interest, Poll, Registry, Token};
-use sb_codec::Message;
-use sb_frames::{Frames, Steps, faults_are_of_the_bytes, receive};
+use sb_codec::{AskChange, Message};
+use sb_control::{ControlRequest, read_piece};
+use sb_frames::{Frames, Steps};
+use sb_handlers::Arrival;
 use sb_types::Fault;
 use std::alloc::Global;
 use std::io::Read;
@@ -26,6 +28,9 @@ use std::{io, thread};
 
 /// How long the next accept waits after one that failed, in milliseconds: without free descriptors each fails at once.
 const ACCEPT_PAUSE: u64 = 20;
+
+/// After how long a node that can still accept nothing counts that again, in milliseconds.
+const FAILURE_STEP: u64 = 60_000;
 
 /// How many connections are accepted at a socket before the others are looked at again.
 const ACCEPTED_AT_ONCE: usize = 64;
@@ -60,10 +65,14 @@ struct Backlog {
     peers: WaitingList,
     callers: WaitingList,
     handover: Handover,
+    /// A moment since which nobody had connected to the peers' socket when the last accept there found nobody.
+    since: Option<u64>,
     /// The number of the last connection, above those of the sockets and the waker.
     last_number: usize,
-    /// How many connections could not be accepted, or were closed before they were handed on.
+    /// How many connections were closed before they were handed on, and how many times none could be accepted.
     faults: u64,
+    /// When a failed accept counts again; none if the last accept did not fail.
+    counts_again: Option<Instant>,
 }
 
 /// Accepts at both sockets.
@@ -79,10 +88,18 @@ impl Backlog {
         self.faults = self.faults.saturating_add(1);
     }
 
-    /// Notes that a connection was not accepted, or was closed to make room for others.
+    /// Notes that a connection was closed to make room for others or for want of memory, or that none could be accepted.
     fn turn_away(&mut self, counts: &Counts) {
         counts.add_turned_away();
         self.note_fault();
+    }
+
+    /// Notes a failed accept. If accepts go on failing, one a minute counts: without free descriptors each fails, even if nobody calls.
+    fn note_failed<Q: Clock>(&mut self, clock: &Q, counts: &Counts) {
+        if has_come(clock, self.counts_again) {
+            self.turn_away(counts);
+            self.counts_again = deadline_after(clock, FAILURE_STEP);
+        }
     }
 
     /// Lets a connection wait at this socket until it has something to say. `ReadFailed`, `NoMemory`; both close it.
@@ -110,7 +127,8 @@ impl Backlog {
             _ => pace.idle,
         };
         let until = deadline_after(node.rt, patience);
-        let waiting = Waiting::new(node.alloc, number, stream, until, pace.max_reads);
+        let since = self.since;
+        let waiting = Waiting::new(node.alloc, number, stream, until, since, pace.max_reads);
         let list = match at {
             At::Sock => &mut self.peers,
             At::Control => &mut self.callers,
@@ -132,9 +150,12 @@ impl Backlog {
             At::Sock => &node.sockets.sock,
             At::Control => &node.sockets.control,
         };
+        // A connection that an accept after this moment does not find comes later.
+        let before = node.reported_versions.moment(node.rt);
         for _ in 0..ACCEPTED_AT_ONCE {
             match socket.accept() {
                 Ok(stream) => {
+                    self.counts_again = None;
                     if at == At::Sock {
                         node.counts.add_session();
                     }
@@ -142,15 +163,26 @@ impl Backlog {
                         self.turn_away(node.counts);
                     }
                 }
-                Err(error) if error.kind() == io::ErrorKind::WouldBlock => return Left::Nothing,
+                Err(error) if error.kind() == io::ErrorKind::WouldBlock => {
+                    self.counts_again = None;
+                    self.note_none(at, before);
+                    return Left::Nothing;
+                }
                 Err(_) => {
-                    self.turn_away(node.counts);
+                    self.note_failed(node.rt, node.counts);
                     self.make_room(node.counts);
                     return Left::Failed;
                 }
             }
         }
         Left::More
+    }
+
+    /// Notes that an accept at a socket found nobody, and was made after this moment.
+    fn note_none(&mut self, at: At, before: Option<u64>) {
+        if at == At::Sock && before.is_some() {
+            self.since = before;
+        }
     }
 
     /// Closes the oldest connection of the longer list. Says whether there was one.
@@ -181,29 +213,38 @@ impl Backlog {
         number: usize,
     ) -> Result<(), Fault> {
         let begun = self.peers.take_session(node.alloc, registry, number)?;
-        if let Some((came, stream)) = begun {
+        if let Some((came, stream, since)) = begun {
             let name = name_of(node.alloc, &came);
-            let given = self.handover.give_session(node.rt, name, came, stream);
+            let arrival = Arrival { name, since };
+            let given = self.handover.give_session(node.rt, arrival, came, stream);
             return note_given(node.counts, given);
         }
         let whole = self
             .callers
             .take_request::<Brand>(registry, number, Blank::new(1))?;
         match whole {
-            Some((Message::AskChange(asked), stream)) => {
-                watchers.admit(node, registry, number, &asked, stream)
-            }
-            Some((request, stream)) => {
-                let given = self
-                    .handover
-                    .give_request(node.rt, node.asked, request, stream);
-                note_given(node.counts, given)
-            }
+            Some((request, stream)) => match change_in(request.message()) {
+                Some(asked) => watchers.admit(node, registry, number, &asked, stream),
+                None => self.give_request(node, request, stream),
+            },
             None => {
                 watchers.hear(node, registry, number);
                 Ok(())
             }
         }
+    }
+
+    /// Hands a request on, and counts it if that fails.
+    fn give_request<S: RoundsTag, H: Wait + Drop, Q: Wait>(
+        &mut self,
+        node: &NodeContext<S, H, Q>,
+        request: ControlRequest,
+        stream: UnixStream,
+    ) -> Result<(), Fault> {
+        let given = self
+            .handover
+            .give_request(node.rt, node.asked, request, stream);
+        note_given(node.counts, given)
     }
 
     /// Tells those who wait for a change that came, or whose time is over.
@@ -239,11 +280,30 @@ impl Backlog {
     }
 }
 
+/// Whether a moment has come; also if there is none, or the clock can't be read.
+fn has_come<Q: Clock>(clock: &Q, moment: Option<Instant>) -> bool {
+    let Some(moment) = moment else {
+        return true;
+    };
+    match Instant::now(clock) {
+        Ok(now) => moment <= now,
+        Err(_) => true,
+    }
+}
+
 /// The earlier of two moments, if there is one.
 pub(crate) fn earlier(one: Option<Instant>, other: Option<Instant>) -> Option<Instant> {
     match (one, other) {
         (Some(one), Some(other)) => Some(one.min(other)),
         (one, other) => one.or(other),
+    }
+}
+
+/// The change that a message asks for; none if it is another message.
+fn change_in(message: &Message) -> Option<AskChange> {
+    match message {
+        Message::AskChange(asked) => Some(*asked),
+        _ => None,
     }
 }
 
@@ -284,14 +344,16 @@ impl Acceptor {
                 peers: WaitingList::new(alloc),
                 callers: WaitingList::new(alloc),
                 handover,
+                since: None,
                 last_number: WAKER_TOKEN,
                 faults: 0,
+                counts_again: None,
             },
         }
     }
 
-    /// Accepts until the node is to end. Gives how many connections could not be accepted, or were closed before they were
-    /// handed on.
+    /// Accepts until the node is to end. Gives how many connections were closed before they were handed on, and how many times none
+    /// could be accepted.
     pub(crate) fn accept_all<S: RoundsTag, H: Wait + Drop, Q: Wait + Clock>(
         self,
         node: &NodeContext<S, H, Q>,
@@ -342,6 +404,8 @@ pub(crate) struct Waiting {
     stream: UnixStream,
     /// When it is closed; never if it has no moment.
     until: Option<Instant>,
+    /// A moment before it came, in milliseconds since the node started, if one is known.
+    since: Option<u64>,
     /// What has come of its request, if it is a caller.
     frames: Frames,
     /// How many more reads it may take.
@@ -370,32 +434,6 @@ impl Read for Arrived<'_> {
     }
 }
 
-/// Makes one read of a stream, if one is left: its first message, once it is whole. None if more is to come. `left` is what is
-/// left after the call. Its faults are those of `receive`, and `Truncated` also at an end before the message. After
-/// `ReadFailed` the call may be made again.
-fn read_piece<R: Read, K: Ledger>(
-    reader: &mut R,
-    frames: &mut Frames,
-    left: &mut u64,
-    steps: &mut Steps<K>,
-) -> Result<Option<Message>, Fault>
-    ensures reads { ReadsPiece frames.old frames.new (R.remaining reader.old) (R.remaining reader.new) result }
-    ensures counted { steps.new + left.new ≤ steps.old + left.old }
-{
-    faults_are_of_the_bytes();
-    if *left == 0 {
-        return Err(Fault::TurnsSpent);
-    }
-    *left -= 1;
-    match receive(reader, frames, 1, steps) {
-        Ok(Some(message)) => Ok(Some(message)),
-        Ok(None) => Err(Fault::Truncated),
-        // The read gave less than the rest of the message.
-        Err(Fault::TurnsSpent) if *left > 0 => Ok(None),
-        Err(fault) => Err(fault),
-    }
-}
-
 /// The moment so many milliseconds from now; none for 0, or if the clock can't be read.
 pub(crate) fn deadline_after<Q: Clock>(clock: &Q, milliseconds: u64) -> Option<Instant> {
     if milliseconds == 0 {
@@ -408,22 +446,25 @@ pub(crate) fn deadline_after<Q: Clock>(clock: &Q, milliseconds: u64) -> Option<I
 }
 
 impl Waiting {
-    /// A connection of this number, which waits until then and may take so many reads.
+    /// A connection of this number that came after a moment, waits until another and may take so many reads.
     pub(crate) fn new(
         alloc: Global,
         number: usize,
         stream: UnixStream,
         until: Option<Instant>,
+        since: Option<u64>,
         max_reads: u64,
     ) -> Waiting
         ensures number { result.number ≡ number }
         ensures silent { is_silent result ≡ true }
+        ensures since { result.since ≡ since }
         ensures reads { result.left ≡ max_reads }
     {
         Waiting {
             number,
             stream,
             until,
+            since,
             frames: Frames::new(alloc),
             left: max_reads,
             came: Vec::new(alloc),
@@ -461,7 +502,7 @@ impl Waiting {
 
     /// Makes one read of its request, without waiting: the request, once it is whole. None if more is to come. Its faults
     /// are those of `read_piece`, after which it is to be closed.
-    fn read<K: Ledger>(&mut self, steps: &mut Steps<K>) -> Result<Option<Message>, Fault>
+    fn read<K: Ledger>(&mut self, steps: &mut Steps<K>) -> Result<Option<ControlRequest>, Fault>
         ensures number { self.new.number ≡ self.old.number }
         ensures counted { steps.new + self.new.left ≤ steps.old + self.old.left }
     {
@@ -546,14 +587,15 @@ impl WaitingList {
         Ok(has_closed)
     }
 
-    /// Makes one read of the peer of this number. Gives its connection, and what has come on it, once a worker is to take it. None
-    /// if more is to come, which the registry then reports, or if no such one waits here. A fault closes it.
+    /// Makes one read of the peer of this number. Gives its connection, what has come on it, and a moment before it came, once a
+    /// worker is to take it. None if more is to come, which the registry then reports, or if no such one waits here. A fault closes
+    /// it.
     pub(crate) fn take_session(
         &mut self,
         alloc: Global,
         registry: &Registry,
         number: usize,
-    ) -> Result<Option<(Vec<u8>, UnixStream)>, Fault>
+    ) -> Result<Option<(Vec<u8>, UnixStream, Option<u64>)>, Fault>
         ensures begun { IfOk result (λ found. IfSome found (λ taken. has_begun FIRST_MOST taken.0.items ≡ true)) }
     {
         let Some(place) = place_of(&self.all, number) else {
@@ -565,8 +607,13 @@ impl WaitingList {
                 Ok(None)
             }
             Ok(true) => {
-                let Waiting { stream, came, .. } = self.all.remove(place);
-                Ok(Some((came, stream)))
+                let Waiting {
+                    stream,
+                    came,
+                    since,
+                    ..
+                } = self.all.remove(place);
+                Ok(Some((came, stream, since)))
             }
             Err(fault) => {
                 self.all.remove(place);
@@ -582,7 +629,7 @@ impl WaitingList {
         registry: &Registry,
         number: usize,
         blank: Blank,
-    ) -> Result<Option<(Message, UnixStream)>, Fault>
+    ) -> Result<Option<(ControlRequest, UnixStream)>, Fault>
         requires name { blank.name ≡ K.name }
         requires parts { blank.parts ≡ K.parts }
         requires some { 0 < blank.parts }

@@ -13,7 +13,10 @@ use crate::threads::EndFlag;
 use crossbeam_channel::{Receiver, RecvTimeoutError, Sender, TrySendError, bounded};
 use mio::net;
 use sb_codec::{Ask, Message};
-use sb_types::{Fault, Name, Write};
+use sb_control::ControlRequest;
+use sb_handlers::Arrival;
+use sb_http::HttpWrite;
+use sb_types::Fault;
 use std::alloc::Global;
 use std::io::{Chain, Cursor, Read};
 use std::os::unix::net::UnixStream;
@@ -30,26 +33,29 @@ const HEARING_PAUSE: u64 = 10;
 /// What a worker is to do next.
 #[derive(Drop)]
 pub(crate) enum Job {
-    /// To serve the session of a peer that sent this. The name is known if that is a Hello.
-    Session(Option<Name>, Vec<u8>, UnixStream),
+    /// To serve the session of a peer that sent this. Its name is known if that is a Hello.
+    Session(Arrival, Vec<u8>, UnixStream),
     /// To answer a caller's question.
     Question(Ask, UnixStream),
 }
 
-/// What gets the answer to a request.
-#[derive(Drop)]
-pub(crate) enum Caller {
-    /// The connection of a caller at the control socket.
-    Stream(UnixStream),
-    /// A thread that answers over HTTP, which waits for the answer to a write.
-    Worker(AnswerSender),
-}
-
 /// What was asked, and what gets the answer.
 #[derive(Drop)]
-pub(crate) struct Request {
-    pub(crate) message: Message,
-    pub(crate) caller: Caller,
+pub(crate) enum Request {
+    /// What a caller at the control socket asked. Its connection gets the answer.
+    Control(ControlRequest, UnixStream),
+    /// A write over HTTP. The thread that waits for the answer gets it.
+    Http(HttpWrite, AnswerSender),
+}
+
+impl Request {
+    /// Whether it asks for a write.
+    pub(crate) fn is_put(&self) -> bool {
+        match self {
+            Request::Control(request, _) => matches!(request.message(), Message::Put(_)),
+            Request::Http(_, _) => true,
+        }
+    }
 }
 
 /// How often workers asked for something to do.
@@ -172,15 +178,29 @@ fn new_owner_ways(alloc: Global) -> Result<(OwnerWays, Requests), Fault>
     Ok((ways, requests))
 }
 
+/// The question for rows that a message asks; none if it is another message.
+fn question_in(message: &Message) -> Option<Ask> {
+    match message {
+        Message::Ask(ask) => Some(*ask),
+        _ => None,
+    }
+}
+
 impl OwnerSender {
-    /// Hands a request to the calling thread, and says whether there was room.
-    fn give<R: Wait>(&self, rt: &R, request: Request) -> bool {
-        let way = match request.message {
+    /// The way for what this message asks.
+    fn way(&self, message: &Message) -> &Sender<Request> {
+        match message {
             Message::Put(_) => &self.writes,
             Message::Ask(_) => &self.questions,
             _ => &self.others,
-        };
-        way.try_send(rt, request).is_ok() && self.arrivals.try_send(rt, ()).is_ok()
+        }
+    }
+
+    /// Hands a request to the calling thread, and says whether there was room.
+    fn give<R: Wait>(&self, rt: &R, request: ControlRequest, stream: UnixStream) -> bool {
+        let way = self.way(request.message());
+        way.try_send(rt, Request::Control(request, stream)).is_ok()
+            && self.arrivals.try_send(rt, ()).is_ok()
     }
 }
 
@@ -190,14 +210,10 @@ impl WriteSender {
     pub(crate) fn give<R: Wait>(
         &self,
         rt: &R,
-        write: Write,
+        asked: HttpWrite,
         to: AnswerSender,
     ) -> Result<(), Fault> {
-        let request = Request {
-            message: Message::Put(write),
-            caller: Caller::Worker(to),
-        };
-        match self.writes.try_send(rt, request) {
+        match self.writes.try_send(rt, Request::Http(asked, to)) {
             Ok(()) => {}
             Err(TrySendError::Full(_)) => return Err(Fault::TurnsSpent),
             Err(TrySendError::OutOfMemory(_)) => return Err(Fault::NoMemory),
@@ -225,25 +241,19 @@ impl Handover {
         is_given
     }
 
-    /// Hands a request to the calling thread, and says whether there was room.
-    fn give_owner<R: Wait>(&self, rt: &R, message: Message, stream: UnixStream) -> bool {
-        let caller = Caller::Stream(stream);
-        self.to_owner.give(rt, Request { message, caller })
-    }
-
-    /// Hands the session of a peer to the workers, with its name if that is known, and with what has come of it. `ReadFailed` if
-    /// too many wait for one, or if the connection can't be used.
+    /// Hands the session of a peer to the workers, with how its connection came, and with what has come of it. `ReadFailed` if too
+    /// many wait for one, or if the connection can't be used.
     pub(crate) fn give_session<R: Wait>(
         &mut self,
         rt: &R,
-        name: Option<Name>,
+        arrival: Arrival,
         came: Vec<u8>,
         stream: net::UnixStream,
     ) -> Result<(), Fault> {
         let Ok(stream) = blocking_stream(stream) else {
             return Err(Fault::ReadFailed);
         };
-        if self.give(rt, Job::Session(name, came, stream)) {
+        if self.give(rt, Job::Session(arrival, came, stream)) {
             Ok(())
         } else {
             Err(Fault::ReadFailed)
@@ -256,7 +266,7 @@ impl Handover {
         &mut self,
         rt: &R,
         asked: &Asked,
-        message: Message,
+        request: ControlRequest,
         stream: net::UnixStream,
     ) -> Result<(), Fault> {
         let Ok(stream) = blocking_stream(stream) else {
@@ -264,15 +274,9 @@ impl Handover {
         };
         // Each worker asks before it waits, and each job ends the wait of one. So one is free where more was asked than handed.
         let is_worker_free = asked.count.load(Ordering::SeqCst) > self.handed;
-        let is_given = match message {
-            Message::Ask(ask) => {
-                if is_worker_free {
-                    self.give(rt, Job::Question(ask, stream))
-                } else {
-                    self.give_owner(rt, Message::Ask(ask), stream)
-                }
-            }
-            message => self.give_owner(rt, message, stream),
+        let is_given = match question_in(request.message()) {
+            Some(ask) if is_worker_free => self.give(rt, Job::Question(ask, stream)),
+            _ => self.to_owner.give(rt, request, stream),
         };
         if is_given {
             Ok(())
@@ -453,7 +457,7 @@ impl<'a, R: Clock> Arrivals<'a, R> {
     {
         let pace = &self.pace;
         match job {
-            Job::Session(name, came, stream) => {
+            Job::Session(arrival, came, stream) => {
                 let Ok(input) = stream.try_clone() else {
                     return Err(Fault::ReadFailed);
                 };
@@ -464,7 +468,8 @@ impl<'a, R: Clock> Arrivals<'a, R> {
                 let input = Cursor::new(came).chain(rest);
                 let output = Timed::new(self.rt, stream, pace.idle, pace.session);
                 let before = self.sessions.fetch_add(1, Ordering::SeqCst);
-                Ok(Taken::Session(before.saturating_add(1), name, input, output))
+                let number = before.saturating_add(1);
+                Ok(Taken::Session(number, arrival, input, output))
             }
             Job::Question(ask, stream) => {
                 if limit(&stream, pace.idle).is_err() {
@@ -486,6 +491,9 @@ impl<'a, R: Wait + Clock + Sync> Source for Arrivals<'a, R> {
     ghost over = { λ arrivals. Unit {0} };
 
     ghost asks = { λ arrivals. Unit {0} };
+
+    // Contracts do not see the bytes of a socket.
+    ghost gives = { λ arrivals input. Unit {0} };
 
     fn next(&self) -> Option<Result<Taken<PeerInput<'a, R>, Timed<'a, R>>, Fault>> {
         self.asked.count.fetch_add(1, Ordering::SeqCst);

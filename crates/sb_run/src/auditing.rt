@@ -16,7 +16,7 @@ use sb_digest::{Digest, Pair};
 use sb_directory::{Difference, Directory, DirectoryTag, ReaderSeat};
 use sb_frames::{Connection, Steps};
 use sb_holdings::Report;
-use sb_session::{Handler, dial};
+use sb_session::{Handler, ReceivedDelta, dial};
 use sb_types::{Block, Delta, Fault, KEYS_MOST, NAME_MOST, Name};
 use std::alloc::Global;
 use std::io::{Read, Write};
@@ -163,6 +163,22 @@ fn block_of<'a>(blocks: &'a [Block], owner: &Name) -> Option<&'a Block>
     None
 }
 
+/// The seat, and the own version that it sees, which an audit has to reach. That is the greatest of all if the seat cannot enter.
+fn goal_of<S: DirectoryTag, R: Wait + Drop>(
+    directory: &Directory<S, R>,
+    seat: ReaderSeat<S>,
+) -> (ReaderSeat<S>, u64)
+    ensures { IsLater seat result.0 }
+{
+    match seat.enter() {
+        Ok(entered) => {
+            let goal = entered.snapshot().upto(directory.name());
+            (entered.leave(), goal)
+        }
+        Err(seat) => (seat, u64::MAX),
+    }
+}
+
 impl<'a, S: DirectoryTag, R: Wait + Drop, Q: Wait> AuditHandler<'a, S, R, Q> {
     /// An audit from this seat, to which nothing came.
     fn new(
@@ -173,13 +189,7 @@ impl<'a, S: DirectoryTag, R: Wait + Drop, Q: Wait> AuditHandler<'a, S, R, Q> {
     ) -> AuditHandler<'a, S, R, Q>
         ensures { IsLater seat result.seat }
     {
-        let (seat, goal) = match seat.enter() {
-            Ok(entered) => {
-                let upto = entered.snapshot().upto(directory.name());
-                (entered.leave(), upto)
-            }
-            Err(seat) => (seat, u64::MAX),
-        };
+        let (seat, goal) = goal_of(directory, seat);
         AuditHandler {
             rt,
             alloc,
@@ -280,7 +290,7 @@ impl<S: DirectoryTag, R: Wait + Drop, Q: Wait> Handler for AuditHandler<'_, S, R
         }
     }
 
-    fn apply(&mut self, delta: &Delta) -> Result<Report, Fault> {
+    fn apply(&mut self, delta: &ReceivedDelta) -> Result<Report, Fault> {
         match block_of(delta.blocks(), self.directory.name()) {
             Some(block) => self.compare(block)?,
             None => {

@@ -1,14 +1,15 @@
 //! The beats of a node: own writes by which its peers hear that it lives.
 ghost use Rattle.std.specs.Prelude.{◌≡◌, true, false};
+ghost use Rattle.sb_run.specs.Beating.{MakesBeat};
 
 use crate::accepting::deadline_after;
 use crate::dialer::RoundsTag;
 use crate::node::Beat;
 use crate::own_writes::OwnWrites;
 use crate::threads::NodeContext;
+use crate::write_request::WriteRequest;
 use sb_directory::ReaderSeat;
 use sb_log::WriteLog;
-use sb_types::{Slot, Value};
 use std::sync::Wait;
 use std::time::{Clock, Instant};
 
@@ -21,7 +22,9 @@ pub(crate) struct BeatTurns {
 
 impl BeatTurns {
     /// The first beat is due a millisecond from now. There is none if none is given, or if the clock can't be read.
-    pub(crate) fn new<Q: Clock>(clock: &Q, beat: Option<Beat>) -> BeatTurns {
+    pub(crate) fn new<Q: Clock>(clock: &Q, beat: Option<Beat>) -> BeatTurns
+        ensures { result.beat ≡ beat }
+    {
         let next = match beat {
             Some(_) => deadline_after(clock, 1),
             None => None,
@@ -45,6 +48,9 @@ impl<S: RoundsTag, H: Wait + Drop, Q: Wait + Clock> NodeContext<'_, S, H, Q> {
         seat: &mut ReaderSeat<S>,
     )
         ensures closes { (L.seen writes.old.log).is_open ≡ true → (L.seen writes.new.log).is_open ≡ false → writes.new.has_failed ≡ true }
+        // The write of the beat is put, or nothing is done.
+        ensures beats { MakesBeat L.seen S.opening beats.old.beat writes.old.log writes.old.owed seat.old writes.new.log writes.new.owed seat.new }
+        ensures same { beats.new.beat ≡ beats.old.beat }
     {
         let Some(beat) = beats.beat else {
             return;
@@ -53,8 +59,8 @@ impl<S: RoundsTag, H: Wait + Drop, Q: Wait + Clock> NodeContext<'_, S, H, Q> {
             beats.next = None;
             return;
         }
-        let slot = Slot::Set(Value::flag(true));
-        let _ = writes.put(self.rt, self.directory, seat, &beat.key, &slot);
+        let asked = WriteRequest::of_beat(&beat);
+        let _ = writes.put(self.rt, self.directory, seat, asked);
         beats.next = deadline_after(self.rt, beat.pause);
     }
 }

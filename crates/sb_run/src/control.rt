@@ -15,8 +15,9 @@ ghost use Rattle.sb_control.specs.OneMessage.{ReceivesOne, Asks};
 
 use crate::own_writes::OwnWrites;
 use crate::pool::Serving;
+use crate::write_request::WriteRequest;
 use sb_codec::{Ask, Done, Message, Refused};
-use sb_control::receive_first;
+use sb_control::{ControlRequest, receive_request};
 use sb_directory::{DirectoryTag, EnteredSeat, ReaderSeat};
 use sb_frames::{Connection, send};
 use sb_log::WriteLog;
@@ -24,7 +25,7 @@ use sb_query::answer;
 use sb_types::{
     Fault, KIND_AGES, KIND_ASK_AGES, KIND_ASK_CHANGE, KIND_ASK_STATUS, KIND_BYE, KIND_DELTA,
     KIND_DIGEST, KIND_DONE, KIND_HELLO, KIND_NODE_STATUS, KIND_NOTICE, KIND_REFUSED, KIND_ROWS,
-    Key, Settings, Slot,
+    Settings,
 };
 use sb_views::NodeTag;
 use std::alloc::Global;
@@ -70,7 +71,7 @@ pub(crate) fn look_up<S: NodeTag>(
     }
 }
 
-/// Answers an Ask by a page of what the seat reads.
+/// Answers an Ask by a page of what the seat reads; by `NoMemory` also if the seat cannot enter.
 pub(crate) fn reply_to_ask<S: NodeTag>(
     alloc: Global,
     settings: &Settings,
@@ -84,7 +85,7 @@ pub(crate) fn reply_to_ask<S: NodeTag>(
             let reply = look_up(alloc, settings, &entered, ask);
             (entered.leave(), reply)
         }
-        Err(seat) => (seat, refused_by(Fault::Closed)),
+        Err(seat) => (seat, refused_by(Fault::NoMemory)),
     }
 }
 
@@ -93,14 +94,13 @@ pub(crate) fn reply_to_put<L: WriteLog, S: DirectoryTag, H: Wait + Drop, Q: Wait
     serving: &Serving<S, H, Q>,
     writes: &mut OwnWrites<L>,
     seat: &mut ReaderSeat<S>,
-    key: &Key,
-    slot: &Slot,
+    asked: WriteRequest,
 ) -> Message
-    ensures put { IsPutReply L.seen S.opening writes.old.log writes.old.owed seat.old key.now slot.now writes.new.log writes.new.owed seat.new result }
+    ensures put { IsPutReply L.seen S.opening writes.old.log writes.old.owed seat.old asked.key asked.slot writes.new.log writes.new.owed seat.new result }
     ensures closes { (L.seen writes.old.log).is_open ≡ true → (L.seen writes.new.log).is_open ≡ false → writes.new.has_failed ≡ true }
     ensures settled { IsSettled (L.seen writes.old.log) (L.leaves writes.old.log) → IsSettled (L.seen writes.new.log) (L.leaves writes.new.log) }
 {
-    match writes.put(serving.rt, serving.directory, seat, key, slot) {
+    match writes.put(serving.rt, serving.directory, seat, asked) {
         Ok(stored) => done(stored.version()),
         Err(met) => refused_by(met),
     }
@@ -111,22 +111,26 @@ fn reply_to<L: WriteLog, S: DirectoryTag, H: Wait + Drop, Q: Wait>(
     serving: &Serving<S, H, Q>,
     writes: &mut OwnWrites<L>,
     seat: ReaderSeat<S>,
-    request: &Message,
+    request: ControlRequest,
 ) -> (ReaderSeat<S>, Message)
-    ensures answers { Answers L.seen S.opening S.settings.budget writes.old.log writes.old.owed seat request.now
+    ensures answers { Answers L.seen S.opening S.settings.budget writes.old.log writes.old.owed seat request
         writes.new.log writes.new.owed result.0 result.1 }
     ensures closes { (L.seen writes.old.log).is_open ≡ true → (L.seen writes.new.log).is_open ≡ false → writes.new.has_failed ≡ true }
     ensures settled { IsSettled (L.seen writes.old.log) (L.leaves writes.old.log) → IsSettled (L.seen writes.new.log) (L.leaves writes.new.log) }
 {
-    match request {
+    let message = match WriteRequest::of_caller(request) {
+        Ok(asked) => {
+            let mut seat = seat;
+            let reply = reply_to_put(serving, writes, &mut seat, asked);
+            return (seat, reply);
+        }
+        Err(message) => message,
+    };
+    match &message {
         Message::Ask(ask) => {
             reply_to_ask(serving.alloc, serving.directory.settings(), seat, ask)
         }
-        Message::Put(write) => {
-            let mut seat = seat;
-            let reply = reply_to_put(serving, writes, &mut seat, &write.key, &write.slot);
-            (seat, reply)
-        }
+        Message::Put(_) => unreachable!(),
         Message::Hello(_) => (seat, refused_by(Fault::UnknownKind(KIND_HELLO))),
         Message::Digest(_) => (seat, refused_by(Fault::UnknownKind(KIND_DIGEST))),
         Message::Delta(_) => (seat, refused_by(Fault::UnknownKind(KIND_DELTA))),
@@ -168,9 +172,9 @@ impl<S: DirectoryTag, H: Wait + Drop, Q: Wait> Serving<'_, S, H, Q> {
         writer: &mut W,
         writes: &mut OwnWrites<L>,
         seat: ReaderSeat<S>,
-        request: &Message,
+        request: ControlRequest,
     ) -> (ReaderSeat<S>, Result<(), Fault>)
-        ensures answers { (reply : Message) × Answers L.seen S.opening S.settings.budget writes.old.log writes.old.owed seat request.now writes.new.log writes.new.owed result.0 reply
+        ensures answers { (reply : Message) × Answers L.seen S.opening S.settings.budget writes.old.log writes.old.owed seat request writes.new.log writes.new.owed result.0 reply
             × Sends (W.contents writer.old) (W.contents writer.new) (frame reply) result.1 }
         // A log that was open and is closed now is told to have failed.
         ensures closes { (L.seen writes.old.log).is_open ≡ true → (L.seen writes.new.log).is_open ≡ false → writes.new.has_failed ≡ true }
@@ -213,9 +217,9 @@ impl<S: DirectoryTag, H: Wait + Drop, Q: Wait> Serving<'_, S, H, Q> {
         ensures closes { (L.seen writes.old.log).is_open ≡ true → (L.seen writes.new.log).is_open ≡ false → writes.new.has_failed ≡ true }
         ensures settled { IsSettled (L.seen writes.old.log) (L.leaves writes.old.log) → IsSettled (L.seen writes.new.log) (L.leaves writes.new.log) }
     {
-        match receive_first(connection) {
+        match receive_request(connection) {
             Ok(request) => {
-                let (seat, reply) = reply_to(self, writes, seat, &request);
+                let (seat, reply) = reply_to(self, writes, seat, request);
                 let sent = connection.send(&reply);
                 (seat, sent)
             }

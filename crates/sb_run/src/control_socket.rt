@@ -1,15 +1,18 @@
 //! The calling thread of a running node: it answers what callers asked at the control socket, and makes the own writes.
-ghost use Rattle.std.specs.Prelude.{◌≡◌, true, false, IfErr};
+ghost use Rattle.std.specs.Prelude.{◌≡◌, true, false, List, IfErr};
 ghost use Rattle.sb_codec.specs.declared.message.Message.{Message};
+ghost use Rattle.sb_codec.specs.declared.message.Message.TheVariants as kinds;
 ghost use Rattle.sb_directory.specs.Serving.{IsLater, IsStill};
 ghost use Rattle.sb_frames.specs.Frames.{frame};
 ghost use Rattle.sb_frames.specs.Sending.{Sends};
 ghost use Rattle.sb_run.specs.Closing.{seen_by};
 ghost use Rattle.sb_run.specs.Control.{AnswersAll, AnswersTo};
-ghost use Rattle.sb_run.specs.OwnPurging.{MayPurge};
+ghost use Rattle.sb_run.specs.OwnPurging.{MayPurge, running_least};
 ghost use Rattle.sb_run.specs.Running.{IsOpenedFrom};
+ghost use Rattle.sb_run.specs.Works.{message_of, Does, DoesNext, WorksInTurn};
+ghost use Rattle.sb_run.specs.declared.arrivals.Work.{Work};
 
-use crate::arrivals::{Caller, Request, Requests, Work};
+use crate::arrivals::{Request, Requests, Work};
 use crate::beating::BeatTurns;
 use crate::control::reply_to_put;
 use crate::dialer::{Dialing, RoundsTag};
@@ -23,10 +26,12 @@ use crate::purging::PurgeTurns;
 use crate::schedule::RoundCounts;
 use crate::sockets::{Timed, limit};
 use crate::threads::NodeContext;
+use crate::write_request::WriteRequest;
 use sb_codec::Message;
-use sb_control::LogCause;
+use sb_control::{ControlRequest, LogCause};
 use sb_directory::ReaderSeat;
 use sb_frames::send;
+use sb_http::HttpWrite;
 use sb_log::{StoreCause, WriteLog};
 use sb_types::{Fault, Name, OWNERS_MOST};
 use std::io::Write;
@@ -54,13 +59,13 @@ impl<S: RoundsTag, H: Wait + Drop, Q: Wait + Clock> NodeContext<'_, S, H, Q> {
         dialing: &Dialing<'_, O>,
         writes: &mut OwnWrites<L>,
         seat: ReaderSeat<S>,
-        request: &Message,
+        request: ControlRequest,
     ) -> (ReaderSeat<S>, Result<(), Fault>)
-        ensures answers { (reply : Message) × AnswersAll L.seen S.opening S.settings writes.old.log writes.old.owed seat request.now writes.new.log writes.new.owed result.0 reply
+        ensures answers { (reply : Message) × AnswersAll L.seen S.opening S.settings writes.old.log writes.old.owed seat request writes.new.log writes.new.owed result.0 reply
             × Sends (W.contents writer.old) (W.contents writer.new) (frame reply) result.1 }
         ensures closes { (L.seen writes.old.log).is_open ≡ true → (L.seen writes.new.log).is_open ≡ false → writes.new.has_failed ≡ true }
     {
-        match request {
+        match request.message() {
             Message::AskStatus(asked) => {
                 let (seat, reply) = self.reply_to_ask_status(dialing, asked, seat);
                 let sent = send(self.alloc, writer, &reply);
@@ -70,7 +75,7 @@ impl<S: RoundsTag, H: Wait + Drop, Q: Wait + Clock> NodeContext<'_, S, H, Q> {
                 let sent = send(self.alloc, writer, &self.reply_to_ask_ages());
                 (seat, sent)
             }
-            other => self.serving().answer_request(writer, writes, seat, other),
+            _ => self.serving().answer_request(writer, writes, seat, request),
         }
     }
 
@@ -80,46 +85,39 @@ impl<S: RoundsTag, H: Wait + Drop, Q: Wait + Clock> NodeContext<'_, S, H, Q> {
         &self,
         dialing: &Dialing<'_, O>,
         writes: &mut OwnWrites<L>,
-        message: &Message,
+        request: ControlRequest,
         stream: UnixStream,
         seat: ReaderSeat<S>,
     ) -> (ReaderSeat<S>, bool)
         ensures closes { (L.seen writes.old.log).is_open ≡ true → (L.seen writes.new.log).is_open ≡ false → writes.new.has_failed ≡ true }
-        ensures answers { AnswersTo L.seen S.opening S.settings writes.old.log writes.old.owed seat message.now writes.new.log writes.new.owed result.0 result.1 }
+        ensures answers { AnswersTo L.seen S.opening S.settings writes.old.log writes.old.owed seat request writes.new.log writes.new.owed result.0 result.1 }
     {
         let pace = &self.pace;
         if limit(&stream, pace.idle).is_err() {
             return (seat, true);
         }
         let mut output = Timed::new(self.rt, stream, pace.idle, pace.request);
-        let (seat, sent) = self.write_answer(&mut output, dialing, writes, seat, message);
+        let (seat, sent) = self.write_answer(&mut output, dialing, writes, seat, request);
         (seat, sent.is_err())
     }
 
-    /// Makes a write that came over HTTP, and hands the answer to the thread that waits for it. With any other message nothing is
-    /// done, which is a fault.
+    /// Makes a write that came over HTTP, and hands the answer to the thread that waits for it.
     #[tactic(auto, using(crate::proofs::WriteReplies::write_reply))]
     fn answer_worker<L: WriteLog>(
         &self,
         writes: &mut OwnWrites<L>,
-        message: &Message,
+        asked: HttpWrite,
         to: AnswerSender,
         seat: ReaderSeat<S>,
-    ) -> (ReaderSeat<S>, bool)
+    ) -> ReaderSeat<S>
         ensures closes { (L.seen writes.old.log).is_open ≡ true → (L.seen writes.new.log).is_open ≡ false → writes.new.has_failed ≡ true }
-        ensures answers { AnswersTo L.seen S.opening S.settings writes.old.log writes.old.owed seat message.now writes.new.log writes.new.owed result.0 result.1 }
-        ensures still { result.1 ≡ true → (writes.new.log ≡ writes.old.log) × (writes.new.owed ≡ writes.old.owed) × (result.0 ≡ seat) }
+        ensures answers { (reply : Message) × AnswersAll L.seen S.opening S.settings writes.old.log writes.old.owed seat (kinds.Put asked) writes.new.log writes.new.owed result reply }
     {
-        match message {
-            Message::Put(write) => {
-                let mut seat = seat;
-                let (key, slot) = (&write.key, &write.slot);
-                let reply = reply_to_put(&self.serving(), writes, &mut seat, key, slot);
-                to.send(self.rt, reply);
-                (seat, false)
-            }
-            _ => (seat, true),
-        }
+        let mut seat = seat;
+        let asked = WriteRequest::over_http(asked);
+        let reply = reply_to_put(&self.serving(), writes, &mut seat, asked);
+        to.send(self.rt, reply);
+        seat
     }
 
     /// Answers a request, and says whether that ended with a fault.
@@ -132,14 +130,13 @@ impl<S: RoundsTag, H: Wait + Drop, Q: Wait + Clock> NodeContext<'_, S, H, Q> {
     ) -> (ReaderSeat<S>, bool)
         ensures closes { (L.seen writes.old.log).is_open ≡ true → (L.seen writes.new.log).is_open ≡ false → writes.new.has_failed ≡ true }
         // This request was answered, or nothing came of it, which is a fault.
-        ensures answers { AnswersTo L.seen S.opening S.settings writes.old.log writes.old.owed seat request.message writes.new.log writes.new.owed result.0 result.1 }
+        ensures answers { AnswersTo L.seen S.opening S.settings writes.old.log writes.old.owed seat (message_of request) writes.new.log writes.new.owed result.0 result.1 }
     {
-        let Request { message, caller } = request;
-        match caller {
-            Caller::Stream(stream) => {
-                self.answer_caller(dialing, writes, &message, stream, seat)
+        match request {
+            Request::Control(request, stream) => {
+                self.answer_caller(dialing, writes, request, stream, seat)
             }
-            Caller::Worker(to) => self.answer_worker(writes, &message, to, seat),
+            Request::Http(asked, to) => (self.answer_worker(writes, asked, to, seat), false),
         }
     }
 }
@@ -222,12 +219,22 @@ impl<S: RoundsTag, H: Wait + Drop, Q: Wait + Clock> NodeContext<'_, S, H, Q> {
     }
 }
 
-/// Notes work that may lead to a purge.
-fn note_work(turns: &mut PurgeTurns, work: &Work)
-    ensures least { turns.new.least ≡ turns.old.least }
-{
-    if let Work::Request(request) = work {
-        turns.note(&request.message);
+/// When the calling thread purges, and when it makes a beat.
+#[derive(Drop)]
+struct OwnTurns {
+    purges: PurgeTurns,
+    beats: BeatTurns,
+}
+
+impl OwnTurns {
+    /// Notes work that may lead to a purge.
+    fn note(&mut self, work: &Work)
+        ensures least { self.new.purges.least ≡ self.old.purges.least }
+        ensures beats { self.new.beats ≡ self.old.beats }
+    {
+        if let Work::Request(request) = work {
+            self.purges.note(request.is_put());
+        }
     }
 }
 
@@ -242,6 +249,9 @@ impl<S: RoundsTag, H: Wait + Drop, Q: Wait + Clock> NodeContext<'_, S, H, Q> {
         seat: ReaderSeat<S>,
     ) -> (ReaderSeat<S>, bool)
         ensures closes { (L.seen writes.old.log).is_open ≡ true → (L.seen writes.new.log).is_open ≡ false → writes.new.has_failed ≡ true }
+        // This request was answered, or this beat was made, and nothing else.
+        ensures does { Does L.seen S.opening S.settings beats.old.beat work writes.old.log writes.old.owed seat writes.new.log writes.new.owed result.0 }
+        ensures same { beats.new.beat ≡ beats.old.beat }
     {
         match work {
             Work::Request(request) => self.answer_one(dialing, writes, request, seat),
@@ -251,6 +261,74 @@ impl<S: RoundsTag, H: Wait + Drop, Q: Wait + Clock> NodeContext<'_, S, H, Q> {
                 (seat, false)
             }
         }
+    }
+
+    /// Does a piece of work. Before it the log is closed if its file is lost, and after it the own table is purged if that is due.
+    /// Gives the seat back, and says whether the work ended with a fault, and whether the node is to end.
+    fn do_next<L: WriteLog, O: Observer>(
+        &self,
+        dialing: &Dialing<'_, O>,
+        writes: &mut OwnWrites<ClosableLog<L>>,
+        turns: &mut OwnTurns,
+        work: Work,
+        seat: ReaderSeat<S>,
+    ) -> (ReaderSeat<S>, bool, bool)
+        ensures exits { result.2 ≡ true → self.now.pace.on_log_fault ≡ OnLogFault.Exit }
+        ensures next { DoesNext L.seen S.opening S.settings turns.old.beats.beat turns.old.purges.least work
+            (record { log = writes.old.log; owed = writes.old.owed; seat = seat }) (record { log = writes.new.log; owed = writes.new.owed; seat = result.0 }) }
+        ensures same { (turns.new.beats.beat ≡ turns.old.beats.beat) × (turns.new.purges.least ≡ turns.old.purges.least) }
+    {
+        let observer = dialing.observer();
+        self.close_lost_log(writes, &AskObserver { observer }, observer);
+        turns.note(&work);
+        let (mut seat, failed) = self.do_work(dialing, writes, &mut turns.beats, work, seat);
+        let has_ended = self.ends_after(&mut turns.purges, writes, &mut seat, observer);
+        (seat, failed, has_ended)
+    }
+
+    /// Does one piece of work after another, until the node is to end.
+    fn answer_in_turn<L: WriteLog, O: Observer>(
+        &self,
+        requests: Requests,
+        writes: &mut OwnWrites<ClosableLog<L>>,
+        seat: ReaderSeat<S>,
+        dialing: &Dialing<'_, O>,
+    ) -> ControlEnd<S>
+        ensures exits { result.has_left ≡ true → self.now.pace.on_log_fault ≡ OnLogFault.Exit }
+        // What became of the log is what these pieces of work did, one after another.
+        ensures works { (done : List Work) × WorksInTurn L.seen S.opening S.settings self.now.beat (running_least self.now.pace.purge_removals) done
+            (record { log = writes.old.log; owed = writes.old.owed; seat = seat }) (record { log = writes.new.log; owed = writes.new.owed; seat = result.seat }) }
+    {
+        let (mut requests, mut current) = (requests, seat);
+        let mut faults: u64 = 0;
+        let mut turns = OwnTurns {
+            purges: PurgeTurns::new(self.pace.purge_removals),
+            beats: BeatTurns::new(self.rt, self.beat),
+        };
+        for _ in self.rt.forever() {
+            let beat = turns.beats.next();
+            let Some(work) = requests.next(self.rt, self.ending, self.hearing, beat) else {
+                // A thread that dials ends the node too if it finds the log lost.
+                return ControlEnd {
+                    seat: current,
+                    faults,
+                    has_left: self.ends_by_log(),
+                };
+            };
+            let (seat, failed, has_ended) = self.do_next(
+                dialing, writes, &mut turns, work, current,
+            );
+            current = seat;
+            faults = faults.saturating_add(u64::from(failed));
+            if has_ended {
+                return ControlEnd {
+                    seat: current,
+                    faults,
+                    has_left: true,
+                };
+            }
+        }
+        unreachable!()
     }
 
     /// Answers one request after another, until the node is to end. Writes wait until the peers were heard. It ends the node itself if
@@ -266,41 +344,15 @@ impl<S: RoundsTag, H: Wait + Drop, Q: Wait + Clock> NodeContext<'_, S, H, Q> {
         ensures exits { result.has_left ≡ true → self.now.pace.on_log_fault ≡ OnLogFault.Exit }
         ensures failed { writes.has_failed ≡ true → self.now.pace.on_log_fault ≡ OnLogFault.Exit → result.has_left ≡ true }
     {
-        let observer = dialing.observer();
-        let (mut requests, mut writes, mut current) = (requests, writes, seat);
-        let mut faults: u64 = 0;
-        if self.ends_with_log(&mut writes, observer) {
+        let mut writes = writes;
+        if self.ends_with_log(&mut writes, dialing.observer()) {
             return ControlEnd {
-                seat: current,
-                faults,
+                seat,
+                faults: 0,
                 has_left: true,
             };
         }
-        let mut turns = PurgeTurns::new(self.pace.purge_removals);
-        let mut beats = BeatTurns::new(self.rt, self.beat);
-        for _ in self.rt.forever() {
-            let Some(work) = requests.next(self.rt, self.ending, self.hearing, beats.next()) else {
-                // A thread that dials ends the node too if it finds the log lost.
-                return ControlEnd {
-                    seat: current,
-                    faults,
-                    has_left: self.ends_by_log(),
-                };
-            };
-            self.close_lost_log(&mut writes, &AskObserver { observer }, observer);
-            note_work(&mut turns, &work);
-            let (seat, failed) = self.do_work(dialing, &mut writes, &mut beats, work, current);
-            current = seat;
-            faults = faults.saturating_add(u64::from(failed));
-            if self.ends_after(&mut turns, &mut writes, &mut current, observer) {
-                return ControlEnd {
-                    seat: current,
-                    faults,
-                    has_left: true,
-                };
-            }
-        }
-        unreachable!()
+        self.answer_in_turn(requests, &mut writes, seat, dialing)
     }
 }
 
@@ -358,7 +410,9 @@ impl<S: RoundsTag, H: Wait + Drop, Q: Wait + Clock> NodeContext<'_, S, H, Q> {
                     uptime,
                     workers: self.directory.settings().workers(),
                     busy_workers: self.counts.busy_workers(),
-                    troubles: self.counts.troubles(uptime),
+                    troubles: self
+                        .counts
+                        .troubles(uptime, self.reported_versions.falls(self.rt)),
                     purges: self.counts.purges(),
                     audits: self.counts.audits(),
                     keys,

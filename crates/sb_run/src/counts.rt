@@ -26,7 +26,7 @@ pub(crate) struct Counts {
     last_session_fault: AtomicU64,
     /// How many frames of another version came.
     other_versions: AtomicU64,
-    /// How many connections could not be accepted, or were closed to make room for others.
+    /// How many connections were closed to make room for others or for want of memory, and how many times none could be accepted.
     turned_away: AtomicU64,
     /// How many writes were refused because there are too many keys.
     full_writes: AtomicU64,
@@ -143,7 +143,7 @@ impl Counts {
         }
     }
 
-    /// A connection could not be accepted, or was closed to make room for others.
+    /// A connection was closed to make room for others or for want of memory, or none could be accepted.
     pub(crate) fn add_turned_away(&self) {
         self.turned_away.fetch_add(1, Ordering::SeqCst);
     }
@@ -195,8 +195,8 @@ impl Counts {
         self.busy.busy()
     }
 
-    /// What the node suffered in so many milliseconds since it started.
-    pub(crate) fn troubles(&self, uptime: u64) -> Troubles {
+    /// What the node suffered in so many milliseconds since it started, with so many falls of versions.
+    pub(crate) fn troubles(&self, uptime: u64, version_falls: u64) -> Troubles {
         Troubles {
             session_faults: self.session_faults.load(Ordering::SeqCst),
             last_session_fault: self.last_session_fault.load(Ordering::SeqCst),
@@ -204,6 +204,7 @@ impl Counts {
             turned_away: self.turned_away.load(Ordering::SeqCst),
             full_writes: self.full_writes.load(Ordering::SeqCst),
             busy_times: self.busy.times_until(uptime),
+            version_falls,
         }
     }
 

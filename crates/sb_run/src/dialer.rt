@@ -5,7 +5,7 @@ ghost use Rattle.crossbeam_channel.specs.Ends.{sends_on, receives_on};
 
 use crate::audit_turns::AuditTurns;
 use crate::backlogs::{Backlogs, Lack};
-use crate::bell::Parkers;
+use crate::bell::{Bell, Parkers};
 use crate::dialing::{OwnDigests, dial_peer, digests_of_all};
 use crate::node::Pace;
 use crate::observer::Observer;
@@ -13,6 +13,7 @@ use crate::peers::{Peer, PeerState};
 use crate::pushing::{News, push_peer};
 use crate::schedule::{Cause, NewsStep, Schedule, SessionEnd};
 use crate::threads::NodeContext;
+use crate::version_falls::report_falls;
 use core::mem::replace_with;
 use crossbeam_channel::protocol::{Free, Split};
 use crossbeam_channel::{Pass, RuledReceiver, RuledSender, bounded_with};
@@ -92,17 +93,17 @@ impl SessionStart {
 
 impl<'a, O: Observer> Dialing<'a, O> {
     /// What it takes to dial these peers at this pace, with so many threads for news. The threads share the first part, and the
-    /// one that dials in turn has the second alone. `NoMemory`.
+    /// one that dials in turn has the second alone. The bell wakes them. `NoMemory`.
     pub(crate) fn new(
         alloc: Global,
         paths: &[&'a str],
         pace: &Pace,
         threads: usize,
         observer: &'a O,
-        parkers: Parkers,
-    ) -> Result<(Dialing<'a, O>, Turns<'a>), Fault>
+    ) -> Result<(Dialing<'a, O>, Turns<'a>, Bell), Fault>
         ensures { IfErr result (λ fault. fault ≡ Fault.NoMemory) }
     {
+        let (bell, parkers) = Bell::new(alloc, threads == 0)?;
         let Parkers { turns, news } = parkers;
         let schedule = Schedule::new(alloc, paths, pace.rounds, threads)?;
         let backlogs = Backlogs::new(alloc, paths.len())?;
@@ -116,7 +117,7 @@ impl<'a, O: Observer> Dialing<'a, O> {
             backlogs: Mutex::new(backlogs),
             audits: Mutex::new(audits),
         };
-        Ok((dialing, turns))
+        Ok((dialing, turns, bell))
     }
 
     /// The observer of the node.
@@ -501,7 +502,8 @@ impl<'a> Turns<'a> {
     }
 
     /// Publishes what there was no memory to publish before. It reports to the observer, once each, that peers have rows of an
-    /// owner to forget, and that another node writes under this node's name. It leaves the second out if an audit reported it.
+    /// owner to forget, and that another node writes under this node's name. It leaves the second out if an audit reported it. It
+    /// also reports the versions that fell.
     fn refresh_and_report<S: RoundsTag, H: Wait + Drop, Q: Wait, O: Observer>(
         &mut self,
         node: &NodeContext<S, H, Q>,
@@ -510,6 +512,7 @@ impl<'a> Turns<'a> {
     ) {
         let _ = node.directory.refresh(node.rt, seat);
         report_forgotten(node.forgotten, observer);
+        report_falls(node.rt, node.reported_versions, observer);
         if self.is_conflict_reported || node.counts.has_difference() {
             return;
         }

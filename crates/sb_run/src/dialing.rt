@@ -1,6 +1,7 @@
 //! One round: a session with a peer that is dialed.
 ghost use Rattle.std.specs.Prelude.{◌≡◌, ◌+◌, ◌<◌, ◌≤◌};
 ghost use Rattle.sb_directory.specs.Serving.{IsStill, IsLater};
+ghost use Rattle.sb_run.specs.Entering.{Hears};
 ghost use Rattle.sb_run.specs.Hellos.{Greets};
 
 use crate::dialer::RoundsTag;
@@ -10,7 +11,9 @@ use crate::sockets::{connect, limit};
 use crate::threads::NodeContext;
 use sb_directory::{ReaderSeat, SeatHandler};
 use sb_frames::{Connection, Steps};
-use sb_handlers::{Asker, DeferringHandler, ForgettingHandler, Gate, GatePoint, GatedHandler};
+use sb_handlers::{
+    Arrival, Asker, DeferringHandler, ForgettingHandler, Gate, GatePoint, GatedHandler,
+};
 use sb_session::{Ended, dial};
 use sb_types::{Delta, Fault, Name, OWNERS_MOST};
 use std::io;
@@ -100,6 +103,8 @@ impl<S: RoundsTag, H: Wait + Drop, Q: Wait + Clock> NodeContext<'_, S, H, Q> {
     ) -> (ReaderSeat<S>, Result<Ended, Fault>)
         requires limit { connection.old.left ≤ self.now.pace.max_reads }
         ensures later { IsLater seat result.0 }
+        // The seat makes the events of the deltas that came over the connection, in their order, and no other.
+        ensures entered { Hears self.now.forgotten.now.names.items connection.old connection.new seat result.0 }
         ensures greets { Greets S.settings.cluster S.opening.held.me connection.old.output connection.new.output }
         ensures reads { connection.new.steps ≤ connection.old.steps + self.now.pace.max_reads }
     {
@@ -107,7 +112,7 @@ impl<S: RoundsTag, H: Wait + Drop, Q: Wait + Clock> NodeContext<'_, S, H, Q> {
         let served = SeatHandler::new(self.rt, self.directory, seat);
         let deferring = DeferringHandler::new(served, self.rt, self.vain_offers, asker);
         let gate = DialedGate { node: self };
-        let gated = GatedHandler::new(deferring, &gate, 0);
+        let gated = GatedHandler::new(deferring, &gate, 0, Arrival::unknown());
         let mut handler = ForgettingHandler::new(gated, self.alloc, self.forgotten);
         let session = session_of(self.directory);
         let ended = dial(connection, session, &mut handler, exchanges);

@@ -80,7 +80,7 @@ impl<S: RoundsTag, H: Wait + Drop, Q: Wait + Clock> NodeContext<'_, S, H, Q> {
         Ok(MarkedReply { reply, mark })
     }
 
-    /// The same from a seat. `Closed` if it cannot enter; `NoMemory`.
+    /// The same from a seat. `NoMemory`, also if it cannot enter.
     fn look_from_seat(
         &self,
         keys: RandomState,
@@ -95,7 +95,7 @@ impl<S: RoundsTag, H: Wait + Drop, Q: Wait + Clock> NodeContext<'_, S, H, Q> {
                 let found = self.look(keys, &entered, ask);
                 (entered.leave(), found)
             }
-            Err(seat) => (seat, Err(Fault::Closed)),
+            Err(seat) => (seat, Err(Fault::NoMemory)),
         }
     }
 
@@ -120,7 +120,7 @@ impl<S: RoundsTag, H: Wait + Drop, Q: Wait + Clock> NodeContext<'_, S, H, Q> {
     }
 
     /// Looks from a seat. If these are the rows that were seen, it then waits until one of them changes, or until this moment. The
-    /// faults of `watch`; `Closed` if the seat cannot enter; `NoMemory`.
+    /// faults of `watch`; `NoMemory`, also if the seat cannot enter.
     fn look_and_wait(
         &self,
         keys: RandomState,
@@ -176,8 +176,7 @@ impl<S: RoundsTag, H: Wait + Drop, Q: Wait + Clock> NodeContext<'_, S, H, Q> {
     ///
     /// - `TurnsSpent` if too many wait.
     /// - The faults of `watch`.
-    /// - `Closed` if the seat cannot enter.
-    /// - `NoMemory`.
+    /// - `NoMemory`, also if the seat cannot enter.
     pub(crate) fn poll(
         &self,
         keys: RandomState,

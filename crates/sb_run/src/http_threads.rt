@@ -2,7 +2,7 @@
 ghost use Rattle.std.specs.Prelude.{◌≡◌, vec_len, IfOk, IfErr};
 ghost use Rattle.std.specs.Thread.{IsSend, IsSync};
 ghost use Rattle.sb_directory.specs.Serving.{IsLater};
-ghost use Rattle.sb_run.specs.HttpReads.{AnswersQuestion, AreOwnersAfter, AreOwnersSeen, IsListed, IsPolled, IsWriteReply};
+ghost use Rattle.sb_run.specs.HttpReads.{AnswersQuestion, AreOwnersAfter, AreOwnersSeen, IsListed, IsPolled};
 
 use crate::control::{refused_by, reply_to_ask};
 use crate::dialer::{Dialing, RoundsTag};
@@ -15,8 +15,10 @@ use core::mem::replace_with;
 use http_server::Config;
 use sb_codec::{Ages, Ask, Message};
 use sb_directory::{EnteredSeat, ReaderSeat};
-use sb_http::{Backend, Door, HeldOwner, HttpService, MarkedReply, Patience, serve_connection};
-use sb_types::{Fault, Write};
+use sb_http::{
+    Backend, Door, HeldOwner, HttpService, HttpWrite, MarkedReply, Patience, serve_connection,
+};
+use sb_types::Fault;
 use sb_views::{NodeTag, Snapshot};
 use std::alloc::Global;
 use std::hash::RandomState;
@@ -88,21 +90,7 @@ fn owners_of<S: NodeTag>(
 }
 
 impl<S: RoundsTag, H: Wait + Drop, Q: Wait + Clock> NodeContext<'_, S, H, Q> {
-    /// The answer of the calling thread to a write. `NoMemory`, before that is asked.
-    fn reply_to_write(&self, write: &Write) -> Message
-        ensures { IsWriteReply result }
-    {
-        match write.slot.copy(self.alloc) {
-            Ok(slot) => {
-                let key = write.key;
-                self.desk
-                    .put(self.rt, self.alloc, self.ending, Write { key, slot })
-            }
-            Err(_) => refused_by(Fault::NoMemory),
-        }
-    }
-
-    /// The answer to a question or to a write at the control socket; `UnknownKind` to any other message.
+    /// The answer to a question at the control socket; `UnknownKind` to any other message.
     fn reply_to_question<O: Observer>(
         &self,
         dialing: &Dialing<'_, O>,
@@ -114,12 +102,11 @@ impl<S: RoundsTag, H: Wait + Drop, Q: Wait + Clock> NodeContext<'_, S, H, Q> {
         match request {
             Message::Ask(ask) => reply_to_ask(self.alloc, self.directory.settings(), seat, ask),
             Message::AskStatus(asked) => self.reply_to_ask_status(dialing, asked, seat),
-            Message::Put(write) => (seat, self.reply_to_write(write)),
             other => (seat, refused_by(Fault::UnknownKind(other.kind()))),
         }
     }
 
-    /// The owners that a seat sees, with the ages from before it entered. `NoMemory`; `Closed` if it cannot enter.
+    /// The owners that a seat sees, with the ages from before it entered. `NoMemory`, also if it cannot enter.
     fn owners_seen(&self, seat: ReaderSeat<S>) -> (ReaderSeat<S>, Result<Vec<HeldOwner>, Fault>)
         ensures owners { IfOk result.1 (λ owners. AreOwnersSeen S.opening result.0.seen owners.items) }
         ensures later { IsLater seat result.0 }
@@ -133,7 +120,7 @@ impl<S: RoundsTag, H: Wait + Drop, Q: Wait + Clock> NodeContext<'_, S, H, Q> {
                 let owners = owners_of(self.alloc, &entered, &ages);
                 (entered.leave(), owners)
             }
-            Err(seat) => (seat, Err(Fault::Closed)),
+            Err(seat) => (seat, Err(Fault::NoMemory)),
         }
     }
 }
@@ -177,6 +164,11 @@ impl<S: RoundsTag, H: Wait + Drop, Q: Wait + Clock, O: Observer> Backend
                 ensures { AnswersQuestion S.opening S.settings seat request.entry.now result.0 result.1 }
             { node.reply_to_question(dialing, request, seat) },
         )
+    }
+
+    fn put(&mut self, asked: HttpWrite) -> Message {
+        let node = self.node;
+        node.desk.put(node.rt, node.alloc, node.ending, asked)
     }
 
     fn poll(&mut self, ask: &Ask, patience: &Patience) -> Result<MarkedReply, Fault> {

@@ -6,7 +6,8 @@ use crate::control::refused_by;
 use crate::threads::EndFlag;
 use crossbeam_channel::{Receiver, RecvTimeoutError, Sender, bounded};
 use sb_codec::Message;
-use sb_types::{Fault, Write};
+use sb_http::HttpWrite;
+use sb_types::Fault;
 use std::alloc::Global;
 use std::sync::Wait;
 use std::sync::atomic::{AtomicU64, Ordering};
@@ -150,14 +151,14 @@ impl WriteDesk {
         rt: &R,
         alloc: Global,
         ending: &EndFlag,
-        write: Write,
+        asked: HttpWrite,
     ) -> Message
         ensures { IsWriteReply result }
     {
         if !self.places.take() {
             return refused_by(Fault::TurnsSpent);
         }
-        let reply = self.put_in_place(rt, alloc, ending, write);
+        let reply = self.put_in_place(rt, alloc, ending, asked);
         self.places.leave();
         reply
     }
@@ -168,14 +169,14 @@ impl WriteDesk {
         rt: &R,
         alloc: Global,
         ending: &EndFlag,
-        write: Write,
+        asked: HttpWrite,
     ) -> Message
         ensures { IsWriteReply result }
     {
         let Ok((to, from)) = bounded::<WriteAnswer, Global>(alloc, 1) else {
             return refused_by(Fault::NoMemory);
         };
-        match self.sender.give(rt, write, AnswerSender { to }) {
+        match self.sender.give(rt, asked, AnswerSender { to }) {
             Ok(()) => await_answer(rt, ending, &from),
             Err(fault) => refused_by(fault),
         }

@@ -9,8 +9,9 @@ ghost use Rattle.sb_types.specs.Records.{Entry, Block, Settings};
 ghost use Rattle.sb_types.specs.Runs.{Stands, shown_slot};
 ghost use Rattle.sb_types.specs.Writes.{Written, Superseded, Honest};
 ghost use Rattle.sb_holdings.specs.Held.{shown_of};
-ghost use Rattle.sb_holdings.specs.Nodes.{Node, AreNodeEvents, AllTrueAt, IsNode, NodeHolds, NodeLater};
-ghost use Rattle.sb_digest.specs.Digests.{Digest, covers, held_in};
+ghost use Rattle.sb_holdings.specs.Nodes.{Node, AreNodeEvents, AllTrueAt, IsNode, NodeHolds, NodeLater, held_by};
+ghost use Rattle.sb_digest.specs.Digests.{Digest, covers, held_in, number_by, number_in, floor_by, floor_in};
+ghost use Rattle.sb_digest.specs.Pairs.{pair_of};
 ghost use Rattle.sb_session.specs.Handlers.{tells, gives};
 ghost use Rattle.sb_views.specs.declared.event.Event.{Event};
 ghost use Rattle.sb_views.specs.NodeViews.{NodeView, upto_of, row_of};
@@ -35,7 +36,10 @@ use sb_views::views_show_what_is_held;
 ///   view has under its key. For a removal the view has nothing there.
 /// - `honest`: each block of a delta that the node gives after the history is honest.
 /// - `digests`: a digest that it gives has, for each owner that it covers, how far the node holds it.
-/// - `reached`: that is no further than was written.
+/// - `starts`: it also says above which number a sender of any floor and any held version offers entries, and under which floor.
+///   That is by the held version, and by the floor and the progress of the stage, which the node has of this owner.
+/// - `reached`: what it says that is held is no further than was written.
+/// - `progress`: no number above which a sender goes on is above what was written, also in a stage.
 /// - `later`: after more events, true or not, no version is lower.
 ///
 /// That the events are true is a premise: it is what peers give whose sessions receive only what is true
@@ -56,9 +60,17 @@ pub fn running_nodes_keep_truth()
     ensures digests { (opening : Node) (settings : Settings) (history : List Event) (from : Option (List ℕ)) (want : Bool) (digest : Digest) (owner : List ℕ) →
         AnswersAfter opening settings history (tells from want (Ok digest)) → covers digest owner ≡ true →
         held_in digest owner ≡ (shown_of (node_after opening history).held owner).held }
+    ensures starts { (opening : Node) (settings : Settings) (history : List Event) (from : Option (List ℕ)) (want : Bool) (digest : Digest) (owner : List ℕ)
+        (floor upto : ℕ) → AnswersAfter opening settings history (tells from want (Ok digest)) → covers digest owner ≡ true →
+        (number_in digest owner floor upto ≡ number_by floor upto (Some (pair_of (owner, held_by (node_after opening history) owner))))
+        × (floor_in digest owner floor upto ≡ floor_by floor upto (Some (pair_of (owner, held_by (node_after opening history) owner)))) }
     ensures reached { (writes : List ℕ → List Write) (opening : Node) (settings : Settings) (history : List Event) (from : Option (List ℕ)) (want : Bool) (digest : Digest) (owner : List ℕ) →
         IsNode opening → NodeHolds writes opening → AreNodeEvents (flat_map node_events_of history) → AllTrueAt writes opening.held.me (flat_map node_events_of history) →
         AnswersAfter opening settings history (tells from want (Ok digest)) → covers digest owner ≡ true → held_in digest owner ≤ length (writes owner) }
+    ensures progress { (writes : List ℕ → List Write) (opening : Node) (settings : Settings) (history : List Event)
+        (from : Option (List ℕ)) (want : Bool) (digest : Digest) (owner : List ℕ) (floor upto : ℕ) →
+        IsNode opening → NodeHolds writes opening → AreNodeEvents (flat_map node_events_of history) → AllTrueAt writes opening.held.me (flat_map node_events_of history) →
+        AnswersAfter opening settings history (tells from want (Ok digest)) → covers digest owner ≡ true → number_in digest owner floor upto ≤ length (writes owner) }
     ensures later { (opening : Node) (history more : List Event) →
         IsNode opening → AreNodeEvents (flat_map node_events_of more) → IsPrefix history more → NodeLater (node_after opening history) (node_after opening more) }
 {
@@ -79,7 +91,10 @@ pub fn running_nodes_keep_truth()
 /// - `exact`: a write whose key was not written again, at or below the version that the view shows of its owner, is what the
 ///   view has under its key. For a removal the view has nothing there.
 /// - `honest`: each block of a delta that is given is honest.
-/// - `reached`: a digest that is given reaches no further than was written.
+/// - `digests`: a digest that is given says how far the run holds each owner that it covers. It also says above which
+///   number a sender of any floor and any held version offers entries, and under which floor. That is by the run's stage too.
+/// - `reached`: no held version in it is above what was written.
+/// - `progress`: no number above which a sender goes on is above what was written, also in a stage.
 /// - `later`: no version is lower than it was in this run.
 ///
 /// All that happens is any list, so this holds at each moment. It has these premises:
@@ -87,7 +102,8 @@ pub fn running_nodes_keep_truth()
 /// - No two nodes that live at once have one name.
 /// - No log forgets a write that was in a delta.
 /// - No other delta comes. So whoever dials or is dialed runs this program, and what is read from a socket was written to it.
-///   The workers and the dialing thread hand on just what they read.
+///
+/// Workers and the thread that dials enter just what they read, by clauses of `serve_pool` and of `talk`.
 ///
 /// The contracts of `Directory` say that what a run is handed becomes its events, and that what it gives is an answer after
 /// them.
@@ -104,10 +120,20 @@ pub fn running_nodes_tell_truth()
         row_of node_view owner e.key ≡ shown_slot e.version e.slot }
     ensures honest { (writes : List ℕ → List Write) (opening : ℕ → Node) (settings : ℕ → Settings) (all : List RunEvent) (blocks : List Block) (b : Block) →
         AreOpened writes opening → HappenInTurn writes opening settings all → CanGive opening settings all blocks → Stands blocks b → Honest (writes b.owner) b }
+    ensures digests { (opening : ℕ → Node) (settings : ℕ → Settings) (all : List RunEvent) (run : ℕ)
+        (from : Option (List ℕ)) (want : Bool) (digest : Digest) (owner : List ℕ) (floor upto : ℕ) →
+        AnswersAfter (opening run) (settings run) (history_of run all) (tells from want (Ok digest)) → covers digest owner ≡ true →
+        (held_in digest owner ≡ (shown_of (node_after (opening run) (history_of run all)).held owner).held)
+        × (number_in digest owner floor upto ≡ number_by floor upto (Some (pair_of (owner, held_by (node_after (opening run) (history_of run all)) owner))))
+        × (floor_in digest owner floor upto ≡ floor_by floor upto (Some (pair_of (owner, held_by (node_after (opening run) (history_of run all)) owner)))) }
     ensures reached { (writes : List ℕ → List Write) (opening : ℕ → Node) (settings : ℕ → Settings) (all : List RunEvent) (run : ℕ)
         (from : Option (List ℕ)) (want : Bool) (digest : Digest) (owner : List ℕ) →
         AreOpened writes opening → HappenInTurn writes opening settings all →
         AnswersAfter (opening run) (settings run) (history_of run all) (tells from want (Ok digest)) → covers digest owner ≡ true → held_in digest owner ≤ length (writes owner) }
+    ensures progress { (writes : List ℕ → List Write) (opening : ℕ → Node) (settings : ℕ → Settings) (all : List RunEvent) (run : ℕ)
+        (from : Option (List ℕ)) (want : Bool) (digest : Digest) (owner : List ℕ) (floor upto : ℕ) →
+        AreOpened writes opening → HappenInTurn writes opening settings all →
+        AnswersAfter (opening run) (settings run) (history_of run all) (tells from want (Ok digest)) → covers digest owner ≡ true → number_in digest owner floor upto ≤ length (writes owner) }
     ensures later { (writes : List ℕ → List Write) (opening : ℕ → Node) (settings : ℕ → Settings) (earlier all : List RunEvent) (run : ℕ) →
         AreOpened writes opening → HappenInTurn writes opening settings all → IsPrefix earlier all →
         NodeLater (node_after (opening run) (history_of run earlier)) (node_after (opening run) (history_of run all)) }

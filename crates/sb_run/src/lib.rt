@@ -39,10 +39,10 @@
 //! - A node does not end, or a node with endless rounds ends. Tests and `tools/check-node` refuse it.
 //! - A peer is dialed at another time, or news does not wake the threads that dial. Tests and
 //!   `tools/check-node` refuse it.
-//! - A thread that answers over HTTP gets the answer to another write, or a version that no log gave, or a fault although
-//!   the write was made. Tests and `tools/check-node` refuse it.
-//! - A request over HTTP that only reads makes a write too. Or a `PUT` or `DELETE` makes another write, or makes it twice.
-//!   No contract sees what goes to the calling thread. Tests and `tools/check-node` refuse it.
+//! - A thread that answers over HTTP gets the answer to another write, or a version that no log gave. Or it gets a fault
+//!   although the write was made. Tests and `tools/check-node` refuse it.
+//! - A thread makes up the bytes of a request, and reads them: types say that a request was read, and not from where. Tests
+//!   and `tools/check-node` refuse it.
 //! - All threads that answer over HTTP wait for writes, or fewer than may. Tests and `tools/check-node` refuse it.
 //! - A node removes a socket at which somebody listens. Tests and `tools/check-node` refuse it.
 //! - `Timed::left` does not call `time_between`, or a read or a write waits longer than it grants. Tests refuse it.
@@ -93,8 +93,10 @@
 //!   `owners_behind_the_first_digest_are_asked_for` refuses it.
 //! - A source numbers two sessions alike, or begins with another number than 1. A node's own gate ignores the
 //!   number. Nothing refuses it.
-//! - A worker of `serve_pool`, or a thread that dials, applies deltas that no peer sent, and drops those that came.
-//!   Tests refuse it. The steps of one session are proved: `serve`, `dial`, `SeatHandler`, `GatedHandler`.
+//! - A thread that dials serves a session over bytes of its own, before or after `talk`. Nothing refuses it: contracts do
+//!   not see what a socket gives. A delta has to come out of bytes (`ReceivedDelta`), so no shorter way does it. For workers
+//!   a clause of `serve_pool` refuses it.
+//! - The thread that accepts hands a worker other bytes than came first. Tests refuse it.
 //! - `serve_pool` returns all seats and serves nobody, or its sessions make fewer reads than allowed. Tests refuse
 //!   it.
 //! - Workers give a session another limit of reads, or `run_node` gives them another. `tools/check-node` refuses
@@ -114,12 +116,13 @@
 //!   it stays after it left. The tests of `sb_run` and `tools/check-node` refuse it.
 //! - An owner has a wrong age or none, also over HTTP: no clause is about when an owner was heard. The tests of `sb_run` and
 //!   `tools/check-node` refuse it.
-//! - A beat is missing, comes too often, or is another write than its key and true. The tests of `sb_run` and
-//!   `tools/check-node` refuse it.
+//! - A beat is missing, or comes too often. The tests of `sb_run` and `tools/check-node` refuse it.
 //! - The calling thread takes a request and does not answer it, or makes beats alone. The tests of `sb_run` and
 //!   `tools/check-node` refuse it.
 //! - The gate of a dialed session, or that of the node, tells nobody what was entered, heard or missed. The tests of
 //!   `sb_run` and `tools/check-node` refuse it.
+//! - The moment before a connection is a later one, or that of another. A digest is not looked at, or a fall is not reported or
+//!   counted. The tests of `sb_run` and `tools/check-node` refuse it.
 //! - A peer that dials counts as one that is not known, although its Hello has its name. `tools/check-node` refuses it.
 //! - A node answers nobody over HTTP, or each question by the number of `Closed`. `tools/check-node` refuses it.
 //! - Over HTTP the owners or the metrics are a fault each time, or the metrics are others. `tools/check-node` refuses it.
@@ -158,6 +161,7 @@ mod http_writes;
 mod laws;
 mod log_watch;
 mod node;
+mod node_setup;
 mod observer;
 mod own_writes;
 mod peers;
@@ -169,7 +173,9 @@ mod sockets;
 mod status_reply;
 mod status_texts;
 mod threads;
+mod version_falls;
 mod watchers;
+mod write_request;
 
 pub use http_socket::is_own_port;
 pub use http_threads::HTTP_WORKERS;
@@ -181,4 +187,5 @@ pub use observer::{Nobody, Observer, PushCounts, Status, Troubles};
 pub use own_writes::{OwnWrites, Stored};
 pub use peers::{DownReason, Peer, PeerState};
 pub use pool::{Pooled, Serving, Source, Taken};
-pub use sb_handlers::{ForgottenOwners, Gate, GatePoint, Open, VainOffers};
+pub use sb_handlers::{Arrival, ForgottenOwners, Gate, GatePoint, Open, VainOffers, VersionFall};
+pub use write_request::WriteRequest;

@@ -4,6 +4,7 @@ use crate::peers::{Peer, PeerState};
 use sb_codec::OwnerAge;
 use sb_control::{LogCause, LogLoss};
 use sb_directory::Difference;
+use sb_handlers::VersionFall;
 use sb_log::StoreCause;
 use sb_types::{Fault, Name};
 use sb_views::Snapshot;
@@ -87,6 +88,10 @@ pub trait Observer {
 
     /// A peer had rows of this owner, which the node forgets. It is called once for each such owner, after a round.
     fn forgotten_met(&self, _owner: &Name) {}
+
+    /// Another node reported a version of itself below one that it reported long before. So two nodes, or a log and an older copy of
+    /// it, have that name. It is called after a round, once in a minute at most for each name.
+    fn version_fell(&self, _fall: &VersionFall) {}
 
     /// Whether it wants to know how the node is.
     fn wants_status(&self) -> bool {
@@ -185,10 +190,13 @@ pub struct Troubles {
     pub last_session_fault: u64,
     /// Frames of another version that came, at either socket.
     pub other_versions: u64,
-    /// Connections at either socket that it could not accept, or that it closed to make room for others.
+    /// Connections at either socket that it closed to make room for others, or for want of memory, and times that it could accept
+    /// none. A failure that lasts counts once a minute.
     pub turned_away: u64,
     /// Writes that it refused because it has as many keys as it may.
     pub full_writes: u64,
     /// Times that all its workers were busy for longer than a second. The present time counts too.
     pub busy_times: u64,
+    /// Digests of other nodes with a version of themselves below one that they reported long before.
+    pub version_falls: u64,
 }

@@ -8,6 +8,7 @@ ghost use Rattle.sb_run.specs.OwnWriting.{IsUndisputed, version_of, count_owed, 
 ghost use Rattle.sb_log.specs.Records as records;
 ghost use Rattle.sb_run.specs.Closing as spec;
 
+use crate::write_request::WriteRequest;
 use sb_directory::{Directory, DirectoryTag, ReaderSeat, Receipt};
 use sb_log::{Committed, StoreCause, WriteLog};
 use sb_table::Table;
@@ -125,8 +126,8 @@ impl<L: WriteLog> OwnWrites<L> {
     }
 
     /// Puts a write into the log, and takes down whether that took it.
-    fn keep(&mut self, key: &Key, slot: &Slot) -> Result<Committed, Fault>
-        ensures puts { Puts (L.seen self.old.log) key.now slot.now result (L.seen self.new.log) }
+    fn keep(&mut self, asked: WriteRequest) -> Result<Committed, Fault>
+        ensures puts { Puts (L.seen self.old.log) asked.key asked.slot result (L.seen self.new.log) }
         ensures settled { IsSettled (L.seen self.new.log) (L.leaves self.new.log) }
         ensures owed { self.new.owed ≡ self.old.owed }
         ensures stored { IfOk result (λ committed. self.new.stored ≡ Some committed.entry.version) }
@@ -138,7 +139,7 @@ impl<L: WriteLog> OwnWrites<L> {
         // One that was open and is closed now has failed.
         ensures closes { (L.seen self.old.log).is_open ≡ true → (L.seen self.new.log).is_open ≡ false → self.new.has_failed ≡ true }
     {
-        let kept = self.log.put(key, slot);
+        let kept = asked.put_into(&mut self.log);
         match &kept {
             Ok(committed) => self.stored = Some(committed.entry().version()),
             Err(Fault::StoreFailed) => self.has_failed = true,
@@ -181,7 +182,7 @@ impl<L: WriteLog> OwnWrites<L> {
         Ok(())
     }
 
-    /// Puts a write into the log, under the next version, and hands it to the directory. If the directory refuses it by a
+    /// Puts a write that was asked for into the log, under the next version, and hands it to the directory. If the directory refuses it by a
     /// fault, it is owed, and is handed in before the next write.
     ///
     /// `OwnerConflict` if another node writes under the own name; the faults of the directory for what is owed.
@@ -193,16 +194,15 @@ impl<L: WriteLog> OwnWrites<L> {
         rt: &Q,
         directory: &Directory<S, H>,
         seat: &mut ReaderSeat<S>,
-        key: &Key,
-        slot: &Slot,
+        asked: WriteRequest,
     ) -> Result<Stored, Fault>
-        ensures stored { IfOk result (λ stored. IsStored S.opening (L.seen self.old.log) seat.old key.now slot.now stored
+        ensures stored { IfOk result (λ stored. IsStored S.opening (L.seen self.old.log) seat.old asked.key asked.slot stored
             (L.seen self.new.log) self.new.owed seat.new) }
         ensures version { IfOk result (λ stored. is_version (version_of stored) ≡ true) }
         ensures handed { OnOk result (IsHandedIn S.opening seat.old self.old.owed seat.new) }
         ensures count { IfOk result (λ stored. seat.new.events ≡ seat.old.events + count_owed self.old.owed + count_shared stored) }
         ensures free { IfOk result (λ _. IsUndisputed S.opening seat.old seat.new) }
-        ensures refused { IfErr result (λ fault. IsRefused L.seen S.opening self.old.log self.old.owed seat.old key.now slot.now
+        ensures refused { IfErr result (λ fault. IsRefused L.seen S.opening self.old.log self.old.owed seat.old asked.key asked.slot
             self.new.log self.new.owed seat.new fault) }
         ensures settled { IsSettled (L.seen self.old.log) (L.leaves self.old.log) → IsSettled (L.seen self.new.log) (L.leaves self.new.log) }
         ensures later { IsLater seat.old seat.new }
@@ -213,7 +213,7 @@ impl<L: WriteLog> OwnWrites<L> {
         ensures closes { (L.seen self.old.log).is_open ≡ true → (L.seen self.new.log).is_open ≡ false → self.new.has_failed ≡ true }
     {
         self.hand_in(rt, directory, seat)?;
-        let committed = self.keep(key, slot)?;
+        let committed = self.keep(asked)?;
         let version = committed.entry().version();
         match directory.take_own(rt, seat, &committed) {
             Ok(receipt) => Ok(Stored::Shared(receipt)),

@@ -5,7 +5,8 @@ ghost use Rattle.sb_handlers.specs.Gates.{IsShut, AreShut};
 ghost use Rattle.sb_run.specs.Hellos.{Greets};
 ghost use Rattle.sb_directory.specs.Serving.{IsLater};
 ghost use Rattle.sb_run.specs.Pools.{IsKept, AreKept};
-ghost use Rattle.sb_run.specs.Sources.{IsNumbered, IsQuestion};
+ghost use Rattle.sb_run.specs.Sources.{IsNumbered, IsQuestion, IsGivenBy};
+ghost use Rattle.sb_run.specs.Entering.{Hears, HearsInput, IsLooking, ServesOnly, EachServes};
 ghost use Rattle.sb_session.specs.Sessions.{new_session};
 
 use core::mem::replace_with;
@@ -13,10 +14,11 @@ use sb_codec::Ask;
 use sb_directory::{Directory, DirectoryTag, ReaderSeat, SeatHandler};
 use sb_frames::{Connection, Steps};
 use sb_handlers::{
-    Asker, DeferringHandler, ForgettingHandler, ForgottenOwners, Gate, GatedHandler, VainOffers,
+    Arrival, Asker, DeferringHandler, ForgettingHandler, ForgottenOwners, Gate, GatedHandler,
+    VainOffers,
 };
 use sb_session::{Session, serve};
-use sb_types::{Fault, Name};
+use sb_types::Fault;
 use std::alloc::Global;
 use std::io::{Read, Write};
 use std::marker::Brand;
@@ -29,16 +31,16 @@ use std::thread::Threads;
 /// What a worker takes from a source.
 #[derive(Drop)]
 pub enum Taken<I, O> {
-    /// The connection of a peer, as a reader and a writer. It has the number of its session, from 1, and the peer's name if that
-    /// is known.
-    Session(u64, Option<Name>, I, O),
+    /// The connection of a peer, as a reader and a writer. It has the number of its session, from 1, and how it came.
+    Session(u64, Arrival, I, O),
     /// The question of a caller, and the writer that gets its answer.
     Question(Ask, O),
 }
 
 /// What gives workers their connections.
 pub trait Source {
-    ghost use Rattle.sb_run.specs.Sources.{IsNumbered, IsQuestion};
+    ghost use Rattle.std.specs.Prelude.{ℕ, List, Option};
+    ghost use Rattle.sb_run.specs.Sources.{IsNumbered, IsQuestion, IsGivenBy};
 
     type In: Read + Drop + Send;
 
@@ -50,11 +52,15 @@ pub trait Source {
     /// What holds when it gives a question; it may be nothing. If it never gives one this may be false.
     ghost asks: { Self → Type 0 };
 
+    /// What holds of the bytes of each connection of a peer that it gives, if they are known; it may be nothing.
+    ghost gives: { Self → Option (List ℕ) → Type 0 };
+
     /// The next connection. `None` once there are no more; a fault if one could not be had, after which the next may be asked
     /// for.
     fn next(&self) -> Option<Result<Taken<Self::In, Self::Out>, Fault>>
         ensures numbered { IfSome result (λ next. IfOk next (λ taken. IsNumbered taken)) }
         ensures asks { IfSome result (λ next. IfOk next (λ taken. IsQuestion taken → asks self.now)) }
+        ensures gives { IfSome result (λ next. IfOk next (λ taken. IsGivenBy Self.In.remaining (gives self.now) taken)) }
         ensures over { IfNone result (over self.now) };
 }
 
@@ -82,19 +88,21 @@ impl<S: DirectoryTag, H: Wait + Drop, Q: Wait> Serving<'_, S, H, Q> {
         &self,
         gate: &G,
         number: u64,
-        name: Option<Name>,
+        arrival: Arrival,
         connection: &mut Connection<I, O, K>,
         seat: ReaderSeat<S>,
     ) -> (ReaderSeat<S>, bool)
         requires limit { connection.old.left ≤ self.now.max_reads }
         ensures kept { IsKept (IsShut (G.lets gate.now number)) seat result.0 }
+        // The seat makes the events of the deltas that came over the connection, in their order, and no other.
+        ensures entered { Hears self.now.forgotten.now.names.items connection.old connection.new seat result.0 }
         ensures greets { Greets S.settings.cluster S.opening.held.me connection.old.output connection.new.output }
         ensures reads { connection.new.steps ≤ connection.old.steps + self.now.max_reads }
     {
-        let asker = name.map(Asker::Named);
+        let asker = arrival.name.map(Asker::Named);
         let served = SeatHandler::new(self.rt, self.directory, seat);
         let deferring = DeferringHandler::new(served, self.rt, self.vain_offers, asker);
-        let gated = GatedHandler::new(deferring, gate, number);
+        let gated = GatedHandler::new(deferring, gate, number, arrival);
         let mut handler = ForgettingHandler::new(gated, self.alloc, self.forgotten);
         let session = session_of(self.directory);
         let ended = serve(connection, session, &mut handler);
@@ -109,21 +117,22 @@ impl<S: DirectoryTag, H: Wait + Drop, Q: Wait> Serving<'_, S, H, Q> {
         &self,
         gate: &G,
         tally: &Tally,
-        session: (u64, Option<Name>, I, O),
+        session: (u64, Arrival, I, O),
         seat: ReaderSeat<S>,
         blank: Blank,
     ) -> ReaderSeat<S>
         requires name { blank.name ≡ K.name }
         requires parts { blank.parts ≡ K.parts }
         requires some { 0 < blank.parts }
-        ensures { IsKept (IsShut (G.lets gate.now session.0)) seat result }
+        ensures kept { IsKept (IsShut (G.lets gate.now session.0)) seat result }
+        ensures entered { HearsInput self.now.forgotten.now.names.items (I.remaining session.2) seat result }
     {
         tally.sessions.fetch_add(1, Ordering::SeqCst);
-        let (number, name, input, output) = session;
+        let (number, arrival, input, output) = session;
         let max_reads = self.max_reads;
         let steps = Steps::<K>::new(blank);
         let mut connection = Connection::new(self.alloc, input, output, max_reads, steps);
-        let (seat, failed) = self.serve_session(gate, number, name, &mut connection, seat);
+        let (seat, failed) = self.serve_session(gate, number, arrival, &mut connection, seat);
         if failed {
             tally.faults.fetch_add(1, Ordering::SeqCst);
         }
@@ -138,7 +147,8 @@ impl<S: DirectoryTag, H: Wait + Drop, Q: Wait> Serving<'_, S, H, Q> {
         output: O,
         seat: ReaderSeat<S>,
     ) -> ReaderSeat<S>
-        ensures { IsLater seat result }
+        ensures later { IsLater seat result }
+        ensures entered { IsLooking seat result }
     {
         let mut output = output;
         let (seat, sent) = self.answer_ask(&mut output, seat, ask);
@@ -158,14 +168,16 @@ impl<S: DirectoryTag, H: Wait + Drop, Q: Wait> Serving<'_, S, H, Q> {
         seat: ReaderSeat<S>,
     ) -> ReaderSeat<S>
         requires asks { IsQuestion taken → X.asks source.now }
-        ensures { IsKept (AreShut (G.lets gate.now) × (X.asks source.now → ⊥)) seat result }
+        requires gives { IsGivenBy X.In.remaining (X.gives source.now) taken }
+        ensures kept { IsKept (AreShut (G.lets gate.now) × (X.asks source.now → ⊥)) seat result }
+        ensures entered { ServesOnly self.now.forgotten.now.names.items (X.gives source.now) seat result }
     {
         match taken {
-            Taken::Session(number, name, input, output) => {
+            Taken::Session(number, arrival, input, output) => {
                 self.serve_counted::<X::In, X::Out, G, Brand>(
                     gate,
                     tally,
-                    (number, name, input, output),
+                    (number, arrival, input, output),
                     seat,
                     Blank::new(1),
                 )
@@ -184,6 +196,7 @@ impl<S: DirectoryTag, H: Wait + Drop, Q: Wait> Serving<'_, S, H, Q> {
         seat: ReaderSeat<S>,
     ) -> (ReaderSeat<S>, ())
         ensures kept { IsKept (AreShut (G.lets gate.now) × (X.asks source.now → ⊥)) seat result.0 }
+        ensures entered { ServesOnly self.now.forgotten.now.names.items (X.gives source.now) seat result.0 }
         ensures over { X.over source.now }
     {
         let mut current = seat;
@@ -210,6 +223,7 @@ impl<S: DirectoryTag, H: Wait + Drop, Q: Wait> Serving<'_, S, H, Q> {
         seat: &mut ReaderSeat<S>,
     )
         ensures kept { IsKept (AreShut (G.lets gate.now) × (X.asks source.now → ⊥)) seat.old seat.new }
+        ensures entered { ServesOnly self.now.forgotten.now.names.items (X.gives source.now) seat.old seat.new }
         ensures over { X.over source.now }
     {
         // `self` is handed in: the prover keeps no clause of a closure that captures a struct with a lifetime.
@@ -219,6 +233,7 @@ impl<S: DirectoryTag, H: Wait + Drop, Q: Wait> Serving<'_, S, H, Q> {
             |seat, serving| -> (ReaderSeat<S>, ())
                 requires { IsSend X.In.row × IsSend X.Out.row }
                 ensures kept { IsKept (AreShut (G.lets gate.entry.now) × (X.asks source.entry.now → ⊥)) seat result.0 }
+                ensures entered { ServesOnly serving.now.forgotten.now.names.items (X.gives source.entry.now) seat result.0 }
                 ensures over { X.over source.entry.now }
             { serving.work(source, gate, tally, seat) },
         );
@@ -245,6 +260,8 @@ where
     ) -> Result<Pooled<S>, (Fault, Vec<ReaderSeat<S>>)>
         ensures ok { IsOk result }
         ensures kept { IfOk result (λ pooled. AreKept (AreShut (G.lets gate.now) × (X.asks source.now → ⊥)) seats.items pooled.seats.items) }
+        // Each event of a seat is a delta that came over a connection that the source gave, in their order.
+        ensures entered { IfOk result (λ pooled. EachServes self.now.forgotten.now.names.items (X.gives source.now) seats.items pooled.seats.items) }
         // Each worker goes on until the source has no more.
         ensures over { 0 < length seats.items → X.over source.now }
     {
@@ -270,6 +287,7 @@ where
         seats: &mut [ReaderSeat<S>],
     )
         ensures kept { AreKept (AreShut (G.lets gate.now) × (X.asks source.now → ⊥)) seats.old seats.new }
+        ensures entered { EachServes self.now.forgotten.now.names.items (X.gives source.now) seats.old seats.new }
         ensures over { 0 < length seats.old → X.over source.now }
     {
         if seats.is_empty() {
@@ -283,6 +301,7 @@ where
             &|_, seat| -> ()
                 requires { IsSend X.In.row × IsSend X.Out.row }
                 ensures kept { IsKept (AreShut (G.lets gate.entry.now) × (X.asks source.entry.now → ⊥)) seat.entry.now seat.exit.now }
+                ensures entered { ServesOnly self.entry.now.forgotten.now.names.items (X.gives source.entry.now) seat.entry.now seat.exit.now }
                 ensures over { X.over source.entry.now }
             { self.work_in_place(source, gate, tally, seat) },
         );

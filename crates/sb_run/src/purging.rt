@@ -8,7 +8,6 @@ use crate::dialer::RoundsTag;
 use crate::observer::Observer;
 use crate::own_writes::OwnWrites;
 use crate::threads::NodeContext;
-use sb_codec::Message;
 use sb_directory::ReaderSeat;
 use sb_log::WriteLog;
 use sb_types::KEYS_MOST;
@@ -37,11 +36,11 @@ impl PurgeTurns {
         PurgeTurns { least, writes: 0 }
     }
 
-    /// A request came, be it to write.
-    pub(crate) fn note(&mut self, request: &Message)
+    /// A request came, which may ask for a write.
+    pub(crate) fn note(&mut self, is_put: bool)
         ensures least { self.new.least ≡ self.old.least }
     {
-        if matches!(request, Message::Put(_)) {
+        if is_put {
             self.writes = self.writes.saturating_add(1);
         }
     }

@@ -8,7 +8,7 @@ ghost use Rattle.sb_directory.specs.Serving.{IsStill, IsLater};
 ghost use Rattle.sb_run.specs.Control.{IsAgesReply};
 ghost use Rattle.sb_run.specs.Facts.{figures_of};
 ghost use Rattle.sb_run.specs.StatusReplies as spec;
-ghost use Rattle.sb_run.specs.StatusReplies.{identity_of, IsCounted, IsShownUpTo, IsStatusFault, IsStatusReply};
+ghost use Rattle.sb_run.specs.StatusReplies.{identity_of, IsCounted, IsShownUpTo, IsStatusReply};
 
 use crate::control::refused_by;
 use crate::control_socket::owners_at_zero;
@@ -114,12 +114,12 @@ impl<S: RoundsTag, H: Wait + Drop, Q: Wait + Clock> NodeContext<'_, S, H, Q> {
         })
     }
 
-    /// What the node says of what it holds. `NoMemory`; `Closed` if the seat cannot enter.
+    /// What the node says of what it holds. `NoMemory`, also if the seat cannot enter.
     fn count_held(&self, seat: ReaderSeat<S>) -> (ReaderSeat<S>, Result<HeldCounts, Fault>)
         ensures conflict { IfOk result.1 (λ held. held.conflict ≡ (node_after S.opening result.0.last_call).conflict) }
         ensures keys { IfOk result.1 (λ held. IsCounted S.opening result.0.last_call held.keys) }
         ensures version { IfOk result.1 (λ held. IsShownUpTo S.opening result.0.seen held.version) }
-        ensures fault { IfErr result.1 IsStatusFault }
+        ensures memory { IfErr result.1 (λ fault. fault ≡ Fault.NoMemory) }
         ensures later { IsLater seat result.0 }
     {
         let mut seat = seat;
@@ -132,7 +132,7 @@ impl<S: RoundsTag, H: Wait + Drop, Q: Wait + Clock> NodeContext<'_, S, H, Q> {
                 let held = held_counts(&counts, &entered.snapshot(), self.directory.name());
                 (entered.leave(), Ok(held))
             }
-            Err(seat) => (seat, Err(Fault::Closed)),
+            Err(seat) => (seat, Err(Fault::NoMemory)),
         }
     }
 
@@ -156,7 +156,9 @@ impl<S: RoundsTag, H: Wait + Drop, Q: Wait + Clock> NodeContext<'_, S, H, Q> {
             sessions: self.counts.sessions(),
             workers: self.directory.settings().workers(),
             workers_busy: self.counts.busy_workers(),
-            troubles: self.counts.troubles(uptime),
+            troubles: self
+                .counts
+                .troubles(uptime, self.reported_versions.falls(self.rt)),
         }
     }
 

@@ -168,6 +168,7 @@ fn a_node_counts_what_it_suffers(rt: HostRuntime) {
         turned_away: 0,
         full_writes,
         busy_times: 0,
+        version_falls: 0,
     };
     same(&rt, &reported, &Some((wanted, true, [false, false, false])));
 }

@@ -3,9 +3,10 @@ ghost use Rattle.std.specs.Prelude.{◌≡◌};
 
 use crate::making::{key, name, new_node};
 use crate::{got, same};
+use sb_digest::Digest;
 use sb_directory::{Directory, DirectoryTag, ReaderSeat};
 use sb_node::NodeCore;
-use sb_run::{ForgottenOwners, Open, Serving, Source, Taken, VainOffers};
+use sb_run::{Arrival, ForgottenOwners, Gate, GatePoint, Serving, Source, Taken, VainOffers};
 use sb_testing::delta_of_write;
 use sb_types::{Entry, Fault, Name, Slot, Value};
 use sb_views::NewHistory;
@@ -69,6 +70,8 @@ impl<'a, R: Wait + Sync> Source for Askers<'a, R> {
 
     ghost asks = { λ askers. ⊥ };
 
+    ghost gives = { λ askers input. Unit {0} };
+
     fn next(&self) -> Option<Result<Taken<&'static [u8], Ear<'a, R>>, Fault>> {
         let place = self.asked.fetch_add(1, Ordering::SeqCst);
         let name = *self.names.get(place)?;
@@ -76,7 +79,11 @@ impl<'a, R: Wait + Sync> Source for Askers<'a, R> {
             rt: self.rt,
             heard: self.heard,
         };
-        Some(Ok(Taken::Session(1, Name::read(&[name]).ok(), ASKING, ear)))
+        let arrival = Arrival {
+            name: Name::read(&[name]).ok(),
+            since: None,
+        };
+        Some(Ok(Taken::Session(1, arrival, ASKING, ear)))
     }
 }
 
@@ -92,7 +99,29 @@ fn node_with_texts(rt: &impl Abort, alloc: Global) -> NodeCore {
     core
 }
 
-/// Serves these peers in turn.
+/// A gate that turns nobody away, and counts the digests of peers whose names are known.
+#[derive(Drop)]
+struct Counting {
+    digests: AtomicUsize,
+}
+
+impl Gate for Counting {
+    ghost lets = { λ gate session point. Unit {0} };
+
+    ghost turns_away = { λ gate session point. ⊥ };
+
+    fn pass(&self, _session: u64, _point: GatePoint) -> bool {
+        true
+    }
+
+    fn digest_came(&self, arrival: &Arrival, _theirs: &Digest) {
+        if arrival.name.is_some() {
+            self.digests.fetch_add(1, Ordering::SeqCst);
+        }
+    }
+}
+
+/// Serves these peers in turn. Their gate hears of the digest of each whose name is known.
 fn serve_all<S: DirectoryTag + Send + Sync, R: Threads + Wait + Abort + Send + Sync>(
     rt: &R,
     alloc: Global,
@@ -109,11 +138,16 @@ fn serve_all<S: DirectoryTag + Send + Sync, R: Threads + Wait + Abort + Send + S
         vain_offers: &vain_offers,
         max_reads: 99,
     };
-    let pooled = match serving.serve_pool(seats, askers, &Open) {
+    let gate = Counting {
+        digests: AtomicUsize::new(0),
+    };
+    let pooled = match serving.serve_pool(seats, askers, &gate) {
         Ok(pooled) => pooled,
         Err((fault, _)) => panic!(rt; "error: {fault:?}"),
     };
     same(rt, &pooled.faults, &0);
+    let known = askers.names.iter().filter(|name| **name != b' ').count();
+    same(rt, &gate.digests.load(Ordering::SeqCst), &known);
 }
 
 fn serve_from<S: DirectoryTag + Send + Sync, R: Threads + Wait + Abort + Send + Sync>(

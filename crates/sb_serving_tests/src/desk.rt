@@ -3,12 +3,15 @@ ghost use Rattle.std.specs.Prelude.{◌≡◌, ◌<◌};
 
 use crate::making::{key, name, new_log, new_node, weight};
 use crate::{got, there};
+use sb_codec::Message;
+use sb_control::read_piece;
 use sb_directory::{Directory, DirectoryTag, EnteredSeat, ReaderSeat};
-use sb_frames::{Connection, Steps};
+use sb_frames::{Connection, Frames, Steps, frame_of};
 use sb_log::PlainLog;
 use sb_node::NodeCore;
-use sb_run::{ForgottenOwners, OwnWrites, Serving, Stored, VainOffers};
-use sb_types::{Delta, Fault, Slot};
+use sb_run::{ForgottenOwners, OwnWrites, Serving, Stored, VainOffers, WriteRequest};
+use sb_session::ReceivedDelta;
+use sb_types::{Fault, Slot, Write};
 use sb_views::NewHistory;
 use std::alloc::Global;
 use std::io;
@@ -20,6 +23,7 @@ use std::sync::ledger::{Blank, Ledger};
 /// A directory, its seat, which is away while it enters or serves, and an owner with a new log.
 #[derive(Drop)]
 pub(crate) struct Desk<S: DirectoryTag, H: Wait + Drop> {
+    alloc: Global,
     directory: Directory<S, H>,
     seat: Option<ReaderSeat<S>>,
     owner: OwnWrites<PlainLog>,
@@ -54,6 +58,7 @@ fn play_at<P: Play, S: DirectoryTag, R: Wait + Abort>(
     let made = Directory::<S, &R>::make(rt, alloc, new_history, blank, core, 1);
     let (directory, mut seats) = got(rt, made);
     let mut desk = Desk {
+        alloc,
         directory,
         seat: seats.pop(),
         owner: OwnWrites::new(new_log(rt, alloc, b"a")),
@@ -65,16 +70,15 @@ impl<S: DirectoryTag, H: Wait + Drop> Desk<S, H> {
     /// Puts the weight 5 under a key.
     pub(crate) fn put<Q: Wait + Abort>(&mut self, rt: &Q, text: &[u8]) -> Result<Stored, Fault> {
         let seat = there(rt, self.seat.as_mut());
-        let (key, slot) = (key(rt, text), weight(rt, 5));
-        self.owner.put(rt, &self.directory, seat, &key, &slot)
+        let asked = asked_of(rt, self.alloc, text, weight(rt, 5));
+        self.owner.put(rt, &self.directory, seat, asked)
     }
 
     /// Removes a key.
     pub(crate) fn remove<Q: Wait + Abort>(&mut self, rt: &Q, text: &[u8]) -> Result<Stored, Fault> {
         let seat = there(rt, self.seat.as_mut());
-        let key = key(rt, text);
-        self.owner
-            .put(rt, &self.directory, seat, &key, &Slot::Removed)
+        let asked = asked_of(rt, self.alloc, text, Slot::Removed);
+        self.owner.put(rt, &self.directory, seat, asked)
     }
 
     /// Purges if there are so many removed keys. Returns the new floor if there were, and how many keys there are then.
@@ -89,7 +93,7 @@ impl<S: DirectoryTag, H: Wait + Drop> Desk<S, H> {
     }
 
     /// Makes the directory take a delta.
-    pub(crate) fn apply<Q: Wait + Abort>(&mut self, rt: &Q, delta: &Delta) {
+    pub(crate) fn apply<Q: Wait + Abort>(&mut self, rt: &Q, delta: &ReceivedDelta) {
         let seat = there(rt, self.seat.as_mut());
         got(rt, self.directory.apply(rt, seat, delta));
     }
@@ -146,6 +150,28 @@ impl<S: DirectoryTag, H: Wait + Drop> Desk<S, H> {
         );
         self.seat = Some(seat);
         ended
+    }
+}
+
+/// What a caller asks for that wants this under a key.
+fn asked_of<Q: Abort>(rt: &Q, alloc: Global, text: &[u8], slot: Slot) -> WriteRequest {
+    let key = key(rt, text);
+    let frame = got(rt, frame_of(alloc, &Message::Put(Write { key, slot })));
+    read_from::<Q, Brand>(rt, alloc, &frame, Blank::new(1))
+}
+
+/// The write for which the request in these bytes asks.
+fn read_from<Q: Abort, K: Ledger>(rt: &Q, alloc: Global, bytes: &[u8], blank: Blank) -> WriteRequest
+    requires name { blank.name ≡ K.name }
+    requires parts { blank.parts ≡ K.parts }
+    requires some { 0 < blank.parts }
+{
+    let mut reader = bytes;
+    let (mut frames, mut left, mut steps) = (Frames::new(alloc), 1, Steps::<K>::new(blank));
+    let piece = read_piece(&mut reader, &mut frames, &mut left, &mut steps);
+    match WriteRequest::of_caller(there(rt, got(rt, piece))) {
+        Ok(asked) => asked,
+        Err(_) => panic!(rt; "error: it asks for no write"),
     }
 }
 

@@ -13,6 +13,8 @@ mod desk;
 #[cfg(test)]
 mod failing;
 #[cfg(test)]
+mod falling;
+#[cfg(test)]
 mod making;
 #[cfg(test)]
 mod owing;

@@ -1,11 +1,13 @@
 //! Names, writes, logs and nodes for the tests.
-use crate::got;
+use crate::{got, there};
 use sb_codec::Message;
+use sb_frames::{Frames, frame_of};
 use sb_log::PlainLog;
 use sb_node::NodeCore;
+use sb_session::{ReceivedDelta, ReceivedMessage};
 use sb_table::Table;
 use sb_testing::SETTINGS;
-use sb_types::{Key, Name, RawSettings, Settings, Slot, Value, Write};
+use sb_types::{Delta, Key, Name, RawSettings, Settings, Slot, Value, Write};
 use std::alloc::Global;
 use std::process::Abort;
 
@@ -43,4 +45,13 @@ pub(crate) fn put_of_w(rt: &impl Abort) -> Message {
         key: key(rt, b"w"),
         slot: weight(rt, 5),
     })
+}
+
+/// A delta as the node takes it that a peer sent it to.
+pub(crate) fn received(rt: &impl Abort, alloc: Global, delta: Delta) -> ReceivedDelta {
+    let frame = got(rt, frame_of(alloc, &Message::Delta(delta)));
+    let mut frames = Frames::new(alloc);
+    got(rt, frames.feed(&frame));
+    let message = there(rt, got(rt, ReceivedMessage::taken_from(&mut frames)));
+    there(rt, message.into_delta())
 }

@@ -1,7 +1,7 @@
 //! An owner and a control socket with a directory: what is kept, what is shared, and what is answered.
 use crate::asking::ROWS;
 use crate::desk::{Desk, Play, play_at_new};
-use crate::making::{key, name, weight};
+use crate::making::{key, name, received, weight};
 use crate::{got, same};
 use sb_directory::DirectoryTag;
 use sb_run::Stored;
@@ -56,7 +56,7 @@ struct MeetAnother;
 impl Play for MeetAnother {
     fn play<S: DirectoryTag, R: Wait + Abort>(rt: &R, alloc: Global, desk: &mut Desk<S, &R>) {
         let stored = got(rt, desk.put(rt, b"x"));
-        desk.apply(rt, &delta_of_a(rt, alloc));
+        desk.apply(rt, &received(rt, alloc, delta_of_a(rt, alloc)));
         let refused = desk.put(rt, b"x");
         let is_shared = matches!(stored, Stored::Shared(_));
         let met = (is_shared, stored.version(), refused);

@@ -5,7 +5,9 @@ use crate::making::new_node;
 use crate::{got, same};
 use sb_directory::{Directory, DirectoryTag, ReaderSeat};
 use sb_node::NodeCore;
-use sb_run::{ForgottenOwners, Gate, GatePoint, Pooled, Serving, Source, Taken, VainOffers};
+use sb_run::{
+    Arrival, ForgottenOwners, Gate, GatePoint, Pooled, Serving, Source, Taken, VainOffers,
+};
 use sb_types::Fault;
 use sb_views::NewHistory;
 use std::alloc::Global;
@@ -48,6 +50,8 @@ impl Source for Peers {
 
     ghost asks = { λ peers. ⊥ };
 
+    ghost gives = { λ peers input. Unit {0} };
+
     fn next(&self) -> Option<Result<Taken<&'static [u8], Vec<u8>>, Fault>> {
         let writer = Vec::new(self.alloc);
         let asked = self.asked.fetch_add(1, Ordering::SeqCst);
@@ -55,8 +59,8 @@ impl Source for Peers {
             return Some(Err(Fault::ReadFailed));
         }
         match asked - self.lost {
-            0 => Some(Ok(Taken::Session(1, None, TELLING, writer))),
-            1 => Some(Ok(Taken::Session(2, None, ASKING, writer))),
+            0 => Some(Ok(Taken::Session(1, Arrival::unknown(), TELLING, writer))),
+            1 => Some(Ok(Taken::Session(2, Arrival::unknown(), ASKING, writer))),
             _ => None,
         }
     }

@@ -1,4 +1,5 @@
 pub mod Handlers
+pub mod Received
 pub mod Sessions
 pub mod Taking
 pub mod Telling

@@ -1,6 +1,7 @@
 ghost use Rattle.std.specs.Prelude.{◌≡◌, false, IfErr};
 ghost use Rattle.sb_session.specs.Handlers.{Act, tells, gives, applies, may_enter, IsRefusal};
 
+use crate::received::ReceivedDelta;
 use sb_digest::Digest;
 use sb_holdings::Report;
 use sb_types::{Delta, Fault, Name};
@@ -28,8 +29,8 @@ pub trait Handler {
         ensures step { step self.old (gives theirs.now result) self.new }
         ensures fault { IfErr result IsRefusal };
 
-    /// Takes a delta, and says how each of its blocks ended.
-    fn apply(&mut self, delta: &Delta) -> Result<Report, Fault>
+    /// Takes a delta that a peer sent, and says how each of its blocks ended.
+    fn apply(&mut self, delta: &ReceivedDelta) -> Result<Report, Fault>
         ensures step { step self.old (applies delta.now result) self.new }
         ensures fault { IfErr result IsRefusal };
 

@@ -4,13 +4,16 @@
 //! one. `dial` and `serve` run a whole session over a `Connection`. They ask a `Handler` for what a node holds, and `sb_node`
 //! implements that trait. `push` sends a delta that the peer did not ask for, and asks no handler.
 //!
+//! A handler takes a `ReceivedDelta` alone. It comes of a `ReceivedMessage`, which only bytes give.
+//!
 //! ```rust
-//! /// Whether the node `a` is greeted by the Hello of `b`, a node of the same cluster.
-//! fn greet<H: Handler>(handler: &mut H) -> Result<bool, Fault> {
-//!     let cluster = Name::read(b"c1")?;
-//!     let mut session = Session::new(cluster, Name::read(b"a")?);
-//!     let peer = Session::new(cluster, Name::read(b"b")?);
-//!     let replies = session.take(peer.hello(), handler)?;
+//! /// Whether the node `a` is greeted by the Hello that came in these frames.
+//! fn greet<H: Handler>(handler: &mut H, frames: &mut Frames) -> Result<bool, Fault> {
+//!     let mut session = Session::new(Name::read(b"c1")?, Name::read(b"a")?);
+//!     let Some(message) = ReceivedMessage::taken_from(frames)? else {
+//!         return Ok(false);
+//!     };
+//!     let replies = session.take(message, handler)?;
 //!     Ok(matches!(replies, Replies::Greeted))
 //! }
 //! ```
@@ -29,12 +32,14 @@
 
 mod handler;
 mod pushing;
+mod received;
 mod replies;
 mod session;
 mod talk;
 
 pub use handler::Handler;
 pub use pushing::{PushEnd, push};
+pub use received::{ReceivedDelta, ReceivedMessage};
 pub use replies::Replies;
 pub use session::{Phase, Session};
 pub use talk::{Ended, dial, serve};

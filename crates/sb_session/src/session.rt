@@ -5,6 +5,7 @@ ghost use Rattle.sb_session.specs.Taking.{is_session_fault, Takes, Asks, Greets,
 ghost use Rattle.sb_session.specs.Pushes.{first_refusal, TakesFirst};
 
 use crate::handler::Handler;
+use crate::received::{ReceivedDelta, ReceivedMessage};
 use crate::replies::Replies;
 use sb_codec::{Hello, Message};
 use sb_digest::Digest;
@@ -84,7 +85,7 @@ impl Session {
         Ok(Message::Digest(digest))
     }
 
-    /// Takes a message. Its faults, in their order:
+    /// Takes a message of the peer. Its faults, in their order:
     ///
     /// - `Closed`.
     /// - `UnknownKind` of the kinds 10 to 1a hex, which have no place here.
@@ -94,13 +95,17 @@ impl Session {
     /// - `TurnsSpent` and `NoMemory` of the handler, with the session unchanged and nothing entered. The message is lost.
     ///
     /// After each of them but the handler's the session is closed.
-    pub fn take<H: Handler>(&mut self, message: Message, handler: &mut H) -> Result<Replies, Fault>
+    pub fn take<H: Handler>(
+        &mut self,
+        message: ReceivedMessage,
+        handler: &mut H,
+    ) -> Result<Replies, Fault>
         ensures takes { Takes H.step self.old handler.old message result self.new handler.new }
         ensures fault { IfErr result (λ fault. is_session_fault fault ≡ true) }
         ensures stays { OnErr result (H.stays handler.old handler.new) }
         ensures grows { H.grows handler.old handler.new }
     {
-        match (self.phase, message) {
+        match (self.phase, message.into_message()) {
             (Phase::Closed, _) => Err(Fault::Closed),
             (_, Message::Ask(_)) => self.refuse(Fault::UnknownKind(KIND_ASK)),
             (_, Message::Rows(_)) => self.refuse(Fault::UnknownKind(KIND_ROWS)),
@@ -117,7 +122,10 @@ impl Session {
             (Phase::Waiting, _) => self.refuse(Fault::NoHello),
             (Phase::Greeted, Message::Hello(_)) => self.refuse(Fault::SecondHello),
             (Phase::Greeted, Message::Digest(theirs)) => self.answer(&theirs, handler),
-            (Phase::Greeted, Message::Delta(delta)) => Ok(Replies::Applied(handler.apply(&delta)?)),
+            (Phase::Greeted, Message::Delta(delta)) => {
+                let delta = ReceivedDelta::new(delta);
+                Ok(Replies::Applied(handler.apply(&delta)?))
+            }
             (Phase::Greeted, Message::Bye(bye)) => {
                 self.phase = Phase::Closed;
                 Ok(Replies::Ended(bye))

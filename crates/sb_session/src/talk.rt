@@ -9,6 +9,7 @@ ghost use Rattle.sb_session.specs.Taking.{messages_of, bye_of};
 ghost use Rattle.sb_session.specs.Talks.{party_of, ends_round, rounds_after, Hearing, Speaking, Talks};
 
 use crate::handler::Handler;
+use crate::received::ReceivedMessage;
 use crate::replies::Replies;
 use crate::session::Session;
 use sb_codec::{Bye, Message};
@@ -76,7 +77,7 @@ fn hear<R: Read, W: Write, L: Ledger, H: Handler>(
     connection: &mut Connection<R, W, L>,
     session: &mut Session,
     handler: &mut H,
-    message: Message,
+    message: ReceivedMessage,
 ) -> Result<Option<u8>, Fault>
     requires goes_on { has_failed connection.old.last_write ≡ false }
     ensures hears { Hearing H.step message session.old handler.old session.new handler.new connection.old.output connection.new.output result }
@@ -118,10 +119,10 @@ fn speak<R: Read, W: Write, L: Ledger, H: Handler>(
 }
 
 /// Whether the message ends a round: a digest that wants none in answer.
-fn ends_round(message: &Message) -> bool
+fn ends_round(message: &ReceivedMessage) -> bool
     ensures { result ≡ ends_round message.now }
 {
-    matches!(message, Message::Digest(theirs) if !theirs.want())
+    matches!(message.message(), Message::Digest(theirs) if !theirs.want())
 }
 
 /// The rounds that are left after a message.
@@ -157,7 +158,7 @@ fn talk<R: Read, W: Write, L: Ledger, H: Handler>(
     if speak(connection, &mut session, handler, rounds)? {
         return Ok(Ended::RoundsDone);
     }
-    while let Some(message) = connection.receive()? {
+    while let Some(message) = ReceivedMessage::read_from(connection)? {
         let ends = ends_round(&message);
         if let Some(reason) = hear(connection, &mut session, handler, message)? {
             return Ok(Ended::Bye(reason));

@@ -3,7 +3,8 @@ use crate::session::Node;
 use crate::{got, same};
 use sb_codec::{Bye, Message};
 use sb_frames::{Frames, frame_of};
-use sb_session::{Handler, Replies, Session};
+use sb_session::{Handler, ReceivedMessage, Replies, Session};
+use sb_testing::wire::HELLO_B;
 use sb_types::{Fault, Name, REASON_ROUNDS_DONE};
 use std::alloc::Global;
 
@@ -31,17 +32,20 @@ fn example_of_sb_frames(rt: HostRuntime) {
     same(&rt, &have_come, &[false, true]);
 }
 
-/// Whether the node `a` is greeted by the Hello of `b`, a node of the same cluster.
-fn greet<H: Handler>(handler: &mut H) -> Result<bool, Fault> {
-    let cluster = Name::read(b"c1")?;
-    let mut session = Session::new(cluster, Name::read(b"a")?);
-    let peer = Session::new(cluster, Name::read(b"b")?);
-    let replies = session.take(peer.hello(), handler)?;
+/// Whether the node `a` is greeted by the Hello that came in these frames.
+fn greet<H: Handler>(handler: &mut H, frames: &mut Frames) -> Result<bool, Fault> {
+    let mut session = Session::new(Name::read(b"c1")?, Name::read(b"a")?);
+    let Some(message) = ReceivedMessage::taken_from(frames)? else {
+        return Ok(false);
+    };
+    let replies = session.take(message, handler)?;
     Ok(matches!(replies, Replies::Greeted))
 }
 
 #[test]
 fn example_of_sb_session(rt: HostRuntime) {
     let mut node = Node::new(&rt, rt.alloc(), b"a", false);
-    same(&rt, &got(&rt, greet(&mut node)), &true);
+    let mut frames = Frames::new(rt.alloc());
+    got(&rt, frames.feed(HELLO_B));
+    same(&rt, &got(&rt, greet(&mut node, &mut frames)), &true);
 }

@@ -55,7 +55,7 @@ type Outcome = (Reported, bool, usize);
 
 /// The delta of the first write of a.
 fn delta_of_a(rt: &impl Abort, alloc: Global) -> Delta {
-    match read(rt, alloc, &DELTA_A) {
+    match read(rt, alloc, &DELTA_A).into_message() {
         Message::Delta(delta) => delta,
         _ => got(rt, Err(Fault::NoHello)),
     }
@@ -276,8 +276,11 @@ fn a_push_is_taken(rt: HostRuntime) {
 /// Takes the first message in a session of a in the cluster c1, and then another.
 fn take_two(rt: &impl Abort, alloc: Global, first: &[u8], second: &[u8]) -> [Result<(), Fault>; 2] {
     let mut session = Session::new(name(rt, b"c1"), name(rt, b"a"));
-    let answer = session.take_first(&read(rt, alloc, first));
-    [answer, session.take_first(&read(rt, alloc, second))]
+    let answer = session.take_first(read(rt, alloc, first).message());
+    [
+        answer,
+        session.take_first(read(rt, alloc, second).message()),
+    ]
 }
 
 #[test]

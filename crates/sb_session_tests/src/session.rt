@@ -7,7 +7,7 @@ use sb_codec::Message;
 use sb_digest::{Digest, build};
 use sb_frames::{Frames, frame_of};
 use sb_holdings::{BlockEnd, Holdings, Report};
-use sb_session::{Handler, Replies, Session};
+use sb_session::{Handler, ReceivedDelta, ReceivedMessage, Replies, Session};
 use sb_table::Table;
 use sb_testing::wire::{
     AGES, ASK, ASK_AGES, ASK_CHANGE, ASK_STATUS, BYE, DELTA_B, DELTA_NONE, DIGEST_A, DIGEST_B,
@@ -125,9 +125,9 @@ impl Handler for Node {
         granted(self.lacking(theirs))
     }
 
-    fn apply(&mut self, delta: &Delta) -> Result<Report, Fault> {
+    fn apply(&mut self, delta: &ReceivedDelta) -> Result<Report, Fault> {
         self.grant()?;
-        granted(self.take_up(delta))
+        granted(self.take_up(delta.delta()))
     }
 
     ghost enters_nothing = { λ old new act e s. tt };
@@ -143,11 +143,11 @@ impl Handler for Node {
     ghost grows_on = { λ old mid new a b. tt };
 }
 
-/// The message of a frame.
-pub(crate) fn read(rt: &impl Abort, alloc: Global, frame: &[u8]) -> Message {
+/// The message of a frame, as it comes.
+pub(crate) fn read(rt: &impl Abort, alloc: Global, frame: &[u8]) -> ReceivedMessage {
     let mut frames = Frames::new(alloc);
     got(rt, frames.feed(frame));
-    match got(rt, frames.next()) {
+    match got(rt, ReceivedMessage::taken_from(&mut frames)) {
         Some(message) => message,
         None => got(rt, Err(Fault::Truncated)),
     }

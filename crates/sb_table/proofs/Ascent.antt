@@ -1,5 +1,5 @@
 -- What ascending versions say of places, filters and a push.
-use Rattle.std.proofs.Common.{◌≡◌, ℕ, ◌<◌, ◌≤◌, Bool, true, false, List, [], ◌∷◌, ◌++◌, length, get_or, drop, filter, leb, refl, zero, suc, arith}
+use Rattle.std.proofs.Common.{◌≡◌, ℕ, ◌+◌, ◌-◌, ◌<◌, ◌≤◌, Bool, true, false, List, [], ◌∷◌, ◌++◌, length, get_or, drop, filter, leb, refl, zero, suc, arith}
 use Rattle.std.proofs.lemmas.Bool.Decides.{nat_tests}
 use Rattle.std.specs.List.{AllWithin}
 use Rattle.std.specs.List.Sorted.{IsNonDecreasingBy}
@@ -33,6 +33,32 @@ versions_rise last (x ∷ xs) up zero zero d le lt = omega arith
 versions_rise last (x ∷ xs) up zero (suc j) d le lt = grind (arith, nat_tests, above_last x.version xs)
 versions_rise last (x ∷ xs) up (suc i) zero d le lt = absurd (omega arith)
 versions_rise last (x ∷ xs) up (suc i) (suc j) d le lt = grind (arith, nat_tests, versions_rise x.version xs)
+
+room_behind : (last : ℕ) (es : List Entry) → are_ascending last es ≡ true → last + length es ≤ last_version last es
+room_behind last [] up = omega arith
+room_behind last (x ∷ xs) up = grind (arith, nat_tests, room_behind x.version xs)
+
+-- after an entry there are at most as many entries as versions from its own to the last
+behind : (last : ℕ) (es : List Entry) → are_ascending last es ≡ true → (j : ℕ) (d : Entry) → j < length es → (get_or es j d).version + length es ≤ last_version last es + suc j
+behind last [] up j d lt = absurd (omega arith)
+behind last (x ∷ xs) up zero d lt = grind (arith, nat_tests, room_behind x.version xs)
+behind last (x ∷ xs) up (suc j) d lt = grind (arith, nat_tests, behind x.version xs)
+
+pub upto_least : (v i : ℕ) (es : List Entry) → are_ascending 0 es ≡ true → i ≤ length es - (last_version 0 es - v) → AllWithin (λ e. leb e.version v ≡ true) es 0 i
+upto_least v i es up room k d le lt =
+    let l = behind 0 es up k d (omega (arith, room)) in
+    grind (arith, nat_tests)
+
+pub from_above : (v i : ℕ) (es : List Entry) → are_ascending 0 es ≡ true → ((d : Entry) → i < length es → v < (get_or es i d).version) → AllWithin (λ e. leb e.version v ≡ false) es i (length es)
+from_above v i es up first k d le lt =
+    let l = first d (omega arith) in
+    let r = versions_rise 0 es up i k d le lt in
+    grind (arith, nat_tests)
+
+pub same_entry : (es : List Entry) (i : ℕ) (d e : Entry) → i < length es → get_or es i d ≡ get_or es i e
+same_entry [] i d e lt = absurd (omega (arith, lt))
+same_entry (x ∷ xs) zero d e lt = refl
+same_entry (x ∷ xs) (suc i) d e lt = same_entry xs i d e (omega (arith, lt))
 
 -- where a place parts the versions up to v from those above it
 pub drop_at_place : (v i : ℕ) (es : List Entry) → AllWithin (λ e. leb e.version v ≡ true) es 0 i → AllWithin (λ e. leb e.version v ≡ false) es i (length es) → drop i es ≡ newer_entries v es

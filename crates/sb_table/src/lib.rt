@@ -31,7 +31,6 @@
 //!
 //! # What no contract refuses
 //!
-//! - `Table::restored` reports `NoMemory` for a list that cannot be a table. Tests refuse it.
 //! - `push`, `copy`, `restored`, `swapped`, `SharedEntry::new` or `share` reports `NoMemory` without need. So do `copy`,
 //!   `restored` and `swapped` if there are no entries to keep, and a swap that leaves nothing then fails. Tests run each
 //!   call with ample memory, and once with 4,096 keys. They compare exact answers.

@@ -1,6 +1,6 @@
 //! At which places of a list of shared entries a key, a version or a prefix is.
 
-ghost use Rattle.std.specs.Prelude.{◌≡◌, ◌≤◌, nat_lt, true, false, length, take, drop};
+ghost use Rattle.std.specs.Prelude.{◌≡◌, ◌≤◌, nat_le, nat_lt, true, false, length, take, drop};
 ghost use Rattle.std.specs.List.{AllWithin};
 ghost use Rattle.std.specs.List.Sorted.{IsBinarySearchResult, IsSearchInRange};
 ghost use Rattle.std.specs.Ordering.{nat_cmp};
@@ -22,13 +22,29 @@ pub fn place_of(keys: &[SharedEntry], key: &Key) -> Result<usize, usize>
     keys.binary_search_by(|shared| shared.entry().key().cmp(key))
 }
 
-/// Returns at which place the entries above a version begin.
+/// Returns at which place the entries above a version begin. It looks first at the place where they begin if no later
+/// write replaced another.
 pub(crate) fn first_above_in(entries: &[SharedEntry], version: u64) -> usize
     requires { are_ascending 0 entries.now ≡ true }
     ensures place { result ≤ length entries.now }
     ensures entries { drop result entries.now ≡ newer_entries version entries.now }
 {
+    let least = least_above(entries, version);
+    if least == entries.len() || entries[least].entry().version() > version {
+        return least;
+    }
     entries.partition_point(|shared| shared.entry().version() <= version)
+}
+
+/// Returns a place before which no entry is above a version. From there on the table has as many entries as there are
+/// versions above that one, or all its entries.
+fn least_above(entries: &[SharedEntry], version: u64) -> usize
+    requires { are_ascending 0 entries.now ≡ true }
+    ensures place { result ≤ length entries.now }
+    ensures upto { AllWithin (λ e. nat_le e.version version ≡ true) entries.now 0 result }
+{
+    let later = last_version_of(entries).saturating_sub(version);
+    (entries.len() as u64).saturating_sub(later) as usize
 }
 
 /// Returns at which place the entries begin whose versions are not below this one.

@@ -1,6 +1,6 @@
 //! The table of one owner.
 
-ghost use Rattle.std.specs.Prelude.{◌≡◌, ◌==◌, ◌≤◌, ◌<◌, true, [], if◌then◌else◌, Ok, Err, OnOk, OnErr, IfOk, length};
+ghost use Rattle.std.specs.Prelude.{◌≡◌, ◌==◌, ◌≤◌, ◌<◌, true, [], if◌then◌else◌, Ok, Err, OnOk, OnErr, IfOk, IfErr, length};
 ghost use Rattle.std.specs.Option.{option_map};
 ghost use Rattle.sb_types.specs.Faults.{Gives};
 ghost use Rattle.sb_types.specs.Runs.{newer_entries, entry_at};
@@ -72,7 +72,7 @@ impl Table {
     /// - `LogDamaged`: the floor is above `upto`, or the versions do not ascend from 1 to at most `upto`. Or a
     ///   tombstone is at or below the floor, or two entries have the same key.
     /// - `TableFull`: there are more than 4,096 entries.
-    /// - `NoMemory`.
+    /// - `NoMemory`, only of entries that a table can have.
     pub fn restored(
         alloc: Global,
         upto: u64,
@@ -80,6 +80,7 @@ impl Table {
         mut entries: Vec<Entry>,
     ) -> Result<Table, Fault>
         ensures restored { Gives result (restored_table upto floor entries.items) }
+        ensures refused { IfErr (restored_table upto floor entries.items) (λ fault. result ≡ Err fault) }
         ensures table { IfOk result IsKeptTable }
     {
         if !are_table_entries(upto, floor, &mut entries) {

@@ -19,3 +19,4 @@ pub mod Rising
 pub mod Starts
 pub mod Purged
 pub mod LiveEntries
+pub mod ShownOwners

@@ -1,5 +1,5 @@
 -- The view of a node: what its readers get.
-use Rattle.std.specs.Prelude.{◌≡◌, ℕ, true, false, List, [], ◌∷◌, map, Option, unwrap_or}
+use Rattle.std.specs.Prelude.{◌≡◌, ℕ, true, false, List, [], ◌∷◌, map, filter, nat_lt, Option, unwrap_or}
 use Rattle.std.specs.Ordering.{nat_cmp}
 use Rattle.std.specs.Cmp.Lexicographic.{slice_cmp}
 use Rattle.std.specs.FinMap.{FinMap, empty, get, insert, remove, from_sorted}
@@ -49,6 +49,10 @@ rows_of rows = from_sorted rows
 
 abbrev pub view_of : List (List ℕ × OwnerView) → NodeView
 view_of owners = from_sorted owners
+
+-- the owners that are held above version 0, with their views
+abbrev pub shown_owners : List (List ℕ × OwnerView) → List (List ℕ × OwnerView)
+shown_owners owners = filter (λ p. nat_lt 0 p.1.upto) owners
 
 abbrev pub no_view : OwnerView
 no_view = record { upto = 0; rows = empty }

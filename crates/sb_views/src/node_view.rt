@@ -146,9 +146,10 @@ impl NodeView {
         }
     }
 
-    /// All owners, with what is shown of them.
+    /// The owners that are held above version 0, with what is shown of them.
+    #[tactic(auto, using(crate::proofs::ShownOwners::few_shown))]
     pub(crate) fn owners(&self) -> OwnerViews<'_>
-        ensures { result ≡ entries self.now }
+        ensures { result ≡ node_views.shown_owners (entries self.now) }
     {
         OwnerViews::new(self.owners.iter())
     }

@@ -62,9 +62,10 @@ impl<'a> Snapshot<'a> {
         self.view.get(owner, key)
     }
 
-    /// All owners with what is shown of them, in ascending order of their names.
+    /// The owners that are held above version 0, with what is shown of them, in ascending order of their names. An owner that is held at
+    /// version 0 is not among them: nothing of it is shown.
     pub fn owners(&self) -> OwnerViews<'a>
-        ensures { result ≡ entries self.now }
+        ensures { result ≡ node_views.shown_owners (entries self.now) }
     {
         self.view.owners()
     }

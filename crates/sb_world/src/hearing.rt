@@ -15,7 +15,7 @@ use sb_codec::Message;
 use sb_frames::Frames;
 use sb_holdings::Report;
 use sb_node::NodeCore;
-use sb_session::{Replies, Session};
+use sb_session::{ReceivedMessage, Replies, Session};
 use sb_types::Fault;
 use std::alloc::Global;
 
@@ -114,15 +114,15 @@ fn hear_next(
     ensures { (more : List (List ℕ)) × (told : List spec.Item) × (sent.new.items ≡ sent.old.items ++ more) × (items.new.items ≡ items.old.items ++ told)
         × HearsOnce (listener_of core.old session.old frames.old) (listener_of core.new session.new frames.new) (length sent.old.items) result more told }
 {
-    let message = match frames.next() {
+    let message = match ReceivedMessage::taken_from(frames) {
         Ok(Some(message)) => message,
         Ok(None) => return Ok(false),
         Err(fault) => return Err(fault),
     };
-    match make_room(&message, items) {
+    match make_room(message.message(), items) {
         Ok(()) => {}
         Err(fault) => {
-            lose(message);
+            lose(message.into_message());
             return Err(fault);
         }
     }

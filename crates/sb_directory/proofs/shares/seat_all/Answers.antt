@@ -14,6 +14,6 @@ loop-reader-preserved g c =
     let seats = c.loop-reader.seats.items in
     let seen = c.in-Some.reader in
     let left = subst (λ (rest : List (List Event)). IsSeating all parts most amount seats rest) c.in-Some.ensures.steps.0 c.loop-reader.invariant in
-    let seat : c.new.result ≡ new_seat seen = c.new.ensures ∙ ap (λ (n : ℕ). record { seen = seen; last_call = seen; events = n }) c.split_off-share.ensures.amount in
+    let seat : c.new.result ≡ new_seat seen = c.new.ensures ∙ ap (λ (n : ℕ). record { seen = seen; knowledge = seen; last_call = seen; events = n }) c.split_off-share.ensures.amount in
     seating_goes_on all parts most amount seats seen (into_iter_items c.next.new.self) c.split_off-share.new.self.parts c.split_off-share.new.self.amount c.push.new.self.items
     left c.split_off-share.ensures.parts_left c.split_off-share.ensures.amount_left (c.in_ok-push.ensures.items ∙ ap (λ (s : Seat). seats ++ s ∷ []) seat)

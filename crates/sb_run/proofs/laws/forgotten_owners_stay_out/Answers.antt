@@ -1,4 +1,4 @@
-use Rattle.sb_run.proofs.LeavingOut.{blocks_out, blocks_kept}
+use Rattle.sb_handlers.proofs.LeavingOut.{blocks_out, blocks_kept}
 use Rattle.sb_run.proofs.laws.forgotten_owners_stay_out.Goals as goal
 
 pub returns-clause-out : goal.returns-clause-out

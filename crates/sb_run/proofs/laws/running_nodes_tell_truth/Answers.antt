@@ -21,11 +21,23 @@ returns-clause-honest c = λ writes opening settings all blocks b opened turns g
     let law = gives_truth c.running_nodes_keep_truth.ensures.honest c.nodes_hold.ensures.is c.answers_are_honest.ensures.is in
     (given_true law writes opening settings all opened (together_true law writes opening settings all opened turns) blocks b given stands).1
 
+pub returns-clause-digests : goal.returns-clause-digests
+returns-clause-digests c = λ opening settings all run from want digest owner floor upto answer reached.
+    let starts = c.running_nodes_keep_truth.ensures.starts (opening run) (settings run) (history_of run all) from want digest owner floor upto answer reached in
+    (c.running_nodes_keep_truth.ensures.digests (opening run) (settings run) (history_of run all) from want digest owner answer reached, starts.0, starts.1)
+
 pub returns-clause-reached : goal.returns-clause-reached
 returns-clause-reached c = λ writes opening settings all run from want digest owner opened turns answer reached.
     let law = gives_truth c.running_nodes_keep_truth.ensures.honest c.nodes_hold.ensures.is c.answers_are_honest.ensures.is in
     let true_each = together_true law writes opening settings all opened turns run in
     c.running_nodes_keep_truth.ensures.reached writes (opening run) (settings run) (history_of run all) from want digest owner (opened run).0 (opened run).1
+    (λ event s. (true_each event s).0) (λ event s. (true_each event s).1) answer reached
+
+pub returns-clause-progress : goal.returns-clause-progress
+returns-clause-progress c = λ writes opening settings all run from want digest owner floor upto opened turns answer reached.
+    let law = gives_truth c.running_nodes_keep_truth.ensures.honest c.nodes_hold.ensures.is c.answers_are_honest.ensures.is in
+    let true_each = together_true law writes opening settings all opened turns run in
+    c.running_nodes_keep_truth.ensures.progress writes (opening run) (settings run) (history_of run all) from want digest owner floor upto (opened run).0 (opened run).1
     (λ event s. (true_each event s).0) (λ event s. (true_each event s).1) answer reached
 
 pub returns-clause-later : goal.returns-clause-later

@@ -37,10 +37,10 @@ begun g c =
 -- a message has come, and is not heard yet
 pending : (g : Over) (c : In-Some g) →
     Talking g.H.Handler.step (party_of true c.args.all c.args.first c.args.handler.now) (party_of false c.loop-message.rounds c.loop-message.session c.loop-message.handler)
-    (c.in-Some.message ∷ []) c.args.connection.now c.receive.new.self
+    (c.in-Some.message ∷ []) c.args.connection.now c.read_from.new.connection
 pending g c =
     talk_receives g.H.Handler.step (party_of true c.args.all c.args.first c.args.handler.now) c.args.connection.now (party_of false c.loop-message.rounds c.loop-message.session c.loop-message.handler)
-    c.in-Some.message c.loop-message.connection c.receive.new.self c.loop-message.invariant.talking (rw c.in-Some.is at c.in_ok-message.ensures.gives) c.in_ok-message.ensures.kept
+    c.in-Some.message c.loop-message.connection c.read_from.new.connection c.loop-message.invariant.talking (rw c.in-Some.is at c.in_ok-message.ensures.gives) c.in_ok-message.ensures.kept
 
 -- it was heard and answered, and it is this end's turn where it ends a round
 turned : (g : Over) (c : After-rounds_after-rounds g) (b : Bool) → c.ends_round-ends.result ≡ b →
@@ -50,7 +50,7 @@ turned g c b ends =
     let step = g.H.Handler.step in
     let a = party_of true c.args.all c.args.first c.args.handler.now in
     let m = c.in-Some.message in
-    let heard = talk_heard step a c.args.connection.now c.loop-message.rounds c.loop-message.session c.loop-message.handler c.hear.new.session c.hear.new.handler c.receive.new.self c.hear.new.connection
+    let heard = talk_heard step a c.args.connection.now c.loop-message.rounds c.loop-message.session c.loop-message.handler c.hear.new.session c.hear.new.handler c.read_from.new.connection c.hear.new.connection
     m c.loop-message.invariant.goes (pending g (goal.at.After-rounds_after-rounds g c).In-Some) c.in_ok-reason.ensures.kept (rw c.in_default-2.is at c.in_ok-reason.ensures.hears) in
     talk_turns step a m c.ends_round-ends.result b c.loop-message.rounds c.rounds_after-rounds.result c.hear.new.session c.hear.new.handler c.args.connection.now c.hear.new.connection
     c.ends_round-ends.ensures c.rounds_after-rounds.ensures ends heard
@@ -111,13 +111,13 @@ returns-in_err-message-clause-talks g c =
     let now = party_of false c.loop-message.rounds c.loop-message.session c.loop-message.handler in
     let i = c.loop-message.invariant in
     let p = err_from_is_err_and c.from_residual-in_err-message.result c.from_residual-in_err-message.ensures.1 in
-    rw (p.1, p.2) (talk_reading g.H.Handler.step a c.args.connection.now now c.loop-message.connection c.receive.new.self _ refl i.goes i.talking c.in_err-message.ensures.gives
+    rw (p.1, p.2) (talk_reading g.H.Handler.step a c.args.connection.now now c.loop-message.connection c.read_from.new.connection _ refl i.goes i.talking c.in_err-message.ensures.gives
     c.in_err-message.ensures.kept)
 
 pub returns-in_err-message-clause-failed : goal.returns-in_err-message-clause-failed
 returns-in_err-message-clause-failed g c =
     let p = err_from_is_err_and c.from_residual-in_err-message.result c.from_residual-in_err-message.ensures.1 in
-    received_wrote c.from_residual-in_err-message.result c.loop-message.connection c.receive.new.self _ c.receive.new.self.last_write (p.1 ∙ ap Err p.2) c.in_err-message.ensures.gives
+    received_wrote c.from_residual-in_err-message.result c.loop-message.connection c.read_from.new.connection _ c.read_from.new.connection.last_write (p.1 ∙ ap Err p.2) c.in_err-message.ensures.gives
 
 pub returns-in_err-reason-clause-talks : goal.returns-in_err-reason-clause-talks
 returns-in_err-reason-clause-talks g c =
@@ -125,14 +125,14 @@ returns-in_err-reason-clause-talks g c =
     let i = c.loop-message.invariant in
     let p = err_from_is_err_and c.from_residual-in_err-reason.result c.from_residual-in_err-reason.ensures.1 in
     rw (p.1, p.2) (talk_heard_fault g.H.Handler.step a c.args.connection.now c.loop-message.rounds c.loop-message.session c.loop-message.handler c.hear.new.session c.hear.new.handler
-    c.receive.new.self c.hear.new.connection c.in-Some.message _ i.goes (pending g (goal.at.returns-in_err-reason-clause-talks g c).In-Some) c.in_err-reason.ensures.kept
+    c.read_from.new.connection c.hear.new.connection c.in-Some.message _ i.goes (pending g (goal.at.returns-in_err-reason-clause-talks g c).In-Some) c.in_err-reason.ensures.kept
     c.in_err-reason.ensures.hears)
 
 pub returns-in-Some-2-clause-talks : goal.returns-in-Some-2-clause-talks
 returns-in-Some-2-clause-talks g c =
     let a = party_of true c.args.all c.args.first c.args.handler.now in
     let i = c.loop-message.invariant in
-    talk_heard_bye g.H.Handler.step a c.args.connection.now c.loop-message.rounds c.loop-message.session c.loop-message.handler c.hear.new.session c.hear.new.handler c.receive.new.self c.hear.new.connection
+    talk_heard_bye g.H.Handler.step a c.args.connection.now c.loop-message.rounds c.loop-message.session c.loop-message.handler c.hear.new.session c.hear.new.handler c.read_from.new.connection c.hear.new.connection
     c.in-Some.message c.in-Some-2.reason i.goes (pending g (goal.at.returns-in-Some-2-clause-talks g c).In-Some) c.in_ok-reason.ensures.kept
     (rw c.in-Some-2.is at c.in_ok-reason.ensures.hears)
 
@@ -189,7 +189,7 @@ returns-clause-talks g c =
     let a = party_of true c.args.all c.args.first c.args.handler.now in
     let now = party_of false c.loop-message.rounds c.loop-message.session c.loop-message.handler in
     let i = c.loop-message.invariant in
-    talk_at_end g.H.Handler.step a c.args.connection.now now c.loop-message.connection c.receive.new.self refl i.goes i.talking (rw c.in_default.is at c.in_ok-message.ensures.gives)
+    talk_at_end g.H.Handler.step a c.args.connection.now now c.loop-message.connection c.read_from.new.connection refl i.goes i.talking (rw c.in_default.is at c.in_ok-message.ensures.gives)
     c.in_ok-message.ensures.kept
 
 pub returns-in_err-say-clause-read : goal.returns-in_err-say-clause-read

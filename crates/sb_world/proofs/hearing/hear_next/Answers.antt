@@ -16,19 +16,19 @@ returns-in-Err-make_room c =
 
 pub returns-in-Err-take : goal.returns-in-Err-take
 returns-in-Err-take c =
-    let taken = subst (λ o. TakesNext c.args.frames.now (Ok o) c.next.new.self) c.in-Ok-Some.field-0-is c.in-Ok-Some.ensures in (
+    let taken = subst (λ o. TakesNext c.args.frames.now (Ok o) c.taken_from.new.frames) c.in-Ok-Some.field-0-is c.in-Ok-Some.ensures in (
       [],
       [],
       sym (append-nil c.args.sent.now.items),
       c.in-Ok.ensures.items ∙ sym (append-nil c.args.items.now.items),
-      inl (inr (c.in-Ok-Some.message, c.next.new.self, taken, c.in-Err-take.ensures.takes), refl, refl),
+      inl (inr (c.in-Ok-Some.message, c.taken_from.new.frames, taken, c.in-Err-take.ensures.takes), refl, refl),
     )
 
 pub returns-in-Ok-reply : goal.returns-in-Ok-reply
 returns-in-Ok-reply c =
     let replies = c.in-Ok-take.replies in
     let told = items_for (length c.args.sent.now.items) replies in
-    let taken = subst (λ o. TakesNext c.args.frames.now (Ok o) c.next.new.self) c.in-Ok-Some.field-0-is c.in-Ok-Some.ensures in
+    let taken = subst (λ o. TakesNext c.args.frames.now (Ok o) c.taken_from.new.frames) c.in-Ok-Some.field-0-is c.in-Ok-Some.ensures in
     let ok = c.in-Ok-reply.ensures.ok in (
       map frame (messages_of replies),
       told,
@@ -39,7 +39,7 @@ returns-in-Ok-reply c =
 
 pub returns-in-Err-reply : goal.returns-in-Err-reply
 returns-in-Err-reply c =
-    let taken = subst (λ o. TakesNext c.args.frames.now (Ok o) c.next.new.self) c.in-Ok-Some.field-0-is c.in-Ok-Some.ensures in
+    let taken = subst (λ o. TakesNext c.args.frames.now (Ok o) c.taken_from.new.frames) c.in-Ok-Some.field-0-is c.in-Ok-Some.ensures in
     let part = c.in-Err-reply.ensures.err in (
       part.0,
       part.1,

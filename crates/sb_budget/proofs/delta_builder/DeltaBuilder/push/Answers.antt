@@ -13,14 +13,14 @@ pub returns-in_default-clause-next : goal.returns-in_default-clause-next
 returns-in_default-clause-next c = λ budget front is.
     let blocks = c.self.inside.gathered.items in
     let item = item_at c.args.head c.args.entry in
-    let bound : IsSearchInRange c.place_of-place.result (length blocks) = subst (λ (bs : List Block). IsSearchInRange c.place_of-place.result (length bs)) c.deref.ensures.value c.place_of-place.ensures.bound in
-    let found : IsBinarySearchResult (λ (b : Block). text_cmp b.owner c.args.head.owner) blocks c.place_of-place.result =
-    subst (λ (bs : List Block). IsBinarySearchResult (λ (b : Block). text_cmp b.owner c.args.head.owner) bs c.place_of-place.result) c.deref.ensures.value c.place_of-place.ensures.place in
+    let bound : IsSearchInRange c.place_near-place.result (length blocks) = subst (λ (bs : List Block). IsSearchInRange c.place_near-place.result (length bs)) c.deref.ensures.value c.place_near-place.ensures.bound in
+    let found : IsBinarySearchResult (λ (b : Block). text_cmp b.owner c.args.head.owner) blocks c.place_near-place.result =
+    subst (λ (bs : List Block). IsBinarySearchResult (λ (b : Block). text_cmp b.owner c.args.head.owner) bs c.place_near-place.result) c.deref.ensures.value c.place_near-place.ensures.place in
     let old : Making = record { blocks = blocks; room = c.self.inside.room } in
-    let cost : c.cost.result ≡ cost_of item c.place_of-place.result = c.cost.ensures.cost in
+    let cost : c.cost.result ≡ cost_of item c.place_near-place.result = c.cost.ensures.cost in
     let short = room_short c.checked_sub.result c.cost.result c.self.inside.room c.checked_sub.ensures c.in_default.not-Some in
     subst (AfterNext budget front item false) c.self.view_is
-    (next_left budget front item old c.self.invariant (subst (IsFrontOf budget front) (sym c.self.view_is) is) c.place_of-place.result bound found
+    (next_left budget front item old c.self.invariant (subst (IsFrontOf budget front) (sym c.self.view_is) is) c.place_near-place.result bound found
     (omega (arith, cost, c.cost.ensures.most)) (omega (arith, short, cost)))
 
 pub invariant_of-self : goal.invariant_of-self
@@ -30,21 +30,21 @@ pub invariant_of-self-2 : goal.invariant_of-self-2
 invariant_of-self-2 c =
     let blocks = c.self.inside.gathered.items in
     let item = item_at c.args.head c.args.entry in
-    let bound : IsSearchInRange c.place_of-place.result (length blocks) = subst (λ (bs : List Block). IsSearchInRange c.place_of-place.result (length bs)) c.deref.ensures.value c.place_of-place.ensures.bound in
-    let found : IsBinarySearchResult (λ (b : Block). text_cmp b.owner c.args.head.owner) blocks c.place_of-place.result =
-    subst (λ (bs : List Block). IsBinarySearchResult (λ (b : Block). text_cmp b.owner c.args.head.owner) bs c.place_of-place.result) c.deref.ensures.value c.place_of-place.ensures.place in
-    ap (are_owners_above []) (c.in_ok-put.ensures.placed ∙ placed_is_joined item blocks c.place_of-place.result c.self.invariant bound found)
+    let bound : IsSearchInRange c.place_near-place.result (length blocks) = subst (λ (bs : List Block). IsSearchInRange c.place_near-place.result (length bs)) c.deref.ensures.value c.place_near-place.ensures.bound in
+    let found : IsBinarySearchResult (λ (b : Block). text_cmp b.owner c.args.head.owner) blocks c.place_near-place.result =
+    subst (λ (bs : List Block). IsBinarySearchResult (λ (b : Block). text_cmp b.owner c.args.head.owner) bs c.place_near-place.result) c.deref.ensures.value c.place_near-place.ensures.place in
+    ap (are_owners_above []) (c.in_ok-put.ensures.placed ∙ placed_is_joined item blocks c.place_near-place.result c.self.invariant bound found)
     ∙ joined_above item [] blocks (name_above c.args.head.owner c.cost.ensures.owner) c.self.invariant
 
 pub returns-clause-next : goal.returns-clause-next
 returns-clause-next c = λ budget front is.
     let blocks = c.self.inside.gathered.items in
     let item = item_at c.args.head c.args.entry in
-    let bound : IsSearchInRange c.place_of-place.result (length blocks) = subst (λ (bs : List Block). IsSearchInRange c.place_of-place.result (length bs)) c.deref.ensures.value c.place_of-place.ensures.bound in
-    let found : IsBinarySearchResult (λ (b : Block). text_cmp b.owner c.args.head.owner) blocks c.place_of-place.result =
-    subst (λ (bs : List Block). IsBinarySearchResult (λ (b : Block). text_cmp b.owner c.args.head.owner) bs c.place_of-place.result) c.deref.ensures.value c.place_of-place.ensures.place in
+    let bound : IsSearchInRange c.place_near-place.result (length blocks) = subst (λ (bs : List Block). IsSearchInRange c.place_near-place.result (length bs)) c.deref.ensures.value c.place_near-place.ensures.bound in
+    let found : IsBinarySearchResult (λ (b : Block). text_cmp b.owner c.args.head.owner) blocks c.place_near-place.result =
+    subst (λ (bs : List Block). IsBinarySearchResult (λ (b : Block). text_cmp b.owner c.args.head.owner) bs c.place_near-place.result) c.deref.ensures.value c.place_near-place.ensures.place in
     let old : Making = record { blocks = blocks; room = c.self.inside.room } in
-    let cost : c.cost.result ≡ cost_of item c.place_of-place.result = c.cost.ensures.cost in
+    let cost : c.cost.result ≡ cost_of item c.place_near-place.result = c.cost.ensures.cost in
     subst (λ (bs : List Block). AfterNext budget front item true (record { blocks = bs; room = c.in-Some.left })) (sym c.in_ok-put.ensures.placed)
-    (next_taken budget front item old c.self.invariant (subst (IsFrontOf budget front) (sym c.self.view_is) is) c.place_of-place.result bound found
+    (next_taken budget front item old c.self.invariant (subst (IsFrontOf budget front) (sym c.self.view_is) is) c.place_near-place.result bound found
     c.in-Some.left (omega (arith, c.in-Some.ensures.0, c.in-Some.ensures.1, cost)))

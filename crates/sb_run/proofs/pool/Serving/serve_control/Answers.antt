@@ -9,7 +9,7 @@ returns-in-Ok-clause-controls g c =
     let heard = c.in-Ok.ensures in
     inr (
       c.in-Ok.request,
-      received_to c.args.connection.now c.receive_first.new.connection c.send-sent.new.self c.in-Ok.request c.send-sent.ensures.kept heard.receives,
+      received_to c.args.connection.now c.receive_request.new.connection c.send-sent.new.self c.in-Ok.request c.send-sent.ensures.kept heard.receives,
       (
         c.reply_to-seat.result.1,
         c.reply_to-seat.ensures.answers,
@@ -20,4 +20,4 @@ returns-in-Ok-clause-controls g c =
 pub returns-in-Err-clause-controls : goal.returns-in-Err-clause-controls
 returns-in-Err-clause-controls g c =
     let heard = c.in-Err.ensures in
-    inl (c.in-Err.fault, heard.receives, refl, (refl, refl, refl), keeps_same c.args.connection.now.output c.receive_first.new.connection.output heard.output)
+    inl (c.in-Err.fault, heard.receives, refl, (refl, refl, refl), keeps_same c.args.connection.now.output c.receive_request.new.connection.output heard.output)

@@ -1,0 +1,5 @@
+use Rattle.sb_run.proofs.Paging.{page_looking}
+use Rattle.sb_run.proofs.pool.Serving.answer_counted.Goals as goal
+
+pub returns-clause-entered : goal.returns-clause-entered
+returns-clause-entered g c = page_looking _ _ _ _ _ _ c.answer_ask-seat.ensures.answers.1
