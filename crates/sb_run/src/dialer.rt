@@ -5,7 +5,7 @@ ghost use Rattle.crossbeam_channel.specs.Ends.{sends_on, receives_on};
 
 use crate::audit_turns::AuditTurns;
 use crate::backlogs::{Backlogs, Lack};
-use crate::bell::Parkers;
+use crate::bell::{Bell, Parkers};
 use crate::dialing::{OwnDigests, dial_peer, digests_of_all};
 use crate::node::Pace;
 use crate::observer::Observer;
@@ -93,17 +93,17 @@ impl SessionStart {
 
 impl<'a, O: Observer> Dialing<'a, O> {
     /// What it takes to dial these peers at this pace, with so many threads for news. The threads share the first part, and the
-    /// one that dials in turn has the second alone. `NoMemory`.
+    /// one that dials in turn has the second alone. The bell wakes them. `NoMemory`.
     pub(crate) fn new(
         alloc: Global,
         paths: &[&'a str],
         pace: &Pace,
         threads: usize,
         observer: &'a O,
-        parkers: Parkers,
-    ) -> Result<(Dialing<'a, O>, Turns<'a>), Fault>
+    ) -> Result<(Dialing<'a, O>, Turns<'a>, Bell), Fault>
         ensures { IfErr result (λ fault. fault ≡ Fault.NoMemory) }
     {
+        let (bell, parkers) = Bell::new(alloc, threads == 0)?;
         let Parkers { turns, news } = parkers;
         let schedule = Schedule::new(alloc, paths, pace.rounds, threads)?;
         let backlogs = Backlogs::new(alloc, paths.len())?;
@@ -117,7 +117,7 @@ impl<'a, O: Observer> Dialing<'a, O> {
             backlogs: Mutex::new(backlogs),
             audits: Mutex::new(audits),
         };
-        Ok((dialing, turns))
+        Ok((dialing, turns, bell))
     }
 
     /// The observer of the node.

@@ -161,6 +161,7 @@ mod http_writes;
 mod laws;
 mod log_watch;
 mod node;
+mod node_setup;
 mod observer;
 mod own_writes;
 mod peers;

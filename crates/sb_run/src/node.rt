@@ -2,26 +2,20 @@
 ghost use Rattle.std.specs.Prelude.{◌≡◌, ◌+◌, ◌≤◌, true, false, None, Err, IfOk, IfErr, IfSome, IsErr, ◌⊎◌, vec_len, vec_capacity, IsOk};
 ghost use Rattle.sb_run.specs.Closing.{seen_by};
 ghost use Rattle.sb_run.specs.Running as spec;
-ghost use Rattle.sb_run.specs.Running.{IsReadFrom, IsRunningFault, IsOpenedFault, RunsClosed, IsTagOf, IsStarted};
+ghost use Rattle.sb_run.specs.Running.{IsReadFrom, IsRunningFault, IsEndFault, IsOpenedFault, IsOpenedFrom, RunsClosed, IsTagOf, IsStarted};
 
-use crate::accepting::{Acceptor, deadline_after};
-use crate::arrivals::{Asked, new_handover};
-use crate::bell::Bell;
-use crate::counts::Counts;
-use crate::dialer::{Dialing, RoundsTag, rounds_channel};
+use crate::accepting::deadline_after;
+use crate::dialer::{Dialing, RoundsTag, Turns};
 use crate::first_hearing::FirstHearing;
-use crate::heard::HeardTimes;
 use crate::http_threads::HTTP_WORKERS;
 use crate::http_writes::WriteDesk;
+use crate::node_setup::{Channels, NodeRecords, NodeSetup, SeatedNode};
 use crate::observer::Observer;
 use crate::own_writes::{ClosableLog, OwnWrites};
 use crate::sockets::BoundSockets;
-use crate::threads::{
-    EndFlag, Links, NodeContext, ThreadSeats, ThreadsEnd, gather_seats, part_seats,
-};
-use crate::watchers::WatcherCount;
+use crate::threads::{Links, ThreadsEnd, gather_seats, part_seats};
 use sb_directory::Directory;
-use sb_handlers::{ForgottenOwners, ToldVersions, VainOffers};
+use sb_handlers::ForgottenOwners;
 use sb_log::WriteLog;
 use sb_node::NodeCore;
 use sb_table::Table;
@@ -421,22 +415,18 @@ fn http_seats(http: Option<&str>) -> usize {
     }
 }
 
-/// Makes the directory, and gives a seat to each thread. At most so many of those beyond are for HTTP, and the others for news, in a
-/// list with room for all. `NoMemory`.
+/// Makes the directory, and gives a seat to each thread. At most so many of those beyond are for HTTP. `NoMemory`.
 fn seat_all<S: RoundsTag, R: Wait>(
     rt: &R,
     alloc: Global,
     start: DirectoryStart,
     http: usize,
-) -> Result<(Directory<S, &R>, ThreadSeats<S>), Fault>
+) -> Result<SeatedNode<S, &R>, Fault>
     requires history { start.new_history.seen.book ≡ S.history }
     requires tagged { IsTagOf S.opening S.settings S.seats S.parts start.core }
     requires name { start.blank.name ≡ S.name }
     requires parts { start.blank.parts ≡ S.parts }
     requires enough { start.core.settings.workers + 2 ≤ start.core.settings.seats }
-    ensures workers { IfOk result (λ seated. vec_len seated.1.workers ≡ S.settings.workers) }
-    ensures all { IfOk result (λ seated. vec_len seated.1.news + vec_len seated.1.http + (vec_len seated.1.workers + 2) ≡ S.seats) }
-    ensures room { IfOk result (λ seated. S.seats ≤ vec_capacity seated.1.news) }
     ensures memory { IfErr result (λ fault. fault ≡ Fault.NoMemory) }
 {
     let DirectoryStart {
@@ -452,11 +442,14 @@ fn seat_all<S: RoundsTag, R: Wait>(
         return Err(Fault::NoMemory);
     };
     let thread_seats = part_seats(seats, settings.workers() as usize, http)?;
-    Ok((directory, thread_seats))
+    Ok(SeatedNode {
+        directory,
+        thread_seats,
+    })
 }
 
-/// Makes the directory and its seats, binds both sockets, runs the threads, and removes the sockets' files. `NoMemory`;
-/// `ReadFailed` if a socket can't be bound; `StoreFailed` if the log failed and the node is to exit then.
+/// Makes the directory and its seats, and what the threads share, and runs the node. `NoMemory`; `ReadFailed` if a socket can't be
+/// bound; `StoreFailed` if the log failed and the node is to exit then.
 pub(crate) fn run_tagged<
     S: RoundsTag + Send + Sync,
     L: WriteLog + Drop,
@@ -480,48 +473,95 @@ pub(crate) fn run_tagged<
     ensures fault { IfErr result (IsOpenedFault pace.on_log_fault) }
     ensures failed { start.writes.has_failed ≡ true → pace.on_log_fault ≡ OnLogFault.Exit → IsErr result }
 {
-    let rounds = rounds_channel::<S>(alloc)?;
-    let (handover, jobs, requests, write_sender) = new_handover(alloc)?;
-    let events = Acceptor::events(alloc)?;
-    let http = http_seats(paths.http);
-    let (directory, thread_seats) = seat_all::<S, R>(rt, alloc, start.directory, http)?;
-    let threads = thread_seats.news.len();
-    let desk = WriteDesk::new(write_sender, thread_seats.http.len() as u64);
-    let (bell, parkers) = Bell::new(alloc, threads == 0)?;
-    let (dialing, turns) = Dialing::new(alloc, paths.peers, &pace, threads, observer, parkers)?;
+    let NodeStart {
+        directory,
+        forgotten,
+        beat,
+        writes,
+    } = start;
+    let (channels, write_sender) = Channels::<S>::new(alloc)?;
+    let seated = seat_all::<S, R>(rt, alloc, directory, http_seats(paths.http))?;
+    let (news, http) = (seated.news_seats(), seated.http_seats());
+    let (dialing, turns, bell) = Dialing::new(alloc, paths.peers, &pace, news, observer)?;
     let hearing = FirstHearing::new(alloc, paths.peers.len(), deadline_after(rt, pace.hearing))?;
-    let Ok((sockets, poll)) = BoundSockets::bind(rt, paths, observer) else {
+    let setup = NodeSetup {
+        alloc,
+        paths,
+        dialing: &dialing,
+        bell,
+        desk: WriteDesk::new(write_sender, http as u64),
+        forgotten,
+        hearing: Mutex::new(hearing),
+        pace,
+        beat,
+    };
+    run_seated(rt, seated, &setup, channels, turns, writes)
+}
+
+/// Binds the sockets of a node whose directory has its seats, runs its threads, and removes the sockets' files. `NoMemory`;
+/// `ReadFailed` if a socket can't be bound; `StoreFailed` if the log failed and the node is to exit then.
+fn run_seated<
+    'a,
+    S: RoundsTag + Send + Sync,
+    L: WriteLog + Drop,
+    R: Runtime + Net<Listener = TcpListener, Stream = TcpStream>,
+    O: Observer + Sync,
+>(
+    rt: &R,
+    seated: SeatedNode<S, &R>,
+    setup: &NodeSetup<'_, 'a, O>,
+    channels: Channels<S>,
+    turns: Turns<'a>,
+    writes: OwnWrites<ClosableLog<L>>,
+) -> Result<Ran, Fault>
+    requires opened { IsOpenedFrom (seen_by (L.seen writes.log.log) writes.log.closed_by) S.opening }
+    requires rounds { setup.now.pace.rounds ≡ S.rounds }
+    ensures rounds { IfOk result (λ ran. ran.rounds ≡ S.rounds) }
+    ensures fault { IfErr result (IsOpenedFault setup.now.pace.on_log_fault) }
+    ensures failed { writes.has_failed ≡ true → setup.now.pace.on_log_fault ≡ OnLogFault.Exit → IsErr result }
+{
+    let observer = setup.dialing.observer();
+    let Ok((sockets, poll)) = BoundSockets::bind(rt, setup.paths, observer) else {
         return Err(Fault::ReadFailed);
     };
     observer.listening();
-    let acceptor = Acceptor::new(alloc, poll, events, handover);
-    let links = Links::new(acceptor, jobs, requests, turns, rounds);
-    let (workers, forgotten) = (directory.settings().workers(), start.forgotten);
-    let (ending, counts, asked) = (EndFlag::new(), Counts::new(rt, workers), Asked::new());
-    let (vain_offers, hearing) = (VainOffers::new(alloc), Mutex::new(hearing));
-    let heard = HeardTimes::new(rt, alloc, directory.name());
-    let (told, watchers) = (ToldVersions::new(rt, alloc), WatcherCount::new());
-    let node = NodeContext {
-        rt,
-        alloc,
-        directory: &directory,
-        sockets: &sockets,
-        ending: &ending,
-        bell: &bell,
-        counts: &counts,
-        asked: &asked,
-        desk: &desk,
-        forgotten: &forgotten,
-        vain_offers: &vain_offers,
-        hearing: &hearing,
-        watchers: &watchers,
-        heard: &heard,
-        told: &told,
-        pace,
-        beat: start.beat,
-    };
-    let finished = dialing.run_threads(&node, start.writes, thread_seats, links);
+    let links = channels.into_links(setup.alloc, poll, turns);
+    let ran = run_bound(rt, seated, setup, &sockets, writes, links);
     sockets.remove(rt);
+    ran
+}
+
+/// Runs the threads of a node that has bound its sockets, and closes its directory after them. `NoMemory`; `StoreFailed` if the log
+/// failed and the node is to exit then.
+fn run_bound<
+    'a,
+    S: RoundsTag + Send + Sync,
+    L: WriteLog + Drop,
+    R: Runtime + Net<Listener = TcpListener, Stream = TcpStream>,
+    O: Observer + Sync,
+>(
+    rt: &R,
+    seated: SeatedNode<S, &R>,
+    setup: &NodeSetup<'_, 'a, O>,
+    sockets: &BoundSockets,
+    writes: OwnWrites<ClosableLog<L>>,
+    links: Links<'a, S>,
+) -> Result<Ran, Fault>
+    requires opened { IsOpenedFrom (seen_by (L.seen writes.log.log) writes.log.closed_by) S.opening }
+    requires rounds { setup.now.pace.rounds ≡ S.rounds }
+    ensures rounds { IfOk result (λ ran. ran.rounds ≡ S.rounds) }
+    ensures fault { IfErr result (IsEndFault setup.now.pace.on_log_fault) }
+    ensures failed { writes.has_failed ≡ true → setup.now.pace.on_log_fault ≡ OnLogFault.Exit → IsErr result }
+{
+    let SeatedNode {
+        directory,
+        thread_seats,
+    } = seated;
+    let records = NodeRecords::new(rt, setup.alloc, &directory);
+    let node = setup.node(rt, &directory, sockets, &records);
+    let finished = setup
+        .dialing
+        .run_threads(&node, writes, thread_seats, links);
     close(rt, directory, finished?)
 }
 

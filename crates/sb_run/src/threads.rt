@@ -100,6 +100,20 @@ struct DialingThreads<S: RoundsTag> {
 /// The first thread that answers over HTTP. It ends at once if there is no seat for it.
 type HttpThread<S> = PromisedHandle<Vec<ReaderSeat<S>>, AsManySeats>;
 
+/// The seats of the threads that answer: those of the workers, and those for HTTP.
+#[derive(Drop)]
+struct AnsweringSeats<S: RoundsTag> {
+    workers: Vec<ReaderSeat<S>>,
+    http: Vec<ReaderSeat<S>>,
+}
+
+/// The threads that answer, and the one that accepts.
+#[derive(Drop)]
+struct AnsweringThreads<S: RoundsTag> {
+    serving: ServingThreads<S>,
+    http: HttpThread<S>,
+}
+
 /// That a thread gives so many seats back.
 #[derive(Clone, Copy)]
 struct AsManySeats(usize);
@@ -215,6 +229,18 @@ impl<S: RoundsTag> ServingThreads<S> {
     }
 }
 
+impl<S: RoundsTag> AnsweringThreads<S> {
+    /// Waits until all of them end: what the first two left, and the seats for HTTP.
+    fn join<Q: Threads>(self, rt: &Q) -> ((Pooled<S>, u64), Vec<ReaderSeat<S>>)
+        ensures workers { vec_len result.0.0.seats ≡ self.serving.pool.promise.0 }
+        ensures http { vec_len result.1 ≡ self.http.promise.0 }
+    {
+        let AnsweringThreads { serving, http } = self;
+        let served = serving.join(rt);
+        (served, http.join(rt))
+    }
+}
+
 impl<S: RoundsTag> DialingThreads<S> {
     /// Waits until all of them end: their seats.
     fn join<Q: Threads>(self, rt: &Q) -> DialingSeats<S>
@@ -292,6 +318,37 @@ impl<'a, O: Observer + Sync> Dialing<'a, O> {
         }
     }
 
+    /// Starts the thread that accepts, that of the pool, and the first that answers over HTTP. `NoMemory` if one of them can't be
+    /// made; then the node has ended, and none runs.
+    fn start_answering<
+        's,
+        E,
+        S: RoundsTag + Send + Sync,
+        H: Wait + Drop + Send + Sync,
+        Q: Runtime + Net<Listener = TcpListener, Stream = TcpStream>,
+    >(
+        &'s self,
+        scope: &Scope<'s, E>,
+        node: &'s NodeContext<'s, S, H, Q>,
+        acceptor: Acceptor,
+        jobs: Jobs,
+        seats: AnsweringSeats<S>,
+    ) -> Result<AnsweringThreads<S>, Fault>
+        ensures workers { IfOk result (λ threads. threads.serving.pool.promise.0 ≡ vec_len seats.workers) }
+        ensures http { IfOk result (λ threads. threads.http.promise.0 ≡ vec_len seats.http) }
+        ensures memory { IfErr result (λ fault. fault ≡ Fault.NoMemory) }
+    {
+        let AnsweringSeats { workers, http } = seats;
+        let Ok(serving) = start_serving(scope, node, acceptor, jobs, workers) else {
+            return Err(Fault::NoMemory);
+        };
+        let Ok(http) = self.start_http(scope, node, http) else {
+            serving.join(node.rt);
+            return Err(Fault::NoMemory);
+        };
+        Ok(AnsweringThreads { serving, http })
+    }
+
     /// Runs the threads of a node to their end, in a scope of their own. One accepts, some are workers, some dial, and the calling
     /// one makes the own writes. `NoMemory` if the thread that accepts, that of the pool, the first for HTTP, the first for news,
     /// or the one that dials in turn can't be made. `StoreFailed` if the log failed and the node is to exit then.
@@ -333,26 +390,22 @@ impl<'a, O: Observer + Sync> Dialing<'a, O> {
             rounds_sender,
             rounds_receiver,
         } = links;
-        let Ok(serving) = start_serving(scope, node, acceptor, jobs, workers) else {
+        let seats = AnsweringSeats { workers, http };
+        let Ok(answering) = self.start_answering(scope, node, acceptor, jobs, seats) else {
             return Err(Fault::NoMemory);
         };
         let seats = DialingSeats {
             news,
             turns: dialing,
         };
-        let Ok(http) = self.start_http(scope, node, http) else {
-            serving.join(node.rt);
-            return Err(Fault::NoMemory);
-        };
         let Ok(dialing) = self.start_dialing(scope, node, turns, seats, rounds_sender) else {
-            http.join(node.rt);
-            serving.join(node.rt);
+            answering.join(node.rt);
             return Err(Fault::NoMemory);
         };
         let at_control = node.answer_requests(requests, writes, control, self);
         let rounds = rounds_receiver.receive(node.rt);
         let dialed = dialing.join(node.rt);
-        let served = (serving.join(node.rt), http.join(node.rt));
+        let served = answering.join(node.rt);
         threads_end(served, dialed, at_control, rounds)
     }
 
