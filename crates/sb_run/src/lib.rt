@@ -49,8 +49,10 @@
 //! - The loop that accepts connections ends if one accept fails. Only `tools/check-node` refuses it.
 //! - `Turns`, `Schedule`, `Counts`, `BusyWorkers` or `Peers` gives the observer a wrong state, or reports too seldom or
 //!   never. The tests of `sb_run` and `tools/check-node` refuse it.
-//! - If a peer is passed over, another than the next is dialed, or nobody. `next_in_turn` covers the first turn
-//!   alone. The tests of `sb_run` and `tools/check-node` refuse it.
+//! - If a peer is passed over, another than the next is dialed. `next_in_turn` covers the first turn alone, and that somebody
+//!   is dialed. The tests of `sb_run` and `tools/check-node` refuse it.
+//! - The peer that `begin_turn` gives is not dialed: no contract sees a socket. The tests of `sb_run` and `tools/check-node`
+//!   refuse it.
 //! - No burst is dialed, or its peers are dialed one after another. The tests of `sb_run` and `tools/check-node`
 //!   refuse it.
 //! - A peer is pushed less than it may lack, because news is left out of its backlog, or because the delta is made before

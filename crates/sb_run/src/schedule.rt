@@ -1,5 +1,5 @@
 //! Whom to dial next, and the rounds that were made: what the threads that dial share, under one lock.
-ghost use Rattle.std.specs.Prelude.{◌≡◌, true, false, None, IfSome, MatchOption, IfOk, IfErr, ◌+◌, slice_get, vec_len, replicate};
+ghost use Rattle.std.specs.Prelude.{◌≡◌, ◌<◌, true, false, None, Some, IfSome, MatchOption, IfOk, IfErr, ◌+◌, slice_get, vec_len, replicate};
 ghost use Rattle.sb_run.specs.Deliveries as spec;
 ghost use Rattle.sb_run.specs.StatusReplies.{have_had_rounds};
 ghost use Rattle.sb_run.specs.Turns.{turn_of};
@@ -134,6 +134,13 @@ impl<'a> Schedule<'a> {
     pub(crate) fn begin_turn(&mut self) -> Option<Option<usize>>
         ensures none { result ≡ None → spec.has_round_left self.old.most self.old.begun ≡ false }
         ensures some { IfSome result (λ _. spec.has_round_left self.old.most self.old.begun ≡ true) }
+        ensures counted { IfSome result (λ _. self.old.begun < self.old.most → self.new.begun ≡ self.old.begun + 1) }
+        // It is the peer whose turn it is, unless that one is passed over. If there are peers, there is one.
+        ensures turn { IfSome result (λ next. IfSome (slice_get self.old.peers.all.items (turn_of (vec_len self.old.peers.all) self.old.peers.turn))
+            (λ peer. peer.turns_out ≡ 0 → next ≡ Some (turn_of (vec_len self.old.peers.all) self.old.peers.turn))) }
+        ensures someone { IfSome result (λ next. next ≡ None → vec_len self.old.peers.all ≡ 0) }
+        ensures within { IfSome result (λ next. IfSome next (λ index. index < vec_len self.new.peers.all)) }
+        ensures next { IfSome result (λ next. IfSome next (λ index. self.new.peers.turn ≡ index + 1)) }
         ensures first { self.old.begun ≡ 0 → IfSome result (λ next. IfSome next (λ index. spec.Changes index spec.without_news self.old.deliveries.all.items self.new.deliveries.all.items)) }
     {
         if !self.has_round_left() {
@@ -150,6 +157,7 @@ impl<'a> Schedule<'a> {
 
     /// Notes that the peer at this index, if there is one, is not dialed for news: its first round is in turn.
     fn leave_to_turn(&mut self, next: Option<usize>)
+        ensures peers { (self.new.peers ≡ self.old.peers) × (self.new.begun ≡ self.old.begun) }
         ensures left { IfSome next (λ index. spec.Changes index spec.without_news self.old.deliveries.all.items self.new.deliveries.all.items) }
     {
         if let Some(index) = next {
