@@ -17,3 +17,4 @@ pub mod HttpPolls
 pub mod Ages
 pub mod Staged
 pub mod Entering
+pub mod Turning

@@ -181,7 +181,10 @@ mod write_request;
 
 pub use http_socket::is_own_port;
 pub use http_threads::HTTP_WORKERS;
-pub use laws::{forgotten_owners_stay_out, running_nodes_keep_truth, running_nodes_tell_truth};
+pub use laws::{
+    forgotten_owners_stay_out, running_nodes_keep_truth, running_nodes_tell_truth,
+    turns_come_to_all,
+};
 pub use node::{
     Beat, NodeConfig, OnLogFault, Pace, Paths, Ran, Runtime, run_closed_node, run_node,
 };
