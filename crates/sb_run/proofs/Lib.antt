@@ -17,4 +17,5 @@ pub mod HttpPolls
 pub mod Ages
 pub mod Staged
 pub mod Entering
+pub mod Exchanges
 pub mod Turning

@@ -1,7 +1,8 @@
 //! One round: a session with a peer that is dialed.
-ghost use Rattle.std.specs.Prelude.{◌≡◌, ◌+◌, ◌<◌, ◌≤◌};
+ghost use Rattle.std.specs.Prelude.{◌≡◌, ◌+◌, ◌<◌, ◌≤◌, Ok};
 ghost use Rattle.sb_directory.specs.Serving.{IsStill, IsLater};
 ghost use Rattle.sb_run.specs.Entering.{Hears};
+ghost use Rattle.sb_run.specs.Exchanges.{MakesExchanges};
 ghost use Rattle.sb_run.specs.Hellos.{Greets};
 
 use crate::dialer::RoundsTag;
@@ -92,8 +93,8 @@ impl<S: RoundsTag, H: Wait + Drop, Q: Wait + Clock> Gate for DialedGate<'_, '_, 
 }
 
 impl<S: RoundsTag, H: Wait + Drop, Q: Wait + Clock> NodeContext<'_, S, H, Q> {
-    /// A session over a connection to the peer at this index, of so many exchanges of digests and deltas, and how it ended. It makes at most the node's
-    /// `max_reads` reads. What it enters is news.
+    /// A session over a connection to the peer at this index, of so many exchanges of digests and deltas, and how it ended. It
+    /// ends with `RoundsDone` only after all of them. It makes at most the node's `max_reads` reads. What it enters is news.
     fn talk<I: Read, O: Write, K: Ledger>(
         &self,
         connection: &mut Connection<I, O, K>,
@@ -106,6 +107,7 @@ impl<S: RoundsTag, H: Wait + Drop, Q: Wait + Clock> NodeContext<'_, S, H, Q> {
         // The seat makes the events of the deltas that came over the connection, in their order, and no other.
         ensures entered { Hears self.now.forgotten.now.names.items connection.old connection.new seat result.0 }
         ensures greets { Greets S.settings.cluster S.opening.held.me connection.old.output connection.new.output }
+        ensures rounds { result.1 ≡ Ok Ended.RoundsDone → MakesExchanges exchanges connection.old connection.new }
         ensures reads { connection.new.steps ≤ connection.old.steps + self.now.pace.max_reads }
     {
         let asker = Some(Asker::Dialed(index));

@@ -3,6 +3,7 @@ use Rattle.sb_directory.specs.Serving.{IsStill}
 use Rattle.sb_directory.specs.Handling.{serves-nothing, still-same, still-on}
 use Rattle.sb_handlers.specs.Deferring.{deferring-nothing}
 use Rattle.sb_run.proofs.Entering.{session_hears, hears_at, serves_enters, forgetting_still, gated_still}
+use Rattle.sb_run.proofs.Exchanges.{talks_exchange}
 use Rattle.sb_run.proofs.Hellos.{talks_greet}
 use Rattle.sb_handlers.proofs.LeavingOut.{forgetting_applies, gated_applies}
 use Rattle.sb_run.proofs.threads.NodeContext.talk.Goals as goal
@@ -26,3 +27,6 @@ returns-clause-entered g c =
 
 pub returns-clause-greets : goal.returns-clause-greets
 returns-clause-greets g c = talks_greet _ _ _ _ _ _ _ _ _ _ c.session_of-session.ensures c.dial-ended.ensures.talks
+
+pub returns-clause-rounds : goal.returns-clause-rounds
+returns-clause-rounds g c = talks_exchange _ _ _ _ _ _ _ _ c.dial-ended.ensures.talks
