@@ -1,4 +1,7 @@
 //! What a node that runs says on standard error.
+ghost use Rattle.std.specs.Prelude.{◌≡◌, ◌<◌, ◌*◌, ◌^◌};
+ghost use Rattle.attrdir.specs.Shortages as spec;
+
 use crate::differences::DifferenceWords;
 use crate::log_watch::LogWatch;
 use crate::metrics::{Metrics, Series};
@@ -111,7 +114,9 @@ impl Shortage {
 }
 
 /// Whether so many of at most so many are nine tenths or more.
-fn is_nearly(count: usize, most: usize) -> bool {
+fn is_nearly(count: usize, most: usize) -> bool
+    ensures { count * 10 < 2 ^ 64 → most * 9 < 2 ^ 64 → result ≡ spec.is_nearly count most }
+{
     count.saturating_mul(10) >= most.saturating_mul(9)
 }
 

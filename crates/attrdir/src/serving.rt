@@ -1,4 +1,6 @@
 //! The command that runs a node.
+ghost use Rattle.std.specs.Prelude.{◌≡◌, ◌<◌, ◌*◌, ◌^◌, None, IfOk, IfSome};
+
 use crate::console::{Console, Shortage};
 use crate::log_watch::LogWatch;
 use crate::metrics::Series;
@@ -258,7 +260,10 @@ fn forgotten_of<'a>(
 }
 
 /// The beat of a node, if it has one. `BadKey` if its word is not a key.
-fn beat_of<'a>(given: &ServeArguments<'a>) -> Result<Option<Beat>, Failure<'a>> {
+fn beat_of<'a>(given: &ServeArguments<'a>) -> Result<Option<Beat>, Failure<'a>>
+    ensures pause { IfOk result (λ beat. IfSome beat (λ b. given.now.beat * 1_000 < 2 ^ 64 → b.pause ≡ given.now.beat * 1_000)) }
+    ensures none { given.now.beat ≡ 0 → IfOk result (λ beat. beat ≡ None) }
+{
     let word = given.beat_key;
     let Ok(key) = Key::read(word.as_bytes()) else {
         return Err(Failure::at(FaultPlace::Word("--beat-key", word), Fault::BadKey));

@@ -1,5 +1,5 @@
 -- What comes of a purge of a node's own table, and of its log.
-use Rattle.std.specs.Prelude.{◌≡◌, ◌⊎◌, ℕ, ◌+◌, max, nat_eq, if◌then◌else◌, Option, Some, None, Ok, Err}
+use Rattle.std.specs.Prelude.{◌≡◌, ◌⊎◌, ℕ, ◌+◌, max, nat_eq, if◌then◌else◌, Option, Some, None, Ok, Err, ◌/◌, Bool, ◌&&◌, ◌||◌, nat_lt, nat_le}
 use Rattle.sb_types.specs.declared.fault.Fault.{Fault}
 use Rattle.sb_holdings.specs.Nodes.{Node}
 use Rattle.sb_log.specs.Records.{Committed, Log}
@@ -53,3 +53,8 @@ MayPurge seen opening least old owed before new owes after =
     × (((new ≡ old) × (owes ≡ owed) × (after ≡ asked))
     ⊎ (((answer : Option ℕ) × IsPurge opening least asked owed answer after × IsLogPurged seen old answer new × (owes ≡ None))
     ⊎ ((fault : Fault) × IsUnpurged seen opening least old owed asked new owes after fault)))
+
+-- the removed keys are counted now: after an eighth as many writes as keys are to be removed, and if the table is full after each
+-- write; never if the number is 0
+abbrev pub counts_now : ℕ → ℕ → Bool → Bool
+counts_now least writes is_full = nat_lt 0 least && (nat_lt 0 writes && (is_full || nat_le (least / 8) writes))

@@ -1,6 +1,8 @@
 //! What the thread that accepts hands to the other threads.
 ghost use Rattle.std.specs.Prelude.{◌≡◌, IfOk, IfErr};
 ghost use Rattle.sb_run.specs.Sources.{IsNumbered};
+ghost use Rattle.sb_run.specs.Works.{message_of};
+ghost use Rattle.sb_run.specs.WriteRequests.{is_put};
 
 use crate::counts::Counts;
 use crate::dialer::has_come;
@@ -50,7 +52,9 @@ pub(crate) enum Request {
 
 impl Request {
     /// Whether it asks for a write.
-    pub(crate) fn is_put(&self) -> bool {
+    pub(crate) fn is_put(&self) -> bool
+        ensures { result ≡ is_put (message_of self.now) }
+    {
         match self {
             Request::Control(request, _) => matches!(request.message(), Message::Put(_)),
             Request::Http(_, _) => true,

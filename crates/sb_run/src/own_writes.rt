@@ -57,7 +57,7 @@ impl<L: WriteLog> OwnWrites<L> {
     pub fn new(log: L) -> OwnWrites<L>
         ensures log { result.log ≡ log }
         ensures owed { result.owed ≡ None }
-        ensures calm { (result.stored ≡ None) × (result.has_failed ≡ false) }
+        ensures calm { (result.stored ≡ None) × (result.has_failed ≡ false) × (result.was_full ≡ false) }
     {
         OwnWrites {
             log,
@@ -93,7 +93,7 @@ impl<L: WriteLog> OwnWrites<L> {
     /// The version of the last write that the log took, or that was handed in, since this was last asked; none if there was none.
     pub(crate) fn take_stored(&mut self) -> Option<u64>
         ensures stored { (result ≡ self.old.stored) × (self.new.stored ≡ None) }
-        ensures same { (self.new.log ≡ self.old.log) × (self.new.owed ≡ self.old.owed) × (self.new.has_failed ≡ self.old.has_failed) }
+        ensures same { (self.new.log ≡ self.old.log) × (self.new.owed ≡ self.old.owed) × (self.new.has_failed ≡ self.old.has_failed) × (self.new.was_full ≡ self.old.was_full) }
     {
         self.stored.take()
     }
@@ -101,7 +101,7 @@ impl<L: WriteLog> OwnWrites<L> {
     /// Whether a fault of its store closed the log since this was last asked.
     pub(crate) fn take_failure(&mut self) -> bool
         ensures failed { (result ≡ self.old.has_failed) × (self.new.has_failed ≡ false) }
-        ensures same { (self.new.log ≡ self.old.log) × (self.new.owed ≡ self.old.owed) × (self.new.stored ≡ self.old.stored) }
+        ensures same { (self.new.log ≡ self.old.log) × (self.new.owed ≡ self.old.owed) × (self.new.stored ≡ self.old.stored) × (self.new.was_full ≡ self.old.was_full) }
     {
         let has_failed = self.has_failed;
         self.has_failed = false;
@@ -136,6 +136,9 @@ impl<L: WriteLog> OwnWrites<L> {
         ensures failed { self.new.has_failed ≡ true → (self.old.has_failed ≡ true) ⊎ (result ≡ Err Fault.StoreFailed) }
         ensures fails { result ≡ Err Fault.StoreFailed → self.new.has_failed ≡ true }
         ensures full { result ≡ Err Fault.TableFull → self.new.was_full ≡ true }
+        // It counts for no other reason, and is not forgotten.
+        ensures only_full { self.new.was_full ≡ true → (self.old.was_full ≡ true) ⊎ (result ≡ Err Fault.TableFull) }
+        ensures still_full { self.old.was_full ≡ true → self.new.was_full ≡ true }
         // One that was open and is closed now has failed.
         ensures closes { (L.seen self.old.log).is_open ≡ true → (L.seen self.new.log).is_open ≡ false → self.new.has_failed ≡ true }
     {
@@ -158,7 +161,7 @@ impl<L: WriteLog> OwnWrites<L> {
         seat: &mut ReaderSeat<S>,
     ) -> Result<(), Fault>
         ensures log { self.new.log ≡ self.old.log }
-        ensures same { self.new.has_failed ≡ self.old.has_failed }
+        ensures same { (self.new.has_failed ≡ self.old.has_failed) × (self.new.was_full ≡ self.old.was_full) }
         // What is handed in is news.
         ensures news { OnOk result (self.new.stored ≡ news_after self.old.owed self.old.stored) }
         ensures unstored { OnErr result (self.new.stored ≡ self.old.stored) }
@@ -210,6 +213,8 @@ impl<L: WriteLog> OwnWrites<L> {
         // Where only what was owed is handed in, that is the news.
         ensures news { OnErr result ((self.new.stored ≡ self.old.stored) ⊎ ((self.new.owed ≡ None) × (self.new.stored ≡ news_after self.old.owed self.old.stored))) }
         ensures failed { self.new.has_failed ≡ true → (self.old.has_failed ≡ true) ⊎ (result ≡ Err Fault.StoreFailed) }
+        ensures only_full { self.new.was_full ≡ true → (self.old.was_full ≡ true) ⊎ (result ≡ Err Fault.TableFull) }
+        ensures still_full { self.old.was_full ≡ true → self.new.was_full ≡ true }
         ensures closes { (L.seen self.old.log).is_open ≡ true → (L.seen self.new.log).is_open ≡ false → self.new.has_failed ≡ true }
     {
         self.hand_in(rt, directory, seat)?;
@@ -230,7 +235,7 @@ impl<L: WriteLog> OwnWrites<ClosableLog<L>> {
     pub(crate) fn close_log(&mut self, cause: StoreCause)
         ensures closed { self.new.log.closed_by ≡ Some cause }
         ensures log { self.new.log.log ≡ self.old.log.log }
-        ensures same { (self.new.owed ≡ self.old.owed) × (self.new.stored ≡ self.old.stored) × (self.new.has_failed ≡ self.old.has_failed) }
+        ensures same { (self.new.owed ≡ self.old.owed) × (self.new.stored ≡ self.old.stored) × (self.new.has_failed ≡ self.old.has_failed) × (self.new.was_full ≡ self.old.was_full) }
     {
         self.log.close_by(cause);
     }

@@ -1,8 +1,8 @@
 //! Whom to dial next, and the rounds that were made: what the threads that dial share, under one lock.
-ghost use Rattle.std.specs.Prelude.{◌≡◌, true, false, None, IfSome, MatchOption, IfOk, IfErr, ◌+◌, slice_get, vec_len, replicate};
+ghost use Rattle.std.specs.Prelude.{◌≡◌, true, false, None, IfSome, MatchOption, IfOk, IfErr, ◌+◌, nat_lt, slice_get, vec_len, replicate};
 ghost use Rattle.sb_run.specs.Deliveries as spec;
 ghost use Rattle.sb_run.specs.StatusReplies.{have_had_rounds};
-ghost use Rattle.sb_run.specs.Turns.{turn_of};
+ghost use Rattle.sb_run.specs.Turns.{turn_of, number_of_state};
 
 use crate::bell::Bell;
 use crate::dialer::{has_come, moment_after};
@@ -216,12 +216,16 @@ impl<'a> Schedule<'a> {
     }
 
     /// Notes that there is news for the peer at this index.
-    pub(crate) fn expect(&mut self, index: usize) {
+    pub(crate) fn expect(&mut self, index: usize)
+        ensures { spec.Changes index spec.with_news self.old.deliveries.all.items self.new.deliveries.all.items }
+    {
         self.deliveries.expect(index);
     }
 
     /// Ends a session for news with a peer that was not dialed.
-    pub(crate) fn leave_out(&mut self, index: usize) {
+    pub(crate) fn leave_out(&mut self, index: usize)
+        ensures { spec.Changes index spec.left_out self.old.deliveries.all.items self.new.deliveries.all.items }
+    {
         self.deliveries.leave_out(index);
     }
 
@@ -232,7 +236,10 @@ impl<'a> Schedule<'a> {
         index: usize,
         end: SessionEnd,
         observer: &O,
-    ) -> bool {
+    ) -> bool
+        ensures delivery { spec.Changes index (spec.ended end.is_slow) self.old.deliveries.all.items self.new.deliveries.all.items }
+        ensures counts { self.new.counts ≡ self.old.counts }
+    {
         self.deliveries.end(index, end.is_slow);
         if self
             .peers
@@ -251,7 +258,10 @@ impl<'a> Schedule<'a> {
         cause: Cause,
         end: SessionEnd,
         observer: &O,
-    ) -> bool {
+    ) -> bool
+        ensures delivery { spec.Changes index (spec.after_round_by cause end.is_slow) self.old.deliveries.all.items self.new.deliveries.all.items }
+        ensures counts { self.new.counts ≡ spec.with_round (nat_lt 0 (number_of_state end.state)) self.old.counts }
+    {
         self.count_round(end.state.has_fault());
         let round = self.counts.ended;
         match cause {
@@ -268,7 +278,11 @@ impl<'a> Schedule<'a> {
     }
 
     /// Counts a round that has ended, with a fault or not.
-    pub(crate) fn count_round(&mut self, has_fault: bool) {
+    pub(crate) fn count_round(&mut self, has_fault: bool)
+        ensures counts { self.new.counts ≡ spec.with_round has_fault self.old.counts }
+        ensures begun { self.new.begun ≡ self.old.begun }
+        ensures deliveries { self.new.deliveries ≡ self.old.deliveries }
+    {
         self.counts.ended = self.counts.ended.saturating_add(1);
         if has_fault {
             self.counts.faults = self.counts.faults.saturating_add(1);
@@ -276,7 +290,9 @@ impl<'a> Schedule<'a> {
     }
 
     /// How many rounds had a fault, once all that are to be made have ended.
-    pub(crate) fn faults_if_done(&self) -> Option<u64> {
+    pub(crate) fn faults_if_done(&self) -> Option<u64>
+        ensures { result ≡ spec.faults_if_done self.now.most self.now.counts }
+    {
         if self.most != 0 && self.counts.ended >= self.most {
             Some(self.counts.faults)
         } else {
