@@ -8,7 +8,7 @@ while True:
         if not pid.isdigit(): continue
         try:
             words = open(f"/proc/{pid}/cmdline", "rb").read().split(b"\0")
-            if not (words[0].endswith(b"python3") and len(words) > 1 and words[1].endswith(b"rt_lanes.py")): continue
+            if not (words[0].endswith(b"python3") and len(words) > 1 and words[1].endswith((b"rt_lanes.py", b"rt_lanes_ne.py"))): continue
             stat = open(f"/proc/{pid}/stat").read(); f = stat[stat.rindex(")") + 2:].split()
             last[pid] = b" ".join(words[2:]).decode(), (int(f[11]) + int(f[12]) + int(f[13]) + int(f[14])) / TICKS
         except (OSError, ValueError, IndexError): pass
