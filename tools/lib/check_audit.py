@@ -163,8 +163,7 @@ def no_false_alarm(check):
     awaits(folder / "a.prom", "a", calm, audits)
     peer.awaits("the new rows", lambda found: len(found) == 1)
     node.kill()
-    for end in ("", "-wal"):
-        node.log.with_name(node.log.name + end).unlink(missing_ok=True)
+    node.lose()
     words = ["--log", str(node.log), "--name", "a", "--cluster", "c", "--from", str(peer.sock), "--from-control", str(peer.control)]
     want("a restored log", run(check.program, "restore", *words)[0], 0)
     node.start()

@@ -1,4 +1,5 @@
-"""The parts of tools/check-node that look at `begin` and `restore`: at what they take and refuse, at a node whose log is lost, and at a name that is to end."""
+"""The parts of tools/check-node that look at `begin` and `restore`: at what they take and refuse, at a node whose log is lost or replaced, and at a name
+that is to end."""
 import contextlib
 import fcntl
 import os
@@ -90,7 +91,7 @@ def lost_log(check):
     for node in (peer, far):
         node.awaits("the rows of a", lambda found: found == rows)
     lost.kill()
-    lost.log.unlink()
+    lost.lose()
     want_fault("a node that is not there", begin(check, lost, "--from", lost.sock), 16, "no node could be reached")
     want_fault("the name of the node that is asked", begin(check, lost, "--from", peer.sock, name="b"), 24)
     want_fault("a name of which nothing was heard", begin(check, lost, "--from", peer.sock, name="zz"), 9, "heard nothing of this name")
@@ -125,7 +126,7 @@ def ended_name(check):
         node.awaits("the rows", lambda found: found == rows)
     first.kill()
     away.kill()
-    ended.log.unlink()
+    ended.lose()
     want("what begin prints", begin(check, ended, "--after", 5000), (0, "begun 5000\n", []))
     ended.start()
     want("its end", ended.ended()[0], 0)
@@ -134,7 +135,7 @@ def ended_name(check):
     away.awaits("that its rows go", lambda found: found == ["b kept 1 weight 7"])
     owners = run(check.program, "owners", "--sock", str(peer.sock), "--cluster", "c")[1]
     want("how far the name is held", owners, "b 1\nold 5000\n")
-    ended.log.unlink()
+    ended.lose()
     want("what begin prints of the greatest version", begin(check, ended, "--after", GREATEST)[:2], (0, f"begun {GREATEST}\n"))
     want("its end", ended.start().ended()[0], 0)
     want_fault("a log for which no version is left", begin(check, ended, "--from", peer.sock, log=ended.log.with_name("none.log")), 5, "1,048,576")
@@ -157,7 +158,7 @@ def without_a_gap(check):
     versions = lambda: [int(it.split()[2]) for it in peer.get("--owner", "a")]
     peer.awaits("the rows of a", lambda _: versions() == list(range(1, count + 1)))
     lost.kill()
-    lost.log.unlink()
+    lost.lose()
     lines = "".join(f"{it.split(' ', 3)[1]} {it.split(' ', 3)[3]}\n" for it in peer.get("--owner", "a"))
     want("what begin prints", begin(check, lost, "--from", peer.sock), (0, f"begun {count + MORE}\n", []))
     quiet = check.node("a", folder=folder)
@@ -259,8 +260,7 @@ def restored_log(check):
     peer.awaits("the rows of a", lambda _: versions() == list(range(1, count + 1)))
     lost.kill()
     values = [it.split(" ", 3)[1::2] for it in peer.get("--owner", "a")]
-    for end in ("", "-wal"):
-        lost.log.with_name(lost.log.name + end).unlink()
+    lost.lose()
     words = ["restore", "--log", str(lost.log), "--name", "a", "--cluster", "c", "--from", str(peer.sock), "--from-control", str(peer.control)]
     for turn in range(20):
         ran = subprocess.Popen([check.program, *words], stdout=subprocess.DEVNULL, stderr=subprocess.DEVNULL)
@@ -288,4 +288,48 @@ def restored_log(check):
     peer.awaits("the next write", lambda found: f"a new {2 * count + MORE + 1} weight 1" in found)
 
 
-PARTS = (begin_words, lost_log, without_a_gap, ended_name, restore_words, restored_log)
+def replaced_log(check):
+    """A log whose file was moved, with an empty file in its place, and later with none: each command refuses it, and changes no byte. Once the file is
+    back, each write that was answered is there, and the node goes on. Once its -wal is gone too, an empty file is a new log."""
+    folder = check.folder()
+    peer = check.node("b", folder=folder).start()
+    node = check.node("a", folder=folder, peers=[peer.sock]).start()
+    want("writes", [node.put("x", 1), node.put("y", 2), node.put("x", 3)], [1, 2, 3])
+    want("a removal", node.command("del", "y"), (0, "version 4\n", ""))
+    peer.awaits("the rows of a", lambda found: found == ["a x 3 weight 3"])
+    moved, wal, link = folder / "moved.log", folder / "a.log-wal", folder / "link"
+    node.log.rename(moved)
+    node.log.touch()
+    link.symlink_to(node.log)
+    want("a write once it was replaced", node.command("set", "z", "weight", "5")[2].splitlines()[:1], ["fault 15"])
+    node.kill()
+    kept = wal.read_bytes()
+    commands = [node.words()[1:]]
+    for path, name, *words in (
+        (node.log, "log"), (link, "log"), (node.log, "purge", "--all"), (node.log, "begin", "--after", "9000"),
+        (node.log, "restore", "--from", str(peer.sock), "--from-control", str(peer.control)),
+    ):
+        commands.append([name, "--log", str(path), "--name", "a", "--cluster", "c", *words])
+    for text, content in (("the file of the log is empty, but a file of its name with -wal has writes", b""), ("no such log, but a file of its name with -wal", None)):
+        for words in commands:
+            status, printed, said = run(check.program, *words)
+            want_fault(f"{words[:3]}, if {text}", (status, printed, said.splitlines()), 18, text)
+            want(f"the file after {words[:3]}", node.log.read_bytes() if node.log.exists() else None, content)
+            want(f"whether the -wal is as it was after {words[:3]}", wal.read_bytes() == kept, True)
+        want("the files beside it", files_of(node.log)[-1:], ["a.log-wal"])
+        node.log.unlink(missing_ok=True)
+        # (a link that leads nowhere is no log)
+        commands = [it for it in commands if str(link) not in it]
+    moved.rename(node.log)
+    want("what its log holds", lines_of(check, node), "a x 3 weight 3\na y 4 removed -\nlast 4\n")
+    node.start()
+    want("the next write", node.put("z", 5), 5)
+    peer.awaits("the rows of a", lambda found: found == ["a x 3 weight 3", "a z 5 weight 5"])
+    node.kill()
+    node.log.rename(moved)
+    node.log.touch()
+    wal.rename(folder / "moved.log-wal")
+    want("what an empty file holds", lines_of(check, node), "last 0\n")
+
+
+PARTS = (begin_words, lost_log, without_a_gap, ended_name, restore_words, restored_log, replaced_log)

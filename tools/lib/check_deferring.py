@@ -52,7 +52,7 @@ def refused_by_depth(check):
     await_row(reader, reader, "z x 1 weight 7")
     reader.kill()
     reader.peers = ()
-    reader.log.unlink()
+    reader.lose()
     reader.log.touch()
     sender.kill()
     served = reader.start()

@@ -76,7 +76,7 @@ def forgotten_by_all(check):
     for node in nodes:
         node.awaits("the rows of w", lambda found: sum(it.startswith("w ") for it in found) == 2)
     dead.kill()
-    dead.log.unlink()
+    dead.lose()
     ended = run(check.program, "begin", "--log", str(dead.log), "--name", "w", "--cluster", "c", "--after", "5000")
     want("the end of the name", ended[:2], (0, "begun 5000\n"))
     dead.options = (*OFTEN, "--rounds", "3")
@@ -105,8 +105,7 @@ def forgotten_by_all(check):
     # the name is free: it starts anew, with an empty log
     for node in (*nodes, writer):
         start_again(node)
-    for end in ("", "-wal"):
-        dead.log.with_name(dead.log.name + end).unlink(missing_ok=True)
+    dead.lose()
     dead.log.touch()
     dead.options = OFTEN
     want("its first write", dead.start().put("new", 7), 1)

@@ -83,8 +83,12 @@ def full_disks_at_a_start(check):
 
 
 def lost_logs(check):
-    """A node whose log is removed or replaced says so once, and takes no more writes, or ends."""
-    for cause, lose in ("removed", lambda log: log.unlink()), ("replaced", lambda log: (log.unlink(), log.touch())):
+    """A node whose log is removed, replaced or emptied says so once, and takes no more writes, or ends."""
+    for cause, lose in (
+        ("removed", lambda log: log.unlink()),
+        ("replaced", lambda log: (log.unlink(), log.touch())),
+        ("replaced", lambda log: log.write_bytes(b"")),
+    ):
         folder = check.folder()
         path = folder / "a.prom"
         node = check.node("a", "--pause", "50", "--metrics", str(path), folder=folder).start()

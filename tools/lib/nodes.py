@@ -262,6 +262,11 @@ class Node:
         printed = run(self.program, "log", "--log", str(self.log), "--name", self.name, "--cluster", "c")[1]
         return int(printed.split()[-1]) if printed else 0
 
+    def lose(self):
+        """Removes both files of its log, while it does not run."""
+        for end in ("", "-wal"):
+            self.log.with_name(self.log.name + end).unlink(missing_ok=True)
+
     def purge(self, floor="--all"):
         """Purges its log, while it does not run: the version that was printed."""
         found = run(self.program, "purge", "--log", str(self.log), "--name", self.name, "--cluster", "c", str(floor))

@@ -307,7 +307,7 @@ class Storm(Nodes):
         more = ["slow-callers-answered", "polls-that-waited", "polls-at-once", "lines-of-watches", "watches-that-agreed", "beats-read", "runs-that-forget", "restores", "rows-restored"]
         more += ["twins", "twins-told", "twins-told-by-audits", "twins-healed"] if self.given.audit else []
         more += ["keys-used-once", "keys-used-once-removed", "purges-while-running"] if self.given.purge_removals else []
-        self.print_counts("restores-put-off", "writes-beside-twins", *more)
+        self.print_counts("restores-put-off", "restores-given-again", "writes-beside-twins", *more)
         for what, times in sorted(self.tally.times.items()):
             if len(times) > 1:
                 for name, of_hundred in (("median", 50), ("95th", 95)):

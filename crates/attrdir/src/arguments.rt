@@ -49,6 +49,7 @@ fn control<'a>(alloc: Global, part: &Part, help: &'a str, fallback: Option<&'a s
     }
 }
 
+/// An option or a word. `fallback` is the default of a control socket. `NoMemory`.
 fn arg_of<'a>(
     alloc: Global,
     part: &Part,
@@ -87,7 +88,7 @@ fn arg_of<'a>(
     })
 }
 
-/// A command with its options and words, whose help comes next in `texts`.
+/// A command with its options and words, whose help comes next in `texts`. `NoMemory`.
 fn command_of<'a>(
     alloc: Global,
     task: &Task,
@@ -108,7 +109,7 @@ fn command_of<'a>(
 }
 
 /// The command line that the program takes, with these texts of `help_texts`. If no control socket is given, `fallback` is
-/// its path.
+/// its path. `NoMemory`.
 pub(crate) fn command<'a>(
     alloc: Global,
     texts: &'a [String],

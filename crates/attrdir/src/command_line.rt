@@ -430,7 +430,7 @@ fn tell(rt: &HostRuntime, error: &clap::Error) -> Result<u8, Fault> {
 }
 
 /// Runs these words as a command line, except that it does not run a node. `texts` are those of `help_texts`. If no control
-/// socket is given, `fallback` is its path.
+/// socket is given, `fallback` is its path. `NoMemory`; `WriteFailed` of the help; the faults of the command.
 pub(crate) fn follow<'a>(
     rt: &HostRuntime,
     words: &'a [String],

@@ -1,4 +1,7 @@
-//! What a node that runs says on standard error.
+//! What a node that runs prints on standard error.
+ghost use Rattle.std.specs.Prelude.{◌≡◌, ◌*◌, ◌^◌, ◌<◌};
+ghost use Rattle.attrdir.specs.Shortages as spec;
+
 use crate::differences::DifferenceWords;
 use crate::log_watch::LogWatch;
 use crate::metrics::{Metrics, Series};
@@ -61,7 +64,7 @@ impl fmt::Display for LastFault {
     }
 }
 
-/// Says on standard error what a node meets, each thing in a line.
+/// Prints on standard error what a node meets, each thing in a line.
 #[derive(Drop)]
 pub(crate) struct Console<'r, 'a> {
     pub(crate) rt: &'r HostRuntime,
@@ -111,12 +114,14 @@ impl Shortage {
 }
 
 /// Whether so many of at most so many are nine tenths or more.
-fn is_nearly(count: usize, most: usize) -> bool {
+fn is_nearly(count: usize, most: usize) -> bool
+    ensures { most * 9 < 2 ^ 64 → result ≡ spec.is_nearly count most }
+{
     count.saturating_mul(10) >= most.saturating_mul(9)
 }
 
 impl Console<'_, '_> {
-    /// The time, in milliseconds.
+    /// The time to the millisecond, if lines are to have it and the clock can be read.
     fn time(&self) -> Option<Timestamp> {
         if !self.has_time {
             return None;
@@ -132,7 +137,7 @@ impl Console<'_, '_> {
         }
     }
 
-    /// Says once that nine tenths of something are used, if that is so.
+    /// Prints once that nine tenths of something are used, if that is so.
     fn warn(&self, was_said: &AtomicBool, what: &str, count: usize, most: usize) {
         if is_nearly(count, most) && !was_said.swap(true, Ordering::SeqCst) {
             let (rt, head) = (self.rt, self.head(Level::Warning));
@@ -143,7 +148,7 @@ impl Console<'_, '_> {
         }
     }
 
-    /// Says once that all of something are used, if that is so, and what follows of it.
+    /// Prints once that all of something are used, if that is so, and what follows of it.
     fn say_used_up(&self, was_said: &AtomicBool, what: &str, count: usize, most: usize) {
         if count >= most && !was_said.swap(true, Ordering::SeqCst) {
             let (rt, head) = (self.rt, self.head(Level::Error));
@@ -154,7 +159,7 @@ impl Console<'_, '_> {
         }
     }
 
-    /// Says of what little is left, and of what nothing.
+    /// Prints that nine tenths of the keys or of the owners are used, and that all are, each once.
     fn report_shortages(&self, keys: usize, owners: usize) {
         let shortage = &self.shortage;
         self.warn(&shortage.keys, "keys", keys, KEYS_MOST);
@@ -212,7 +217,7 @@ impl Console<'_, '_> {
         );
     }
 
-    /// Writes the file of metrics, and says when it can't be written, and when it can again.
+    /// Writes the file of metrics. Prints that it cannot be written, and that it can again.
     fn write_metrics(&self, file: &MetricsFile<'_>, metrics: &Metrics<'_, '_>) {
         let rt = self.rt;
         let written = file.write(rt, metrics);
@@ -234,7 +239,7 @@ impl Console<'_, '_> {
         }
     }
 
-    /// Removals of the log went before the node starts.
+    /// Prints that removals of the log were dropped before the node starts.
     pub(crate) fn purged(&self, dropped: DroppedRemovals) {
         let (rt, head) = (self.rt, self.head(Level::Info));
         let _ = eprintln!(rt;
@@ -243,13 +248,13 @@ impl Console<'_, '_> {
         );
     }
 
-    /// The log failed when its removals were to be dropped.
+    /// Prints that the log failed when its removals were to be dropped.
     pub(crate) fn not_purged(&self) {
         let (rt, head) = (self.rt, self.head(Level::Warning));
         let _ = eprintln!(rt; "{head} log {}: its removals could not be purged", self.log);
     }
 
-    /// The node ended after its last round.
+    /// Prints that the node ended after its last round.
     pub(crate) fn ended(&self) {
         let (rt, head) = (self.rt, self.head(Level::Info));
         let _ = eprintln!(rt; "{head} node {}: ended after its last round", self.name);

@@ -107,7 +107,7 @@ The file has to exist. An empty file becomes a new log. A fault ends the command
   1       no memory
   2       a name
   17      the lines cannot be written
-  18      the file does not exist, cannot be read or written, or is open in another process
+  18      the file does not exist, cannot be read or written, or is open in another process; or it is empty, and FILE-wal has writes
   19      the file is not a log of this release, or it is damaged
   20      the log belongs to another owner or cluster
 
@@ -130,7 +130,7 @@ The file has to exist. An empty file becomes a new log. A fault ends the command
   1       no memory
   2       a name
   17      the line cannot be written
-  18      the file does not exist, cannot be read or written, or is open in another process
+  18      the file does not exist, cannot be read or written, or is open in another process; or it is empty, and FILE-wal has writes
   19      the file is not a log of this release, or it is damaged
   20      the log belongs to another owner or cluster
   30      FLOOR is above the last version
@@ -161,8 +161,8 @@ text, and what to do:
   5, 8    no version is left
   9       the node at --from heard nothing of the name, or the one at --from-control shows no row of it
   17      the line cannot be written; the log is there
-  18      the file cannot be read or written, is open in another process, or is a link; or FILE-wal is there, and no FILE; or another process restores
-          a log in the same folder
+  18      the file cannot be read or written, is open in another process, or is a link; or FILE-wal has writes, and FILE is empty or missing; or another
+          process restores a log in the same folder
   19      the file is not a log of this release, or it is damaged
   20      the log belongs to another owner or cluster
   31      the log has writes, or was made by `begin`
@@ -192,7 +192,7 @@ A fault ends the command. Standard error has `fault N`, its text, and what to do
   5       V is outside 1 to 1099511627775
   9       the node at PATH heard nothing of the name
   17      the line cannot be written
-  18      the file cannot be read or written, or is open in another process
+  18      the file cannot be read or written, or is open in another process; or FILE-wal has writes, and FILE is empty or missing
   19      the file is not a log of this release, or it is damaged
   20      the log belongs to another owner or cluster
   31      the log has writes, or was made by `begin` before
@@ -236,7 +236,7 @@ A fault of a connection ends that connection alone, and is counted. Another faul
   5       a setting
   16      a socket cannot be made, or the path of a peer cannot be that of a socket
   17      the last line cannot be written, or the path of metrics is taken
-  18      the log does not exist, cannot be read or written, or is open in another process
+  18      the log does not exist, cannot be read or written, or is open in another process; or it is empty, and FILE-wal has writes
   19      the file is not a log of this release, or it is damaged
   20      the log belongs to another owner or cluster
 

@@ -40,12 +40,15 @@ impl<'a> LogWatch<'a> {
         }
     }
 
-    /// How the file was lost; none if it is at its path, or if that cannot be seen.
+    /// How the file was lost; none if it is at its path, or if that cannot be seen. An open log has at least one byte, so an empty
+    /// file is another one, or was emptied.
     pub(crate) fn loss(&self, rt: &HostRuntime) -> Option<LogLoss> {
         let opened = self.opened?;
         match metadata(rt, self.path) {
-            Ok(found) if FileNumbers::of(&found) == opened => None,
-            Ok(_) => Some(LogLoss::Replaced),
+            Ok(found) if FileNumbers::of(&found) != opened || found.len() == 0 => {
+                Some(LogLoss::Replaced)
+            }
+            Ok(_) => None,
             Err(error) => match error.kind() {
                 ErrorKind::NotFound | ErrorKind::NotADirectory => Some(LogLoss::Removed),
                 _ => None,

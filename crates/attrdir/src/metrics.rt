@@ -143,7 +143,7 @@ const AUDITS: Metric = Metric {
 const LOG_OPEN: Metric = Metric {
     name: "attrdir_log_open",
     kind: "gauge",
-    help: "1 where its log takes writes, else 0.",
+    help: "1 if its log takes writes, else 0.",
 };
 
 const LOG_FAULT: Metric = Metric {
@@ -155,7 +155,7 @@ const LOG_FAULT: Metric = Metric {
 const NAME_CONFLICT: Metric = Metric {
     name: "attrdir_name_conflict",
     kind: "gauge",
-    help: "1 where another node writes under its name, else 0.",
+    help: "1 if another node writes under its name, else 0.",
 };
 
 const VERSION_FALLS: Metric = Metric {
@@ -227,7 +227,7 @@ const ROWS: Metric = Metric {
 const PEER_UP: Metric = Metric {
     name: "attrdir_peer_up",
     kind: "gauge",
-    help: "1 where the last round with a peer was made to its end, else 0.",
+    help: "1 if the last round with a peer was made to its end, else 0.",
 };
 
 const PEER_FAULT: Metric = Metric {

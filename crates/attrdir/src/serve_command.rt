@@ -1,4 +1,7 @@
 //! The options of `serve`, and what the command line gives for a node. They are described as those in `commands.rt`.
+ghost use Rattle.std.specs.Prelude.{◌≡◌, ◌+◌, ◌^◌, ◌<◌};
+ghost use Rattle.attrdir.specs.Seats as spec;
+
 use crate::commands::{Task, first_outside};
 use crate::help;
 use crate::metrics::Series;
@@ -336,7 +339,9 @@ pub(crate) fn serve_arguments<'a>(
 
 /// How many seats so many workers, sessions for news and connections over HTTP have use for: two more. It is not more than there may
 /// be.
-fn seats_for(workers: u64, fanout: u64, http: u64) -> u64 {
+fn seats_for(workers: u64, fanout: u64, http: u64) -> u64
+    ensures { workers + 2 + fanout + http < 2 ^ 64 → result ≡ spec.seats_for workers fanout http }
+{
     let least = workers.saturating_add(2);
     let wanted = least.saturating_add(fanout).saturating_add(http);
     least.max(wanted.min(SEATS_MOST))

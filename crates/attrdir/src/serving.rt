@@ -1,4 +1,6 @@
 //! The command that runs a node.
+ghost use Rattle.std.specs.Prelude.{◌≡◌, ◌≢◌, ◌*◌, ◌^◌, ◌<◌, None, IfOk, IfSome, IsSome};
+
 use crate::console::{Console, Shortage};
 use crate::log_watch::LogWatch;
 use crate::metrics::Series;
@@ -258,7 +260,11 @@ fn forgotten_of<'a>(
 }
 
 /// The beat of a node, if it has one. `BadKey` if its word is not a key.
-fn beat_of<'a>(given: &ServeArguments<'a>) -> Result<Option<Beat>, Failure<'a>> {
+fn beat_of<'a>(given: &ServeArguments<'a>) -> Result<Option<Beat>, Failure<'a>>
+    ensures pause { IfOk result (λ beat. IfSome beat (λ b. given.now.beat * 1_000 < 2 ^ 64 → b.pause ≡ given.now.beat * 1_000)) }
+    ensures none { given.now.beat ≡ 0 → IfOk result (λ beat. beat ≡ None) }
+    ensures some { given.now.beat ≢ 0 → IfOk result (λ beat. IsSome beat) }
+{
     let word = given.beat_key;
     let Ok(key) = Key::read(word.as_bytes()) else {
         return Err(Failure::at(FaultPlace::Word("--beat-key", word), Fault::BadKey));
@@ -353,7 +359,8 @@ fn place_of_seats(workers: u64, has_http: bool) -> FaultPlace<'static> {
 /// Runs a node. The faults before it opens the log, in this order:
 ///
 /// - `BadName` of its name.
-/// - `BadSetting`, also for too few seats, for an address that is not one for HTTP, and for a name that it cannot forget.
+/// - `BadSetting`, also for too few seats, for an address that is not one for HTTP, and for a name that it cannot forget;
+///   `NoMemory`.
 /// - `BadKey` of the key of its beat.
 /// - `ReadFailed` if the path of a peer cannot be that of a socket.
 /// - `WriteFailed` if metrics would replace something else.

@@ -171,9 +171,13 @@ impl Talk {
     }
 }
 
-/// Makes a new node that asks until an exchange brings it nothing more of the `all` entries. Returns how many entries,
-/// frames and bytes went over the pipes.
-fn catch_up(alloc: Global, full: &mut NodeCore, all: u64) -> Result<(u64, u64, u64), Fault> {
+/// Makes a new node that asks until an exchange brings it nothing more of the `all` entries. Returns the node, and how
+/// many entries, frames and bytes went over the pipes.
+fn catch_up(
+    alloc: Global,
+    full: &mut NodeCore,
+    all: u64,
+) -> Result<(NodeCore, (u64, u64, u64)), Fault> {
     let mut core = new_node(alloc, ME)?;
     let mut talk = Talk::new(alloc, &core, full);
     talk.greet()?;
@@ -182,10 +186,12 @@ fn catch_up(alloc: Global, full: &mut NodeCore, all: u64) -> Result<(u64, u64, u
             break;
         }
     }
-    Ok(talk.went())
+    let went = talk.went();
+    Ok((core, went))
 }
 
-/// Measures how a node that holds nothing catches up with one that holds these blocks, in one session.
+/// Measures how a node that holds nothing catches up with one that holds these blocks, in one session. The time is read
+/// before the node is dropped.
 pub(crate) fn measure(
     rt: &HostRuntime,
     plan: Plan,
@@ -202,10 +208,10 @@ pub(crate) fn measure(
     };
     for _ in 0..plan.rounds {
         let start = rt.thread_cpu_time()?;
-        let (entries, frames, bytes) = catch_up(alloc, &mut full, all)?;
-        caught
-            .entries
-            .add(Measured::new(spent_since(rt, start)?, entries));
+        let (core, (entries, frames, bytes)) = catch_up(alloc, &mut full, all)?;
+        let spent = spent_since(rt, start)?;
+        drop(core);
+        caught.entries.add(Measured::new(spent, entries));
         caught.frames = caught.frames.saturating_add(frames);
         caught.bytes = caught.bytes.saturating_add(bytes);
     }

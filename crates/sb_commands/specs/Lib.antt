@@ -1,5 +1,6 @@
 pub mod Keeping
 pub mod Lines
+pub mod LogFiles
 pub mod Beginning
 pub mod Care
 pub mod Rendering

@@ -1,5 +1,5 @@
 //! What to do about a fault, in one line that comes after its place.
-use crate::failure::{FaultPlace, Obstacle};
+use crate::failure::{FaultPlace, InputLine, Obstacle};
 use sb_log::StoreCause;
 use sb_types::Fault;
 
@@ -107,7 +107,11 @@ fn about_store(place: FaultPlace<'_>) -> &'static str {
         FaultPlace::LinkedLog(_) => "give the path of the file itself",
         FaultPlace::BusyFolder(_) => "wait until that process ends, and give the command again",
         FaultPlace::OldWal(_) => {
-            "it belongs to the log that is lost: see that the path is right, move this file away, and give the command again"
+            "it has writes of that log: see that the path is right, and move the log back; if it is lost, move the file with -wal away, and give the command again"
+        }
+        FaultPlace::EmptyLog(_) => {
+            "these are writes of the log that was here before: move that file back; if it is lost, see RUNBOOK, A removed log; if nobody wants these writes, \
+move the file with -wal away, and give the command again"
         }
         FaultPlace::Node(_) => {
             "the node could not write its log, and takes no more writes: its line on standard error says why; before you start it again, \
@@ -164,11 +168,27 @@ see RUNBOOK, A full disk, or A removed log"
     }
 }
 
+/// What to do about a line of standard input that has no value after its key.
+fn about_input(line: InputLine) -> &'static str {
+    match line {
+        InputLine::Return => {
+            "the line ends with a carriage return, \\0d: end each line with a newline alone"
+        }
+        InputLine::Text => {
+            "a text has 1 to 512 bytes; write a backslash as \\5c and a newline as \\0a"
+        }
+        InputLine::Other => {
+            "give a kind and a word, for example addr 10.0.0.1:80, weight 5, flag true or text zone b"
+        }
+    }
+}
+
 fn about_value(place: FaultPlace<'_>) -> &'static str {
     match place {
         FaultPlace::Value("text", _) => {
             "a text has 1 to 512 bytes; write a backslash as \\5c and a newline as \\0a, or give --raw"
         }
+        FaultPlace::Input(line) => about_input(line),
         _ =>
             "give a kind and a word, for example addr 10.0.0.1:80, weight 5, flag true or text 'zone b'",
     }

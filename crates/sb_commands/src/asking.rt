@@ -26,7 +26,7 @@ pub(crate) const READS_OF_ONE: u64 = 65_536;
 /// After how many seconds without a byte a request is given up.
 pub(crate) const LONGEST_SILENCE: u64 = 60;
 
-/// Makes a connection fail if no byte moves for too long.
+/// Makes a read or a write of a connection fail if no byte moves for a minute. An error if the system does not set that.
 pub(crate) fn limit(stream: &UnixStream) -> io::Result<()> {
     let longest = Some(Duration::from_secs(LONGEST_SILENCE));
     stream.set_read_timeout(longest)?;
@@ -52,7 +52,7 @@ pub(crate) fn is_silent(stream: &UnixStream) -> bool {
     }
 }
 
-/// Sends one request over a connection, and returns its answer.
+/// Sends one request over a connection, and returns its answer. The faults of `ask_control`.
 fn request_answer<K: Ledger>(
     alloc: Global,
     stream: &UnixStream,
@@ -111,7 +111,7 @@ fn answer_over<'a>(
     }
 }
 
-/// The failure if an answer is not the one to the request.
+/// The failure if an answer is not the one to the request: the fault by which the node refused, or `UnknownKind`.
 pub(crate) fn unanswered<'a>(control: &'a str, reason: NoAnswer) -> Failure<'a> {
     match reason {
         NoAnswer::Refused(fault) => Failure::at(FaultPlace::Node(control), fault),
@@ -122,8 +122,8 @@ pub(crate) fn unanswered<'a>(control: &'a str, reason: NoAnswer) -> Failure<'a> 
     }
 }
 
-/// A connection over which the node reports the next change, which it notes from here on. Whatever comes over it next says
-/// that something may have changed. The faults of `answer_of`; the node's refusal.
+/// A connection over which the node reports the next change, which it notes from here on. Whatever comes over it next means
+/// that something may have changed. The faults of `answer_of` and of `unanswered`.
 pub(crate) fn noting_stream<'a>(
     rt: &HostRuntime,
     control: &'a str,
@@ -137,7 +137,7 @@ pub(crate) fn noting_stream<'a>(
     }
 }
 
-/// How long ago the node heard each owner.
+/// How many milliseconds ago the node heard each owner. The faults of `answer_of` and of `unanswered`.
 pub fn ages_of<'a>(rt: &HostRuntime, control: &'a str) -> Result<Ages, Failure<'a>> {
     let answer = answer_of(rt, control, &Message::AskAges)?;
     match ages_in(answer) {
@@ -146,7 +146,8 @@ pub fn ages_of<'a>(rt: &HostRuntime, control: &'a str) -> Result<Ages, Failure<'
     }
 }
 
-/// Makes a node write. Returns the version of the write.
+/// Makes a node write. Returns the version of the write. The faults of `answer_of`, after which the write may have been made;
+/// those of `unanswered`.
 pub fn put<'a>(
     rt: &HostRuntime,
     control: &'a str,
@@ -161,7 +162,7 @@ pub fn put<'a>(
     }
 }
 
-/// One page of a node's rows.
+/// One page of a node's rows. The faults of `answer_of` and of `unanswered`.
 pub(crate) fn page_of<'a>(
     rt: &HostRuntime,
     control: &'a str,
@@ -174,7 +175,8 @@ pub(crate) fn page_of<'a>(
     }
 }
 
-/// The first page of a node's rows. `Malformed(KIND_ROWS)` too, if the page has no row although more follow.
+/// The first page of a node's rows. The faults of `page_of`; `Malformed(KIND_ROWS)` if a row of it is not after the asked place, or if
+/// it has no row although more follow.
 pub(crate) fn first_page_of<'a>(
     rt: &HostRuntime,
     control: &'a str,
@@ -195,7 +197,7 @@ fn paging_failure<'a>(control: &'a str, fault: PagingFault<Failure<'a>>) -> Fail
     }
 }
 
-/// Makes a pager ask the node at a control socket for all rows that are asked for.
+/// Makes a pager ask the node at a control socket for all rows that are asked for. The faults of `ask_all`.
 pub(crate) fn take_all<'a, P: Pager<Failure = Failure<'a>>>(
     control: &'a str,
     pager: &mut P,
@@ -281,7 +283,8 @@ impl<'a> Pager for Printer<'_, 'a> {
 }
 
 /// Prints the asked rows of a node, page after page, from the first on, without those of owners that are older than asked.
-/// If it ends with a fault, the rows that it printed before stay printed.
+/// The faults of `ages_of`, if ages are needed; then, at any page, those of `ask_all` and of `page_of`, `NoMemory` and `WriteFailed`.
+/// The rows that it printed before stay printed.
 pub fn print_all<'a>(
     rt: &HostRuntime,
     control: &'a str,

@@ -3,7 +3,7 @@ ghost use Rattle.std.specs.Prelude.{◌≡◌, ◌∷◌, ◌++◌, IfOk, IfSome
 ghost use Rattle.sb_commands.specs.Lines.{slot_words, write_line};
 
 use crate::asking::put;
-use crate::failure::Failure;
+use crate::failure::{Failure, FaultPlace, InputLine};
 use sb_types::{Fault, Key, Slot, Value, Write};
 use std::alloc::Global;
 use std::io::{BufRead, BufReader, ErrorKind};
@@ -51,6 +51,17 @@ fn write_of(alloc: Global, line: &[u8]) -> Result<Write, Fault>
     }
 }
 
+/// What a line has, for the advice about it.
+fn input_line(line: &[u8]) -> InputLine {
+    if line.ends_with(b"\r") {
+        return InputLine::Return;
+    }
+    match split_at_space(line) {
+        Some((_, words)) if words.starts_with(b"text ") => InputLine::Text,
+        _ => InputLine::Other,
+    }
+}
+
 /// A line without its end.
 fn without_end(line: &[u8]) -> &[u8] {
     match line.split_last() {
@@ -70,10 +81,17 @@ fn read_line<R: BufRead>(reader: &mut R, line: &mut Vec<u8>) -> Result<bool, Fau
     }
 }
 
-/// Makes a node write what a line asks for, and prints the version of the write. The faults of `write_of` and of `put`,
-/// then `WriteFailed`.
+/// Makes a node write what a line asks for, and prints the version of the write. The faults of `write_of`, which quote the
+/// line unless memory is lacking; those of `put`; then `WriteFailed`.
 fn write_line<'a>(rt: &HostRuntime, control: &'a str, line: &[u8]) -> Result<(), Failure<'a>> {
-    let write = write_of(rt.alloc(), line)?;
+    let write = match write_of(rt.alloc(), line) {
+        Ok(write) => write,
+        Err(Fault::NoMemory) => return Err(Failure::from(Fault::NoMemory)),
+        Err(fault) => {
+            let place = FaultPlace::Input(input_line(line));
+            return Err(Failure::at(place, fault).with_quote(line));
+        }
+    };
     let version = put(rt, control, write.key, write.slot)?;
     match println!(rt; "version {version}") {
         Ok(()) => Ok(()),
@@ -83,7 +101,7 @@ fn write_line<'a>(rt: &HostRuntime, control: &'a str, line: &[u8]) -> Result<(),
 
 /// Makes a node write all lines of standard input, one after another, and prints the version of each write. Each goes
 /// over a connection of its own, and empty lines are skipped. The first fault ends the call and names its line, and the
-/// writes before it stay.
+/// writes before it stay: `NoMemory`; `ReadFailed` of standard input; a fault of `write_line`.
 pub fn write_lines<'a>(rt: &HostRuntime, control: &'a str) -> Result<(), Failure<'a>> {
     let Ok(mut reader) = BufReader::new(rt.alloc(), rt.stdin()) else {
         return Err(Failure::from(Fault::NoMemory));

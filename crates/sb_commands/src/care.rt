@@ -225,22 +225,22 @@ fn is_below(count: usize, floor: u64, most: usize) -> bool
     (count as u128) * 100 < u128::from(floor) * (most as u128)
 }
 
-/// How many rows went so long ago that they can be dropped.
+/// How many rows went at least `hold` milliseconds ago.
 fn due_count(rows: &[KeptRow], now: u64, hold: u64) -> usize
     ensures { result ≡ length (filter (spec.is_due now hold) rows.now) }
 {
     rows.iter().filter(|row| row.is_due(now, hold)).count()
 }
 
-/// Drops the rows that went so long ago.
+/// Drops the rows that went at least `hold` milliseconds ago.
 fn keep_others(rows: &mut Vec<KeptRow>, now: u64, hold: u64)
     ensures { rows.new.items ≡ filter (spec.stays now hold) rows.old.items }
 {
     rows.retain(|row| row.stays(now, hold));
 }
 
-/// Drops the rows that went so long ago, all or none: none if fewer than the floor would be left. Returns how many it
-/// holds back for that.
+/// Drops the rows that went at least `caution.hold` milliseconds ago, all or none: none if fewer than the floor would be left. The
+/// floor is a percentage of `most`. Returns how many it holds back for that.
 pub(crate) fn drop_due(rows: &mut Vec<KeptRow>, now: u64, caution: &Caution, most: usize) -> usize
     ensures rows { rows.new.items ≡ spec.rows_after_floor now caution.now most rows.old.items }
     ensures held { result ≡ spec.held_back now caution.now most rows.old.items }

@@ -2,6 +2,7 @@
 use crate::advice::{about_cause, advice};
 use crate::asking::LONGEST_SILENCE;
 use crate::part::Range;
+use crate::quote::Quote;
 use sb_log::StoreCause;
 use sb_types::Fault;
 use std::alloc::AllocError;
@@ -46,11 +47,24 @@ impl Obstacle {
     }
 }
 
+/// What a line of standard input has, as far as the advice about it needs that.
+#[derive(Clone, Copy)]
+pub enum InputLine {
+    /// A carriage return at its end.
+    Return,
+    /// The words of a text, and no carriage return at its end.
+    Text,
+    /// Something else.
+    Other,
+}
+
 /// The place at which a fault was met.
 #[derive(Clone, Copy)]
 pub enum FaultPlace<'a> {
     /// On the command line, or at standard input or output.
     Line,
+    /// In a line of standard input.
+    Input(InputLine),
     /// In a word of the command line: the option or word that it is for, and the word.
     Word(&'a str, &'a str),
     /// In a name that a node is to forget, which is its own.
@@ -77,6 +91,8 @@ pub enum FaultPlace<'a> {
     BusyFolder(&'a str),
     /// At the file of a log that does not exist, beside which there is the `-wal` of one.
     OldWal(&'a str),
+    /// At the file of a log, which is empty, beside which there is the `-wal` of another one.
+    EmptyLog(&'a str),
     /// At a control socket at which no node could be reached.
     Unreached(&'a str, Obstacle),
     /// At a control socket whose node moved no byte for too long.
@@ -130,6 +146,8 @@ pub struct Failure<'a> {
     cause: Option<StoreCause>,
     /// The line of standard input or of a template, counted from 1. 0 if it was met at no line.
     line: u64,
+    /// How the line begins, if it is quoted.
+    quote: Option<Quote>,
 }
 
 impl<'a> Failure<'a> {
@@ -139,6 +157,7 @@ impl<'a> Failure<'a> {
             place,
             cause: None,
             line: 0,
+            quote: None,
         }
     }
 
@@ -149,6 +168,7 @@ impl<'a> Failure<'a> {
             place: FaultPlace::Log(path),
             cause: Some(cause),
             line: 0,
+            quote: None,
         }
     }
 
@@ -164,6 +184,7 @@ impl<'a> Failure<'a> {
             place,
             cause: self.cause,
             line: self.line,
+            quote: self.quote,
         }
     }
 
@@ -174,6 +195,18 @@ impl<'a> Failure<'a> {
             place: self.place,
             cause: self.cause,
             line,
+            quote: self.quote,
+        }
+    }
+
+    /// The same, and it quotes the first 80 bytes of the line at which it was met.
+    pub(crate) fn with_quote(self, line: &[u8]) -> Failure<'a> {
+        Failure {
+            fault: self.fault,
+            place: self.place,
+            cause: self.cause,
+            line: self.line,
+            quote: Some(Quote::of(line)),
         }
     }
 
@@ -250,6 +283,9 @@ fn text_of_store(place: FaultPlace<'_>) -> Option<&'static str> {
         FaultPlace::LinkedLog(_) => "the path of the log is a link",
         FaultPlace::BusyFolder(_) => "another process restores a log in its folder",
         FaultPlace::OldWal(_) => "there is no such log, but a file of its name with -wal",
+        FaultPlace::EmptyLog(_) => {
+            "the file of the log is empty, but a file of its name with -wal has writes"
+        }
         _ => return None,
     })
 }
@@ -315,7 +351,7 @@ fn write_told<W: fmt::Write>(fault: &Fault, f: &mut fmt::Formatter<W>) -> fmt::R
 impl fmt::Display for FaultPlace<'_> {
     fn fmt<W: fmt::Write>(&self, f: &mut fmt::Formatter<W>) -> fmt::Result {
         match self {
-            FaultPlace::Line => Ok(()),
+            FaultPlace::Line | FaultPlace::Input(_) => Ok(()),
             FaultPlace::Word(what, word) => write!(f, "{what} '{word}': "),
             FaultPlace::OwnName(name) => write!(f, "--forget '{name}': "),
             FaultPlace::Value(kind, word) => write!(f, "value '{kind} {word}': "),
@@ -327,7 +363,8 @@ impl fmt::Display for FaultPlace<'_> {
             | FaultPlace::LockedLog(path)
             | FaultPlace::LinkedLog(path)
             | FaultPlace::BusyFolder(path)
-            | FaultPlace::OldWal(path) => write!(f, "log {path}: "),
+            | FaultPlace::OldWal(path)
+            | FaultPlace::EmptyLog(path) => write!(f, "log {path}: "),
             FaultPlace::Unreached(path, _)
             | FaultPlace::Silent(path)
             | FaultPlace::Control(path)
@@ -376,6 +413,9 @@ impl fmt::Display for Failure<'_> {
         f.write_str("\n")?;
         if self.line > 0 {
             write!(f, "line {}: ", self.line)?;
+        }
+        if let Some(quote) = &self.quote {
+            write!(f, "{quote}: ")?;
         }
         write!(f, "{}", self.place)?;
         match self.cause {

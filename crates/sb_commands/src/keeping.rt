@@ -173,14 +173,15 @@ fn merged_rows(
     Ok(kept)
 }
 
-/// Returns the rows that a watch shows after it found a listing (`found`). Before, it printed those of `held`. It keeps:
+/// Returns the rows that a watch shows after it found a listing (`found`). Before, it printed those of `held`. If both ascend by owner and key,
+/// it keeps:
 ///
 /// - Each row of the listing, unless it is held back, or a later version of the same owner and key was printed. Then it keeps the printed row, if
 ///   there is one. If there is none, the row must not be outdated either.
 /// - Each printed row of an owner and key that the listing does not have, unless the node knows better.
 ///
-/// If both ascend by owner and key, no row is of an earlier version than the printed one. Of what went before the last start of the node, no row
-/// comes back, nor any earlier version.
+/// So it keeps no earlier version than the printed one of an owner and key. In any order it keeps an outdated row only if a row of its owner and
+/// key is printed.
 ///
 /// `reaches` is what was printed and shown before the first page of the listing. `NoMemory`.
 pub(crate) fn kept_rows(

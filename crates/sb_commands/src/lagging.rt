@@ -89,7 +89,7 @@ impl Lag {
         }
     }
 
-    /// Prints that the node shows other rows than were printed, once that has been so for long, and that it no longer does.
+    /// Prints that the node shows other rows than were printed, once that has been so for 10 seconds, and that it no longer does.
     pub(crate) fn report(
         &mut self,
         rt: &HostRuntime,

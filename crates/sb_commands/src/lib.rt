@@ -27,6 +27,8 @@
 //!
 //! - `log`, `purge` or `begin` opens another file, prints nothing, or ends with another fault. `tools/check-logs` and
 //!   `tools/check-node` refuse it.
+//! - A command opens an empty file, or makes a missing one, beside a `-wal` with writes, and these are dropped. `tools/check-logs`
+//!   and `tools/check-node` refuse it.
 //! - `begin` begins after another version within the limits, or asks another node. `tools/check-logs` and
 //!   `tools/check-node` refuse it.
 //! - `restore` asks another node, leaves rows out, makes half a log, or leaves a file beside the log. `tools/check-node`
@@ -56,6 +58,7 @@ mod output;
 mod owners;
 mod part;
 mod pausing;
+mod quote;
 mod reaches;
 mod rendered_file;
 mod rendering;
@@ -74,7 +77,7 @@ pub use beginning::{Start, begin_log};
 pub use care::Caution;
 pub use careful::{CarefulWatch, View};
 pub use change_source::WatchPace;
-pub use failure::{Failure, FaultPlace, Obstacle};
+pub use failure::{Failure, FaultPlace, InputLine, Obstacle};
 pub use log_file::{
     DroppedRemovals, FileLog, Floor, StartPurge, error_of, has_folder, open_log, print_log,
     purge_log, purge_removals,

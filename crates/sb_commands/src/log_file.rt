@@ -1,6 +1,7 @@
 //! An owner's log in a file.
-ghost use Rattle.std.specs.Prelude.{◌≡◌, ◌≤◌, ◌<◌, ◌⊎◌, true, Ok, None, IfOk, IfSome, IfNone, IfErr, OnOk};
+ghost use Rattle.std.specs.Prelude.{◌≡◌, ◌≤◌, ◌<◌, ◌⊎◌, true, Ok, None, IfOk, IfSome, IfNone, IfErr, IsErr, OnOk};
 ghost use Rattle.sb_log.specs.Puts.{content_after_purge};
+ghost use Rattle.sb_commands.specs.LogFiles.{DropsWrites};
 ghost use Rattle.sb_commands.specs.Removals as spec;
 
 use crate::failure::{Failure, FaultPlace};
@@ -11,8 +12,11 @@ use sb_table::Table;
 use sb_types::{Fault, Name, Slot, VERSION_MOST};
 use sqlite::{Connection, Error, File, FileStore};
 use std::alloc::Global;
-use std::fs;
 use std::io::{ErrorKind, Write};
+use std::{fs, io};
+
+/// How many bytes a `-wal` has at most if no write is in it.
+const EMPTY_WAL_MOST: u64 = 41;
 
 /// A log in a file of the system.
 pub type FileLog = SqlLog<FileStore<File>>;
@@ -89,6 +93,49 @@ fn failure_of<'a>(rt: &HostRuntime, path: &'a str, error: &Error) -> Failure<'a>
     }
 }
 
+/// Tests the lengths of the two files of a log, each 0 if there is no file. `StoreFailed` at a place if the log has no byte and
+/// its `-wal` has writes: an opening would drop them.
+fn test_lengths<'a>(log: u64, wal: u64, place: FaultPlace<'a>) -> Result<(), Failure<'a>>
+    ensures refused { DropsWrites log wal → IsErr result }
+    ensures only { IfErr result (λ _. DropsWrites log wal) }
+{
+    if log == 0 && wal > EMPTY_WAL_MOST {
+        return Err(Failure::at(place, Fault::StoreFailed));
+    }
+    Ok(())
+}
+
+/// The path of the `-wal` of a log, which is beside the file to which a link leads. `OutOfMemory`.
+fn wal_of(rt: &HostRuntime, path: &str) -> io::Result<String> {
+    match fs::canonicalize(rt, path) {
+        Ok(real) => Ok(format!(in rt.alloc(); "{}-wal", real.as_str())?),
+        Err(error) if error.kind() == ErrorKind::OutOfMemory => Err(error),
+        Err(_) => Ok(format!(in rt.alloc(); "{path}-wal")?),
+    }
+}
+
+/// How many bytes the file at a path has; 0 if there is no file, or if that cannot be seen.
+fn length_at(rt: &HostRuntime, path: &str) -> u64 {
+    match fs::metadata(rt, path) {
+        Ok(found) => found.len(),
+        Err(_) => 0,
+    }
+}
+
+/// Tests that an opening of the log at a path drops no writes. `NoMemory`; `StoreFailed` if there is no file or an empty one,
+/// beside a `-wal` that has writes.
+pub(crate) fn test_wal<'a>(rt: &HostRuntime, path: &'a str) -> Result<(), Failure<'a>> {
+    let Ok(wal) = wal_of(rt, path) else {
+        return Err(Failure::at(FaultPlace::Log(path), Fault::NoMemory));
+    };
+    // A node that makes a log writes the first page of its file before its `-wal` has a write. So the `-wal` is looked at first.
+    let length = length_at(rt, wal.as_str());
+    match fs::metadata(rt, path) {
+        Ok(found) => test_lengths(found.len(), length, FaultPlace::EmptyLog(path)),
+        Err(_) => test_lengths(0, length, FaultPlace::OldWal(path)),
+    }
+}
+
 /// A connection to a file, which is made if it is not there. `StoreFailed` if it can't be opened or another has it open;
 /// `LogDamaged` if it is not a database; `NoMemory`.
 fn connect<'a>(
@@ -117,8 +164,8 @@ fn log_in<'a>(
     }
 }
 
-/// The log of an owner of a cluster, in a file that is there. `StoreFailed` if it is not, or must not be read; the faults of
-/// `log_in`.
+/// The log of an owner of a cluster, in a file that is there. The faults of `test_wal`; `StoreFailed` if it is not there, or must
+/// not be read; the faults of `log_in`.
 pub fn open_log<'a>(
     rt: &HostRuntime,
     path: &'a str,
@@ -126,6 +173,7 @@ pub fn open_log<'a>(
     cluster: Name,
     max_version: u64,
 ) -> Result<FileLog, Failure<'a>> {
+    test_wal(rt, path)?;
     if let Err(error) = fs::File::open(rt, path) {
         let place = match error.kind() {
             ErrorKind::NotFound if !has_folder(rt, path) => FaultPlace::NoLogFolder(path),
@@ -137,13 +185,15 @@ pub fn open_log<'a>(
     log_in(rt, path, owner, cluster, max_version)
 }
 
-/// The log of an owner of a cluster, in a file that is made if it is not there. It gives all versions. The faults of `log_in`.
+/// The log of an owner of a cluster, in a file that is made if it is not there. It gives all versions. The faults of `test_wal`
+/// and of `log_in`.
 pub(crate) fn make_log<'a>(
     rt: &HostRuntime,
     path: &'a str,
     owner: Name,
     cluster: Name,
 ) -> Result<FileLog, Failure<'a>> {
+    test_wal(rt, path)?;
     log_in(rt, path, owner, cluster, VERSION_MOST)
 }
 

@@ -167,7 +167,7 @@ fn hear_all<R: Read, W: Write, L: Ledger>(
     Err(Fault::TurnsSpent)
 }
 
-/// A session over a stream from which nothing was read before.
+/// A session over a stream from which nothing was read before. The faults of `hear_all`.
 fn hear_from<L: Ledger>(
     stream: &UnixStream,
     session: Session,
@@ -208,7 +208,7 @@ fn add_pair(out: &mut Vec<u8>, pair: &Pair, ages: Option<&Ages>) -> std::io::Res
 }
 
 /// Asks the node at a socket for peers how far it holds each owner, as a peer of this name. Returns a pair of each, in ascending owner. It
-/// writes nothing at the node. `ReadFailed` if it can't be reached, or is silent for a minute; the faults of a session. It waits without
+/// writes nothing at the node. `ReadFailed` if it cannot be reached, or is silent for a minute; the faults of a session. It waits without
 /// limit if so many others wait at the socket that it takes no more.
 fn ask_pairs<'a>(
     rt: &HostRuntime,

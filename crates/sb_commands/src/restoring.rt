@@ -6,7 +6,7 @@ ghost use Rattle.sb_commands.specs.Restoring as spec;
 use crate::beginning::version_beyond;
 use crate::failure::{Failure, FaultPlace};
 use crate::log_file::{
-    FileLog, error_of, failure, has_folder, is_locked, make_log, open_log, settle_log,
+    FileLog, error_of, failure, has_folder, is_locked, make_log, open_log, settle_log, test_wal,
 };
 use crate::owners::ask_greatest;
 use crate::status::ask_identity;
@@ -21,9 +21,6 @@ use std::{fs, io};
 
 /// The end of the path of the file in which the log is made.
 const BESIDE: &str = ".restore";
-
-/// How many bytes a `-wal` has at most if no write is in it.
-const EMPTY_WAL_MOST: u64 = 41;
 
 /// The node that is asked, by its two sockets.
 #[derive(Clone, Copy)]
@@ -174,15 +171,6 @@ fn remove_log(rt: &HostRuntime, path: &str) -> io::Result<()> {
     remove_wal(rt, path)
 }
 
-/// Whether a `-wal` with writes is beside the path of a log.
-fn has_wal(rt: &HostRuntime, path: &str) -> io::Result<bool> {
-    let wal = format!(in rt.alloc(); "{path}-wal")?;
-    match fs::symlink_metadata(rt, wal.as_str()) {
-        Ok(found) => Ok(found.len() > EMPTY_WAL_MOST),
-        Err(_) => Ok(false),
-    }
-}
-
 /// The folder of a path, which is locked until it is dropped. So one process at a time makes logs in it. `StoreFailed` if it
 /// can't be opened or another has it locked.
 fn locked_folder<'a>(rt: &HostRuntime, path: &'a str) -> Result<fs::File, Failure<'a>> {
@@ -274,13 +262,13 @@ fn restore_beside<'a>(
     Err(placed)
 }
 
-/// Makes a log at a path, all of it or nothing. Returns its last version. The faults of `locked_folder` and of `empty_log`;
-/// `StoreFailed` if there is none, but a `-wal` of one; then those of `restore_beside`.
+/// Makes a log at a path, all of it or nothing. Returns its last version. The faults of `locked_folder` and of `empty_log`; if there
+/// is none, those of `test_wal`; then those of `restore_beside`.
 fn restore_at<'a>(rt: &HostRuntime, path: &'a str, lost: &Lost) -> Result<u64, Failure<'a>> {
     let folder = locked_folder(rt, path)?;
     let held = empty_log(rt, path, lost)?;
-    if held.is_none() && has_wal(rt, path).unwrap_or(true) {
-        return Err(Failure::at(FaultPlace::OldWal(path), Fault::StoreFailed));
+    if held.is_none() {
+        test_wal(rt, path)?;
     }
     let beside = format!(in rt.alloc(); "{path}{BESIDE}")?;
     restore_beside(rt, &folder, beside.as_str(), path, lost)

@@ -24,7 +24,7 @@ pub(crate) struct WholeStatus {
     rest: Vec<PeerStatus>,
 }
 
-/// One answer, with peers after the first `after`.
+/// One answer, with peers after the first `after`. The faults of `answer_of` and of `unanswered`.
 fn page_of<'a>(rt: &HostRuntime, control: &'a str, after: u64) -> Result<NodeStatus, Failure<'a>> {
     let request = Message::AskStatus(AskStatus::new(after));
     match status_in(answer_of(rt, control, &request)?) {
@@ -33,7 +33,7 @@ fn page_of<'a>(rt: &HostRuntime, control: &'a str, after: u64) -> Result<NodeSta
     }
 }
 
-/// Asks which node it is that answers at a control socket.
+/// Asks which node it is that answers at a control socket. The faults of `page_of`.
 pub(crate) fn ask_identity<'a>(
     rt: &HostRuntime,
     control: &'a str,
@@ -42,13 +42,14 @@ pub(crate) fn ask_identity<'a>(
     Ok(*status.identity())
 }
 
-/// Asks whether a node is caught up.
+/// Asks whether a node is caught up. The faults of `page_of`.
 pub(crate) fn is_caught_up<'a>(rt: &HostRuntime, control: &'a str) -> Result<bool, Failure<'a>> {
     let status = page_of(rt, control, 0)?;
     Ok(status.figure(FigureKind::CaughtUp) == Some(1))
 }
 
-/// Asks how a node is until all of its peers have come. `Malformed(KIND_NODE_STATUS)` too, if an answer has no peer although more follow.
+/// Asks how a node is until all of its peers have come. The faults of `page_of`; `Malformed(KIND_NODE_STATUS)` if an answer has no peer
+/// although more follow; `NoMemory`.
 fn ask_whole<'a>(rt: &HostRuntime, control: &'a str) -> Result<WholeStatus, Failure<'a>> {
     let head = page_of(rt, control, 0)?;
     let mut count = head.peers().len() as u64;
@@ -270,7 +271,8 @@ fn may_become_ready(asked: &Result<WholeStatus, Failure<'_>>) -> bool {
     }
 }
 
-/// Asks how a node is, again and again until it is ready or so many milliseconds have passed. The last answer counts.
+/// Asks how a node is, again and again until it is ready or so many milliseconds have passed. The last answer counts, also if it is a
+/// fault of `ask_whole`. A fault that cannot pass ends it at once.
 fn ask_until<'a>(
     rt: &HostRuntime,
     control: &'a str,
@@ -308,6 +310,7 @@ fn has_passed(rt: &HostRuntime, end: Instant) -> bool {
 }
 
 /// Asks how a node is, waits for so many milliseconds until it is ready, and prints the last answer. Returns whether the node is ready.
+/// The faults of `ask_until`, then `NoMemory` and `WriteFailed`.
 pub fn print_status<'a>(
     rt: &HostRuntime,
     control: &'a str,

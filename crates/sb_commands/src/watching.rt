@@ -57,7 +57,7 @@ impl<'a> Pager for Collector<'_, 'a> {
     }
 }
 
-/// Asks for all rows, page after page, and returns them.
+/// Asks for all rows, page after page, and returns them. The faults of `take_all`; `NoMemory`.
 pub(crate) fn listing<'a>(
     rt: &HostRuntime,
     control: &'a str,
@@ -212,7 +212,7 @@ impl<'a> PrintedRows<'a> {
         }
     }
 
-    /// Whether a careful watch has to wait until the node at this socket is caught up.
+    /// Whether a careful watch has to wait until the node at this socket is caught up. The faults of `is_caught_up`.
     fn has_to_wait<'b>(
         &mut self,
         rt: &HostRuntime,
@@ -239,7 +239,8 @@ impl<'a> PrintedRows<'a> {
         }
     }
 
-    /// The rows that the node shows. `None` if it is not caught up, and the watch is careful.
+    /// The rows that the node shows. `None` if it is not caught up, and the watch is careful. The faults of `has_to_wait`, then those
+    /// of `listing`.
     fn found_rows<'b>(
         &mut self,
         rt: &HostRuntime,
@@ -253,7 +254,8 @@ impl<'a> PrintedRows<'a> {
         Ok(Some(listing(rt, control, asked)?))
     }
 
-    /// Asks once. If the node was started again in the meantime, it takes none of the rows.
+    /// Asks once. If the node was started again in the meantime, it takes none of the rows. A fault of asking that may pass is reported,
+    /// and ends nothing. The others are those of `found_rows`, then `NoMemory` and `WriteFailed`.
     fn ask<'b>(
         &mut self,
         rt: &HostRuntime,
@@ -293,7 +295,8 @@ impl<'a> PrintedRows<'a> {
 /// version or a later one, at an earlier asking since its last start. It does not print a row of an earlier version than
 /// it printed before, also of a key that is gone. It ends after `count` askings that were answered.
 ///
-/// If the watch is careful, it takes no rows before the node is caught up.
+/// If the watch is careful, it takes no rows before the node is caught up. The faults of asking that cannot pass; `NoMemory`;
+/// `WriteFailed`, also if standard output was closed since it asked.
 pub fn watch_on<'a>(
     rt: &HostRuntime,
     control: &'a str,

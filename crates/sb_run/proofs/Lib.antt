@@ -18,3 +18,6 @@ pub mod Ages
 pub mod Staged
 pub mod Entering
 pub mod InTurn
+pub mod PeerTurns
+pub mod Exchanges
+pub mod Bursts

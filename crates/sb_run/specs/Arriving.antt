@@ -1,10 +1,15 @@
 -- Connections that wait.
-use Rattle.std.specs.Prelude.{◌≡◌, ℕ, ◌==◌, Bool, true, List, length, remove, position, unwrap_or, if◌then◌else◌, nat_lt, false, Option, Some, None}
+use Rattle.std.specs.Prelude.{◌≡◌, ℕ, ◌*◌, ◌==◌, min, Bool, true, List, length, remove, position, unwrap_or, if◌then◌else◌, nat_lt, false, Option, Some, None}
+use Rattle.std.specs.Duration.{as_nanos}
+use Rattle.std.specs.declared.time.Duration.{Duration}
 use Rattle.sb_codec.specs.declared.message.Message.{Message}
 use Rattle.sb_codec.specs.declared.message.Message.TheVariants as kinds
 use Rattle.sb_codec.specs.declared.message.hello.Hello.{Hello}
 use Rattle.sb_frames.specs.Frames.{Front, short, whole, bad, front_of}
 use Rattle.sb_frames.specs.Receiving.{held_of}
+use Rattle.sb_run.specs.declared.accepting.TheConstants.{ACCEPT_PAUSE}
+use Rattle.sb_run.specs.declared.accepting.Left.{Left}
+use Rattle.sb_run.specs.declared.accepting.Left.TheVariants as lefts
 use Rattle.sb_run.specs.declared.accepting.Waiting.{Waiting}
 
 -- nothing came of it yet
@@ -40,3 +45,16 @@ IsHelloOf came name = (hello : Hello) × (rest : List ℕ) × (front_of came ≡
 abbrev pub hello_name : Message → Option (List ℕ)
 hello_name (kinds.Hello hello) = Some hello.node
 hello_name other = None
+
+-- what is left to accept at both sockets: more, if there may be more at one; else an accept failed, if one did
+abbrev pub left_at_both : Left → Left → Left
+left_at_both lefts.Nothing control = control
+left_at_both lefts.More control = lefts.More
+left_at_both lefts.Failed lefts.More = lefts.More
+left_at_both lefts.Failed lefts.Nothing = lefts.Failed
+left_at_both lefts.Failed lefts.Failed = lefts.Failed
+
+-- how many nanoseconds the next poll may wait after an accept that failed, if it may wait so long otherwise
+abbrev pub failure_wait : Option Duration → ℕ
+failure_wait None = ACCEPT_PAUSE * 1_000_000
+failure_wait (Some time) = min (as_nanos time) (ACCEPT_PAUSE * 1_000_000)

@@ -1,7 +1,11 @@
 -- How news is on its way to peers.
 use Rattle.std.specs.List.{list_any}
-use Rattle.std.specs.Prelude.{◌≡◌, ◌≢◌, ℕ, ◌-◌, Bool, true, false, not, ◌&&◌, ◌||◌, if◌then◌else◌, nat_lt, List, count_by, Some, slice_get, IfSome}
+use Rattle.std.specs.Prelude.{◌≡◌, ◌≢◌, ℕ, ◌-◌, Bool, true, false, not, ◌&&◌, ◌||◌, ◌==◌, if◌then◌else◌, nat_lt, nat_le, List, [], ◌∷◌, count_by, Option, Some, None, slice_get, IfSome}
+use Rattle.sb_run.specs.declared.schedule.Cause.{Cause}
+use Rattle.sb_run.specs.declared.schedule.Cause.TheVariants as causes
 use Rattle.sb_run.specs.declared.schedule.Delivery.{Delivery}
+use Rattle.sb_run.specs.declared.schedule.RoundCounts.{RoundCounts}
+use Rattle.sb_run.specs.Turns.{one_more}
 
 -- the peer was not dialed yet: it is due, and no session with it was short
 abbrev pub at_first : Delivery
@@ -47,15 +51,33 @@ left_out delivery = record { is_due = delivery.is_due; is_open = false; is_slow 
 abbrev pub paced : Bool → Delivery → Delivery
 paced slow delivery = record { is_due = delivery.is_due; is_open = delivery.is_open; is_slow = slow }
 
+-- a round is over that was made for this reason
+abbrev pub after_round : Cause → Bool → Delivery → Delivery
+after_round causes.Turn slow delivery = paced slow delivery
+after_round causes.News slow delivery = ended slow delivery
+
 -- the delivery to this peer changes so, and no other
 abbrev pub Changes : ℕ → (Delivery → Delivery) → List Delivery → List Delivery → Type 0
 Changes index change old new =
     IfSome (slice_get old index) (λ before. slice_get new index ≡ Some (change before))
     × ((other : ℕ) → other ≢ index → slice_get new other ≡ slice_get old other)
 
+-- these peers became due one after another, the last first, and nothing else of the deliveries changed
+abbrev pub ExpectInTurn : List ℕ → List Delivery → List Delivery → Type 0
+ExpectInTurn [] old new = new ≡ old
+ExpectInTurn (index ∷ earlier) old new = (before : List Delivery) × ExpectInTurn earlier old before × Changes index with_news before new
+
 -- another round may begin: not so many have begun as are to be made, or they have no end
 abbrev pub has_round_left : ℕ → ℕ → Bool
 has_round_left most begun = nat_lt most 1 || nat_lt begun most
+
+-- how many rounds had a fault, with one more that had one or not
+abbrev pub faults_after : Bool → ℕ → ℕ
+faults_after has_fault faults = if has_fault then one_more faults else faults
+
+-- how many rounds had a fault, once as many have ended as are to be made; none if they have no end
+abbrev pub faults_if_done : ℕ → RoundCounts → Option ℕ
+faults_if_done most counts = if most == 0 then None else (if nat_le most counts.ended then Some counts.faults else None)
 
 -- how many milliseconds after a burst begins news is gathered for the next: longer if the news of this burst was gathered
 abbrev pub gathering_time : Bool → ℕ

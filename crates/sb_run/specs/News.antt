@@ -1,6 +1,7 @@
 -- What the peers of a node may lack, and what a node pushes to them.
-use Rattle.std.specs.Prelude.{◌≡◌, ◌≢◌, ℕ, ◌+◌, Bool, true, false, ◌&&◌, ◌||◌, nat_lt, List, [], ◌∷◌, Option, Some, None, slice_get, IfSome, Ok}
+use Rattle.std.specs.Prelude.{◌≡◌, ◌≢◌, ℕ, ◌+◌, Bool, true, false, ◌&&◌, ◌||◌, ◌==◌, nat_lt, List, [], ◌∷◌, length, Option, Some, None, slice_get, IfSome, Ok}
 use Rattle.std.specs.FinMap.{empty, entries}
+use Rattle.sb_types.specs.Lengths.{delta_length}
 use Rattle.sb_types.specs.Records.{Block, Settings}
 use Rattle.sb_holdings.specs.Nodes.{Node}
 use Rattle.sb_digest.specs.Digests.{Digest}
@@ -82,4 +83,12 @@ IsAnswered opening settings blocks =
 
 -- a payload of so many bytes is pushed: it is short, or no longer than the node's own digests; and its frame has room for one more item
 abbrev pub fits_push : ℕ → ℕ → ℕ → Bool
-fits_push length digests budget = (nat_lt length 1025 || nat_lt length (digests + 1)) && nat_lt (length + 652) budget
+fits_push bytes digests budget = (nat_lt bytes 1025 || nat_lt bytes (digests + 1)) && nat_lt (bytes + 652) budget
+
+-- the blocks are of so many owners
+abbrev pub are_of_all : ℕ → List Block → Bool
+are_of_all owners blocks = length blocks == owners
+
+-- news of so many owners is pushed: it has a block of each, is short enough, and nothing of it was cut off
+abbrev pub can_push : List Block → ℕ → ℕ → ℕ → Bool
+can_push blocks owners digests budget = are_of_all owners blocks && fits_push (delta_length blocks) digests budget

@@ -1,5 +1,5 @@
 -- What comes of a purge of a node's own table, and of its log.
-use Rattle.std.specs.Prelude.{◌≡◌, ◌⊎◌, ℕ, ◌+◌, max, nat_eq, if◌then◌else◌, Option, Some, None, Ok, Err}
+use Rattle.std.specs.Prelude.{◌≡◌, ◌⊎◌, ℕ, ◌+◌, ◌/◌, max, Bool, ◌&&◌, ◌||◌, nat_eq, nat_lt, nat_le, if◌then◌else◌, Option, Some, None, Ok, Err}
 use Rattle.sb_types.specs.declared.fault.Fault.{Fault}
 use Rattle.sb_holdings.specs.Nodes.{Node}
 use Rattle.sb_log.specs.Records.{Committed, Log}
@@ -45,6 +45,11 @@ IsUnpurged seen opening least old owed before new owes after fault =
 -- the removed keys with which a running node purges, of the number that it was given: none for never, and no fewer than 64
 abbrev pub running_least : ℕ → ℕ
 running_least given = if nat_eq given 0 then 0 else max given 64
+
+-- the removed keys are counted now: after an eighth as many writes as keys are to be removed, or if the table is full after each
+-- write; never if the number is 0
+abbrev pub counts_now : ℕ → ℕ → Bool → Bool
+counts_now least writes is_full = (nat_lt 0 least && nat_lt 0 writes) && (is_full || nat_le (least / 8) writes)
 
 -- it did not look whether a purge is due; or it did, after a later call of the seat
 abbrev pub MayPurge : {L : Type 0} → (L → Log) → Node → ℕ → L → Option Committed → Seat → L → Option Committed → Seat → Type 0

@@ -1,5 +1,5 @@
 -- How peers are by their rounds, and whose turn is next.
-use Rattle.std.specs.Prelude.{ℕ, ◌+◌, Bool, true, false, not, nat_eq, nat_lt, if◌then◌else◌, Result, Ok, Err}
+use Rattle.std.specs.Prelude.{ℕ, zero, suc, ◌+◌, ◌-◌, ◌^◌, min, Bool, true, false, not, nat_eq, nat_lt, if◌then◌else◌, Result, Ok, Err}
 use Rattle.sb_types.specs.declared.fault.Fault.{Fault}
 use Rattle.sb_types.specs.declared.fault.Fault.TheVariants as faults
 use Rattle.sb_types.specs.Faults.{number_of}
@@ -122,9 +122,18 @@ state_after_push before ended = if is_answer ended then before else state_after 
 abbrev pub is_changed_by_push : PeerState → PeerState → Bool
 is_changed_by_push before ended = if is_answer ended then false else not (is_still before ended)
 
+-- one more, as far as a number of 64 bits goes
+abbrev pub one_more : ℕ → ℕ
+one_more count = min (count + 1) (2 ^ 64 - 1)
+
 -- whose turn it is of so many: behind the last comes the first
 abbrev pub turn_of : ℕ → ℕ → ℕ
 turn_of count turn = if nat_lt turn count then turn else 0
+
+-- whose turn it is of so many, so many turns later
+abbrev pub turn_after : ℕ → ℕ → ℕ → ℕ
+turn_after count turn zero = turn_of count turn
+turn_after count turn (suc more) = turn_after count (turn_of count turn + 1) more
 
 -- how many more turns a peer is passed over, behind one of its turns
 abbrev pub turns_after : Bool → ℕ → ℕ

@@ -1,5 +1,5 @@
 -- What the calling thread of a node does: one piece of work after another.
-use Rattle.std.specs.Prelude.{◌≡◌, ℕ, Bool, List, [], ◌∷◌, Option}
+use Rattle.std.specs.Prelude.{◌≡◌, ℕ, Bool, if◌then◌else◌, List, [], ◌∷◌, Option}
 use Rattle.sb_types.specs.Records.{Settings}
 use Rattle.sb_holdings.specs.Nodes.{Node}
 use Rattle.sb_codec.specs.declared.message.Message.{Message}
@@ -16,11 +16,18 @@ use Rattle.sb_run.specs.Beating.{MakesBeat}
 use Rattle.sb_run.specs.Closing.{seen_by}
 use Rattle.sb_run.specs.Control.{AnswersTo}
 use Rattle.sb_run.specs.OwnPurging.{MayPurge}
+use Rattle.sb_run.specs.Turns.{one_more}
+use Rattle.sb_run.specs.WriteRequests.{is_put}
 
 -- what a request says: the message at the control socket, or that of the same write
 abbrev pub message_of : Asked → Message
 message_of (Control request stream) = request
 message_of (Http asked to) = kinds.Put asked
+
+-- how many writes count towards the next look at the removed keys, with this piece of work
+abbrev pub writes_after : Work → ℕ → ℕ
+writes_after (Request request) writes = if is_put (message_of request) then one_more writes else writes
+writes_after Beat writes = writes
 
 -- a request is answered or fails, and a beat is made or none is
 abbrev pub Does : {L : Type 0} → (L → Log) → Node → Settings → Option beats.Beat → Work → L → Option Committed → Seat → L → Option Committed → Seat → Type 0

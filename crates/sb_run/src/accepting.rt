@@ -1,8 +1,9 @@
 //! The thread that accepts the connections at both sockets of a node, and hands them on once they have something to say.
-ghost use Rattle.std.specs.Prelude.{◌≡◌, IfErr, ◌+◌, ◌<◌, ◌≤◌, ◌++◌, ◌∷◌, [], true, vec_len, length, position, MatchBool, OnOk, IfSome, IfOk};
+ghost use Rattle.std.specs.Prelude.{◌≡◌, IfErr, ◌+◌, ◌<◌, ◌≤◌, ◌++◌, ◌∷◌, [], true, vec_len, length, position, MatchBool, OnOk, IfSome, IsSomeAnd, IfOk};
+ghost use Rattle.std.specs.Duration.{as_nanos};
 ghost use Rattle.sb_run.specs.declared.first_message.TheConstants.{FIRST_MOST};
 ghost use Rattle.sb_run.specs.declared.accepting.TheConstants.{WAITING_MOST};
-ghost use Rattle.sb_run.specs.Arriving.{is_silent, has_begun, has_number, without_oldest, with_room};
+ghost use Rattle.sb_run.specs.Arriving.{is_silent, has_begun, has_number, without_oldest, with_room, left_at_both, failure_wait};
 
 use crate::arrivals::Handover;
 use crate::counts::Counts;
@@ -35,7 +36,7 @@ const FAILURE_STEP: u64 = 60_000;
 /// How many connections are accepted at a socket before the others are looked at again.
 const ACCEPTED_AT_ONCE: usize = 64;
 
-/// How many connections are closed where an accept failed.
+/// How many connections are closed if an accept failed.
 const CLOSED_AT_ONCE: usize = 16;
 
 /// How many events one poll gives.
@@ -315,16 +316,49 @@ fn note_given(counts: &Counts, given: Result<(), Fault>) -> Result<(), Fault> {
     given
 }
 
-/// How long the next poll may wait, by how much is left to accept.
-fn patience(left: [Left; 2], time_left: Option<Duration>) -> Option<Duration> {
-    if left.contains(&Left::More) {
-        return Some(Duration::ZERO);
+/// What is left to accept at both sockets.
+fn left_at_both(sock: Left, control: Left) -> Left
+    ensures { result ≡ left_at_both sock control }
+{
+    match sock {
+        Left::Nothing => control,
+        Left::More => Left::More,
+        Left::Failed => match control {
+            Left::More => Left::More,
+            Left::Nothing | Left::Failed => Left::Failed,
+        },
     }
-    if !left.contains(&Left::Failed) {
-        return time_left;
-    }
+}
+
+/// How long the next poll may wait after an accept that failed, if it may wait so long otherwise.
+fn failure_wait(time_left: Option<Duration>) -> Duration
+    ensures { as_nanos result ≡ failure_wait time_left }
+{
     let pause = Duration::from_millis(ACCEPT_PAUSE);
-    Some(time_left.map_or(pause, |time| time.min(pause)))
+    match time_left {
+        Some(time) => {
+            if time.as_nanos() < pause.as_nanos() {
+                time
+            } else {
+                pause
+            }
+        }
+        None => pause,
+    }
+}
+
+/// How long the next poll may wait, by what is left to accept at the sockets, if it may wait so long otherwise. A poll reports only
+/// connections that come after the one before, so what is left must not wait for it.
+fn patience(sock: Left, control: Left, time_left: Option<Duration>) -> Option<Duration>
+    ensures more { left_at_both sock control ≡ Left.More → IsSomeAnd result (λ wait. as_nanos wait ≡ 0) }
+    ensures failed { left_at_both sock control ≡ Left.Failed → IsSomeAnd result (λ wait. as_nanos wait ≡ failure_wait time_left) }
+    ensures nothing { left_at_both sock control ≡ Left.Nothing → result ≡ time_left }
+{
+    match left_at_both(sock, control) {
+        Left::More => Some(Duration::ZERO),
+        Left::Failed => Some(failure_wait(time_left)),
+        Left::Nothing => time_left,
+    }
 }
 
 impl Acceptor {
@@ -366,12 +400,10 @@ impl Acceptor {
         let mut watchers = WatcherList::new(node.alloc);
         for _ in node.rt.forever() {
             let registry = poll.registry();
-            let left = [
-                backlog.accept_at(node, registry, At::Sock),
-                backlog.accept_at(node, registry, At::Control),
-            ];
+            let at_sock = backlog.accept_at(node, registry, At::Sock);
+            let at_control = backlog.accept_at(node, registry, At::Control);
             let time_left = backlog.time_left(node.rt, watchers.first_until());
-            let patience = patience(left, time_left);
+            let patience = patience(at_sock, at_control, time_left);
             if poll.poll(&mut events, patience).is_err() {
                 thread::sleep(node.rt, Duration::from_millis(ACCEPT_PAUSE));
             }

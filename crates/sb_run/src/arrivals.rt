@@ -1,6 +1,8 @@
 //! What the thread that accepts hands to the other threads.
 ghost use Rattle.std.specs.Prelude.{◌≡◌, IfOk, IfErr};
 ghost use Rattle.sb_run.specs.Sources.{IsNumbered};
+ghost use Rattle.sb_run.specs.Works.{message_of};
+ghost use Rattle.sb_run.specs.WriteRequests.{is_put};
 
 use crate::counts::Counts;
 use crate::dialer::has_come;
@@ -50,7 +52,9 @@ pub(crate) enum Request {
 
 impl Request {
     /// Whether it asks for a write.
-    pub(crate) fn is_put(&self) -> bool {
+    pub(crate) fn is_put(&self) -> bool
+        ensures { result ≡ is_put (message_of self.now) }
+    {
         match self {
             Request::Control(request, _) => matches!(request.message(), Message::Put(_)),
             Request::Http(_, _) => true,
@@ -272,7 +276,7 @@ impl Handover {
         let Ok(stream) = blocking_stream(stream) else {
             return Err(Fault::ReadFailed);
         };
-        // Each worker asks before it waits, and each job ends the wait of one. So one is free where more was asked than handed.
+        // Each worker asks before it waits, and each job ends the wait of one. So one is free if more was asked than handed.
         let is_worker_free = asked.count.load(Ordering::SeqCst) > self.handed;
         let is_given = match question_in(request.message()) {
             Some(ask) if is_worker_free => self.give(rt, Job::Question(ask, stream)),

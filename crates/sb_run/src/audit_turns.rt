@@ -1,5 +1,6 @@
 //! Which peer is audited next.
-ghost use Rattle.std.specs.Prelude.{◌≡◌, ◌-◌, ◌&&◌, not, nat_eq, nat_lt, None, Some, slice_get, IfSome, IfOk, IfErr, replicate};
+ghost use Rattle.std.specs.Prelude.{◌≡◌, ◌≢◌, ℕ, ◌-◌, ◌&&◌, true, false, not, nat_eq, nat_lt, None, Some, slice_get, IfSome, IfOk, IfErr, replicate};
+ghost use Rattle.sb_run.specs.Turns.{one_more};
 
 use crate::dialer::{has_come, moment_after};
 use sb_types::Fault;
@@ -41,7 +42,11 @@ impl AuditTurns {
     /// Begins the first audit of the peer at this index, if there are audits and it can be begun again, and says whether it does.
     pub(crate) fn begin_first(&mut self, index: usize) -> bool
         ensures begins { IfSome (slice_get self.old.tries.items index) (λ left. result ≡ (nat_lt 0 left && not (nat_eq self.old.interval 0))) }
+        ensures left { result ≡ true → IfSome (slice_get self.old.tries.items index) (λ left. slice_get self.new.tries.items index ≡ Some (left - 1)) }
+        ensures refused { result ≡ false → slice_get self.new.tries.items index ≡ slice_get self.old.tries.items index }
+        ensures others { (other : ℕ) → other ≢ index → slice_get self.new.tries.items other ≡ slice_get self.old.tries.items other }
         ensures interval { self.new.interval ≡ self.old.interval }
+        ensures turn { self.new.turn ≡ self.old.turn }
     {
         if self.interval == 0 {
             return false;
@@ -58,7 +63,9 @@ impl AuditTurns {
     /// The first audit of the peer at this index came to its end.
     pub(crate) fn note_audited(&mut self, index: usize)
         ensures audited { IfSome (slice_get self.old.tries.items index) (λ _. slice_get self.new.tries.items index ≡ Some 0) }
+        ensures others { (other : ℕ) → other ≢ index → slice_get self.new.tries.items other ≡ slice_get self.old.tries.items other }
         ensures interval { self.new.interval ≡ self.old.interval }
+        ensures turn { self.new.turn ≡ self.old.turn }
     {
         if let Some(left) = self.tries.get_mut(index) {
             *left = 0;
@@ -69,6 +76,7 @@ impl AuditTurns {
     pub(crate) fn take_due<Q: Clock>(&mut self, clock: &Q) -> Option<usize>
         ensures never { self.old.interval ≡ 0 → result ≡ None }
         ensures turn { IfSome result (λ turn. turn ≡ self.old.turn) }
+        ensures same { (self.new.tries ≡ self.old.tries) × (self.new.turn ≡ self.old.turn) × (self.new.interval ≡ self.old.interval) }
     {
         if self.interval == 0 {
             return None;
@@ -81,7 +89,10 @@ impl AuditTurns {
     }
 
     /// After the peer at this index comes the next.
-    pub(crate) fn pass(&mut self, index: usize) {
+    pub(crate) fn pass(&mut self, index: usize)
+        ensures turn { self.new.turn ≡ one_more index }
+        ensures same { (self.new.tries ≡ self.old.tries) × (self.new.interval ≡ self.old.interval) }
+    {
         self.turn = index.saturating_add(1);
     }
 }

@@ -1,5 +1,5 @@
 //! The beats of a node: own writes by which its peers hear that it lives.
-ghost use Rattle.std.specs.Prelude.{◌≡◌, true, false};
+ghost use Rattle.std.specs.Prelude.{◌≡◌, true, false, None, IsSome};
 ghost use Rattle.sb_run.specs.Beating.{MakesBeat};
 
 use crate::accepting::deadline_after;
@@ -23,7 +23,8 @@ pub(crate) struct BeatTurns {
 impl BeatTurns {
     /// The first beat is due a millisecond from now. There is none if none is given, or if the clock can't be read.
     pub(crate) fn new<Q: Clock>(clock: &Q, beat: Option<Beat>) -> BeatTurns
-        ensures { result.beat ≡ beat }
+        ensures beat { result.beat ≡ beat }
+        ensures none { beat ≡ None → result.next ≡ None }
     {
         let next = match beat {
             Some(_) => deadline_after(clock, 1),
@@ -33,7 +34,9 @@ impl BeatTurns {
     }
 
     /// When the next beat is due; never if there is no moment.
-    pub(crate) fn next(&self) -> Option<Instant> {
+    pub(crate) fn next(&self) -> Option<Instant>
+        ensures { result ≡ self.now.next }
+    {
         self.next
     }
 }
@@ -51,6 +54,9 @@ impl<S: RoundsTag, H: Wait + Drop, Q: Wait + Clock> NodeContext<'_, S, H, Q> {
         // The write of the beat is put, or nothing is done.
         ensures beats { MakesBeat L.seen S.opening beats.old.beat writes.old.log writes.old.owed seat.old writes.new.log writes.new.owed seat.new }
         ensures same { beats.new.beat ≡ beats.old.beat }
+        // With a closed log none is due any more.
+        ensures over { IsSome beats.old.beat → IsSome (L.why writes.old.log) → beats.new.next ≡ None }
+        ensures none { beats.old.beat ≡ None → beats.new ≡ beats.old }
     {
         let Some(beat) = beats.beat else {
             return;

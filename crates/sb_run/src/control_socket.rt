@@ -9,7 +9,7 @@ ghost use Rattle.sb_run.specs.Closing.{seen_by};
 ghost use Rattle.sb_run.specs.Control.{AnswersAll, AnswersTo};
 ghost use Rattle.sb_run.specs.OwnPurging.{MayPurge, running_least};
 ghost use Rattle.sb_run.specs.Running.{IsOpenedFrom};
-ghost use Rattle.sb_run.specs.Works.{message_of, Does, DoesNext, WorksInTurn};
+ghost use Rattle.sb_run.specs.Works.{message_of, writes_after, Does, DoesNext, WorksInTurn};
 ghost use Rattle.sb_run.specs.declared.arrivals.Work.{Work};
 
 use crate::arrivals::{Request, Requests, Work};
@@ -230,10 +230,12 @@ impl OwnTurns {
     /// Notes work that may lead to a purge.
     fn note(&mut self, work: &Work)
         ensures least { self.new.purges.least ≡ self.old.purges.least }
+        ensures writes { self.new.purges.writes ≡ writes_after work.now self.old.purges.writes }
         ensures beats { self.new.beats ≡ self.old.beats }
     {
-        if let Work::Request(request) = work {
-            self.purges.note(request.is_put());
+        match work {
+            Work::Request(request) => self.purges.note(request.is_put()),
+            Work::Beat => {}
         }
     }
 }

@@ -6,12 +6,13 @@ ghost use Rattle.crossbeam_channel.specs.Ends.{sends_on, receives_on};
 use crate::audit_turns::AuditTurns;
 use crate::backlogs::{Backlogs, Lack};
 use crate::bell::{Bell, Parkers};
-use crate::dialing::{OwnDigests, dial_peer, digests_of_all};
+use crate::dialing::{DialEnd, OwnDigests, dial_peer, digests_of_all};
 use crate::node::Pace;
 use crate::observer::Observer;
-use crate::peers::{Peer, PeerState};
+use crate::peers::Peer;
 use crate::pushing::{News, push_peer};
-use crate::schedule::{Cause, NewsStep, Schedule, SessionEnd};
+use crate::schedule::{AllRounds, NewsStep, Round, Schedule};
+use crate::session_end::SessionStart;
 use crate::threads::NodeContext;
 use crate::version_falls::report_falls;
 use core::mem::replace_with;
@@ -29,9 +30,6 @@ use std::sync::{Mutex, Wait};
 use std::thread;
 use std::thread::Threads;
 use std::time::{Clock, Duration, Instant};
-
-/// How long a session takes, at least, whose peer is a slow one, in milliseconds.
-const SLOW_SESSION: u64 = 500;
 
 /// What the threads that dial share.
 #[derive(Drop)]
@@ -57,38 +55,6 @@ enum Plan<S: RoundsTag> {
     Push(Backlog, News<S>),
     /// A round is made with it.
     Round,
-}
-
-/// When a session was begun with a peer, as far as that counts at its end.
-#[derive(Clone, Copy)]
-struct SessionStart {
-    /// From when on it has waited as long as a connection may be idle. None if there is no such limit.
-    waited_from: Option<Instant>,
-    /// From when on the peer is a slow one.
-    slow_from: Option<Instant>,
-}
-
-impl SessionStart {
-    /// A session that begins now, whose connection may be idle for so long, 0 for no limit.
-    fn now<Q: Clock>(clock: &Q, idle: u64) -> SessionStart {
-        SessionStart {
-            waited_from: if idle == 0 {
-                None
-            } else {
-                moment_after(clock, idle)
-            },
-            slow_from: moment_after(clock, SLOW_SESSION),
-        }
-    }
-
-    /// How it ended, which it did now.
-    fn ended<Q: Clock>(&self, clock: &Q, state: PeerState) -> SessionEnd {
-        SessionEnd {
-            state,
-            has_waited: has_come(clock, self.waited_from),
-            is_slow: has_come(clock, self.slow_from),
-        }
-    }
 }
 
 impl<'a, O: Observer> Dialing<'a, O> {
@@ -186,22 +152,22 @@ impl<'a, O: Observer> Dialing<'a, O> {
         }
     }
 
-    /// Takes down how a round with the peer at this index ended. News that waited for that is due to the peer now.
+    /// Ends a round by what came of the dial of its peer. News that waited for that is due to the peer now.
     fn end_round<S: RoundsTag, H: Wait + Drop, Q: Wait>(
         &self,
         node: &NodeContext<S, H, Q>,
-        index: usize,
-        cause: Cause,
-        end: SessionEnd,
-    ) {
-        let was_awaited = self
-            .backlogs
-            .lock(node.rt)
-            .end_round(index, end.state.is_answer());
+        round: Round<'a>,
+        dial: DialEnd,
+    )
+        requires peer { dial.index ≡ round.index }
+    {
+        let index = round.index();
+        let is_answer = dial.is_answer();
+        let was_awaited = self.backlogs.lock(node.rt).end_round(index, is_answer);
         let takes_news = self
             .schedule
             .lock(node.rt)
-            .end_round(index, cause, end, self.observer);
+            .end_round(round, dial, self.observer);
         if !takes_news {
             self.backlogs.lock(node.rt).forget(index);
         } else if was_awaited {
@@ -209,28 +175,25 @@ impl<'a, O: Observer> Dialing<'a, O> {
         }
     }
 
-    /// Makes one round with the peer at this index, which has begun. A peer that answers is then audited, once in a run. After
-    /// that the peer was heard. A slow peer counts as under way until then, so that it holds up no news for others.
+    /// Makes one round, which has begun. A peer that answers is then audited, once in a run. After that the peer was heard. A slow
+    /// peer counts as under way until then, so that it holds up no news for others.
     pub(crate) fn round<S: RoundsTag, H: Wait + Drop, Q: Wait + Net + Clock>(
         &self,
         node: &NodeContext<S, H, Q>,
         seat: ReaderSeat<S>,
-        index: usize,
-        cause: Cause,
+        round: Round<'a>,
     ) -> ReaderSeat<S> {
         let mut seat = seat;
+        let index = round.index();
         let digests = self.own_digests(node, &mut seat);
         self.begin_round(node, index);
-        let path = self.schedule.lock(node.rt).path(index);
-        let start = SessionStart::now(node.rt, node.pace.dial_idle);
-        let (seat, state) = dial_peer(node, index, path, seat, digests.count);
-        let end = start.ended(node.rt, state);
-        let seat = if state.is_answer() {
+        let (seat, dial) = dial_peer(node, &round, seat, digests.count);
+        let seat = if dial.is_answer() {
             self.audit_first(node, seat, index)
         } else {
             seat
         };
-        self.end_round(node, index, cause, end);
+        self.end_round(node, round, dial);
         node.hearing.lock(node.rt).note_heard(index);
         self.look_at_log(node);
         node.bell.wake();
@@ -301,10 +264,11 @@ impl<'a, O: Observer> Dialing<'a, O> {
         match self.plan(node, &mut seat, index) {
             Plan::Push(backlog, news) => self.push(node, index, backlog, news),
             Plan::Round => {
-                if self.schedule.lock(node.rt).begin_round_for_news() {
-                    return self.round(node, seat, index, Cause::News);
+                let begun = self.schedule.lock(node.rt).begin_round_for_news(index);
+                match begun {
+                    Some(round) => return self.round(node, seat, round),
+                    None => self.schedule.lock(node.rt).leave_out(index),
                 }
-                self.schedule.lock(node.rt).leave_out(index);
             }
             Plan::Nothing => self.schedule.lock(node.rt).leave_out(index),
         }
@@ -333,13 +297,13 @@ impl<'a, O: Observer> Dialing<'a, O> {
         }
     }
 
-    /// How many rounds and pushes had a fault, once all rounds that are to be made have ended.
-    pub(crate) fn faults_if_done<S: RoundsTag, H: Wait + Drop, Q: Wait>(
+    /// All rounds, once as many have ended as are to be made, with the faults of the pushes.
+    pub(crate) fn all_if_done<S: RoundsTag, H: Wait + Drop, Q: Wait>(
         &self,
         node: &NodeContext<S, H, Q>,
-    ) -> Option<u64> {
-        let faults = self.schedule.lock(node.rt).faults_if_done()?;
-        Some(faults.saturating_add(node.counts.push_faults()))
+    ) -> Option<AllRounds> {
+        let all = self.schedule.lock(node.rt).all_if_done()?;
+        Some(all.with_faults(node.counts.push_faults()))
     }
 
     /// What a thread that dials for news is to do next.
@@ -522,13 +486,13 @@ impl<'a> Turns<'a> {
         }
     }
 
-    /// Makes the round in turn that has begun, with the peer at this index if there are peers. The next is due after the pause.
+    /// Makes the round in turn that has begun, if there are peers. The next is due after the pause.
     fn make_round<S: RoundsTag, H: Wait + Drop, Q: Wait + Net + Clock, O: Observer>(
         &mut self,
         node: &NodeContext<S, H, Q>,
         dialing: &Dialing<'a, O>,
         seat: ReaderSeat<S>,
-        next: Option<usize>,
+        next: Option<Round<'a>>,
     ) -> ReaderSeat<S> {
         let mut current = seat;
         // What is missing by now this round may bring.
@@ -538,12 +502,12 @@ impl<'a> Turns<'a> {
             node.bell.wake();
         }
         match next {
-            Some(index) => {
-                current = dialing.round(node, current, index, Cause::Turn);
+            Some(round) => {
+                current = dialing.round(node, current, round);
                 current = dialing.audit_in_turn(node, current);
             }
             None => {
-                dialing.schedule().lock(node.rt).count_round(false);
+                dialing.schedule().lock(node.rt).count_empty_turn();
                 dialing.look_at_log(node);
             }
         }
@@ -641,14 +605,14 @@ impl<'a> Turns<'a> {
             if node.ending.is_raised() {
                 return (current, None);
             }
-            let begun = dialing.schedule().lock(node.rt).begin_turn();
+            let begun = dialing.schedule().lock(node.rt).begin_round_in_turn();
             match begun {
                 Some(next) => {
                     current = turns.make_round(node, dialing, current, next);
                     current = turns.wait_for_turn(node, dialing, current);
                 }
-                None => match dialing.faults_if_done(node) {
-                    Some(faults) => return (current, Some(Rounds::new(node.pace.rounds, faults))),
+                None => match dialing.all_if_done(node) {
+                    Some(all) => return (current, Some(Rounds::new(node.pace.rounds, &all))),
                     None => turns.parker.park(node.rt),
                 },
             }
@@ -717,12 +681,12 @@ pub(crate) struct Rounds<S: RoundsTag> {
 }
 
 impl<S: RoundsTag> Rounds<S> {
-    pub(crate) fn new(made: u64, faults: u64) -> Rounds<S>
+    pub(crate) fn new(made: u64, all: &AllRounds) -> Rounds<S>
         requires { made ≡ S.rounds }
     {
         Rounds {
             made,
-            faults,
+            faults: all.faults(),
             of: PhantomData,
         }
     }

@@ -1,12 +1,16 @@
 //! One round: a session with a peer that is dialed.
-ghost use Rattle.std.specs.Prelude.{◌≡◌, ◌+◌, ◌<◌, ◌≤◌};
+ghost use Rattle.std.specs.Prelude.{◌≡◌, ◌+◌, ◌<◌, ◌≤◌, Ok};
 ghost use Rattle.sb_directory.specs.Serving.{IsStill, IsLater};
 ghost use Rattle.sb_run.specs.Entering.{Hears};
+ghost use Rattle.sb_run.specs.Exchanges.{MakesExchanges};
 ghost use Rattle.sb_run.specs.Hellos.{Greets};
+ghost use Rattle.sb_run.specs.Turns.{is_answer};
 
 use crate::dialer::RoundsTag;
 use crate::peers::{DownReason, PeerState};
 use crate::pool::session_of;
+use crate::schedule::Round;
+use crate::session_end::{SessionEnd, SessionStart};
 use crate::sockets::{connect, limit};
 use crate::threads::NodeContext;
 use sb_directory::{ReaderSeat, SeatHandler};
@@ -92,8 +96,8 @@ impl<S: RoundsTag, H: Wait + Drop, Q: Wait + Clock> Gate for DialedGate<'_, '_, 
 }
 
 impl<S: RoundsTag, H: Wait + Drop, Q: Wait + Clock> NodeContext<'_, S, H, Q> {
-    /// A session over a connection to the peer at this index, of so many exchanges of digests and deltas, and how it ended. It makes at most the node's
-    /// `max_reads` reads. What it enters is news.
+    /// A session over a connection to the peer at this index, of so many exchanges of digests and deltas, and how it ended. It
+    /// ends with `RoundsDone` only after all of them. It makes at most the node's `max_reads` reads. What it enters is news.
     fn talk<I: Read, O: Write, K: Ledger>(
         &self,
         connection: &mut Connection<I, O, K>,
@@ -106,6 +110,7 @@ impl<S: RoundsTag, H: Wait + Drop, Q: Wait + Clock> NodeContext<'_, S, H, Q> {
         // The seat makes the events of the deltas that came over the connection, in their order, and no other.
         ensures entered { Hears self.now.forgotten.now.names.items connection.old connection.new seat result.0 }
         ensures greets { Greets S.settings.cluster S.opening.held.me connection.old.output connection.new.output }
+        ensures rounds { result.1 ≡ Ok Ended.RoundsDone → MakesExchanges exchanges connection.old connection.new }
         ensures reads { connection.new.steps ≤ connection.old.steps + self.now.pace.max_reads }
     {
         let asker = Some(Asker::Dialed(index));
@@ -157,8 +162,48 @@ pub(crate) fn reach<S: RoundsTag, H: Wait + Drop, Q: Net>(
     Ok(stream)
 }
 
-/// Dials the peer at this index and this path, for so many exchanges, and how the peer is by this round.
+/// What came of a dial of the peer at an index. Only `dial_peer` makes it, and it can't be copied, so no round ends without a dial.
+#[derive(Drop)]
+pub(crate) struct DialEnd {
+    index: usize,
+    end: SessionEnd,
+}
+
+impl DialEnd {
+    /// How the session with the peer ended.
+    pub(crate) fn end(&self) -> SessionEnd
+        ensures { result ≡ self.now.end }
+    {
+        self.end
+    }
+
+    /// Whether all exchanges of the session were made.
+    pub(crate) fn is_answer(&self) -> bool
+        ensures { result ≡ is_answer self.now.end.state }
+    {
+        self.end.state.is_answer()
+    }
+}
+
+/// Dials the peer of this round, for so many exchanges.
 pub(crate) fn dial_peer<S: RoundsTag, H: Wait + Drop, Q: Wait + Net + Clock>(
+    node: &NodeContext<S, H, Q>,
+    round: &Round,
+    seat: ReaderSeat<S>,
+    exchanges: u64,
+) -> (ReaderSeat<S>, DialEnd)
+    ensures later { IsLater seat result.0 }
+    ensures peer { result.1.index ≡ round.now.index }
+{
+    let index = round.index();
+    let start = SessionStart::now(node.rt, node.pace.dial_idle);
+    let (seat, state) = dial_path(node, index, round.path(), seat, exchanges);
+    let end = start.ended(node.rt, state);
+    (seat, DialEnd { index, end })
+}
+
+/// Dials the peer at this index and this path, for so many exchanges, and how the peer is by this round.
+fn dial_path<S: RoundsTag, H: Wait + Drop, Q: Wait + Net + Clock>(
     node: &NodeContext<S, H, Q>,
     index: usize,
     path: &str,

@@ -1,5 +1,5 @@
 //! How a thread that answers over HTTP waits until the rows that are asked for are others than those that were seen.
-ghost use Rattle.std.specs.Prelude.{◌≡◌, IfOk};
+ghost use Rattle.std.specs.Prelude.{◌≡◌, IfErr, IfOk};
 ghost use Rattle.sb_directory.specs.Serving.{IsLater};
 ghost use Rattle.sb_run.specs.Control.{IsLookedUp};
 ghost use Rattle.sb_run.specs.HttpMarks as spec;
@@ -49,11 +49,16 @@ fn mark_of(
     snapshot: &Snapshot<'_>,
     ask: &Ask,
 ) -> Result<Key, Fault>
-    ensures { IfOk result (λ mark. mark ≡ spec.mark_of keys ask.now snapshot.now) }
+    ensures mark { IfOk result (λ mark. mark ≡ spec.mark_of keys ask.now snapshot.now) }
+    ensures memory { IfErr result (λ fault. fault ≡ Fault.NoMemory) }
 {
     let hash = hash_of(keys, snapshot.rows(ask.owner, ask.prefix));
     let text = format!(in alloc; "{hash}")?;
-    Key::read(text.as_bytes())
+    match Key::read(text.as_bytes()) {
+        Ok(mark) => Ok(mark),
+        // Digits are a key, so this does not come.
+        Err(_) => Err(Fault::NoMemory),
+    }
 }
 
 /// Whether rows were found, and they are those of this mark.
@@ -74,6 +79,7 @@ impl<S: RoundsTag, H: Wait + Drop, Q: Wait + Clock> NodeContext<'_, S, H, Q> {
     ) -> Result<MarkedReply, Fault>
         ensures page { IfOk result (λ found. IsLookedUp S.opening S.settings.budget entered.now.seen ask.now found.reply) }
         ensures mark { IfOk result (λ found. spec.IsMark S.opening keys entered.now.seen ask.now found.mark) }
+        ensures memory { IfErr result (λ fault. fault ≡ Fault.NoMemory) }
     {
         let mark = mark_of(self.alloc, keys, &entered.snapshot(), ask)?;
         let reply = look_up(self.alloc, self.directory.settings(), entered, ask);
@@ -89,6 +95,7 @@ impl<S: RoundsTag, H: Wait + Drop, Q: Wait + Clock> NodeContext<'_, S, H, Q> {
     ) -> (ReaderSeat<S>, Result<MarkedReply, Fault>)
         ensures polled { IfOk result.1 (λ found. IsPolled S.opening S.settings.budget keys seat ask.now result.0 found.reply found.mark) }
         ensures later { IsLater seat result.0 }
+        ensures memory { IfErr result.1 (λ fault. fault ≡ Fault.NoMemory) }
     {
         match seat.enter() {
             Ok(entered) => {

@@ -84,7 +84,8 @@ fn owners_of<S: NodeTag>(
     entered: &EnteredSeat<S>,
     ages: &Ages,
 ) -> Result<Vec<HeldOwner>, Fault>
-    ensures { IfOk result (λ owners. AreOwnersAfter S.opening entered.now.seen ages.now owners.items) }
+    ensures owners { IfOk result (λ owners. AreOwnersAfter S.opening entered.now.seen ages.now owners.items) }
+    ensures memory { IfErr result (λ fault. fault ≡ Fault.NoMemory) }
 {
     owners_in(alloc, &entered.snapshot(), ages)
 }
@@ -110,6 +111,7 @@ impl<S: RoundsTag, H: Wait + Drop, Q: Wait + Clock> NodeContext<'_, S, H, Q> {
     fn owners_seen(&self, seat: ReaderSeat<S>) -> (ReaderSeat<S>, Result<Vec<HeldOwner>, Fault>)
         ensures owners { IfOk result.1 (λ owners. AreOwnersSeen S.opening result.0.seen owners.items) }
         ensures later { IsLater seat result.0 }
+        ensures memory { IfErr result.1 (λ fault. fault ≡ Fault.NoMemory) }
     {
         let ages = match self.ages() {
             Ok(ages) => ages,

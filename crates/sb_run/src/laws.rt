@@ -1,5 +1,5 @@
 //! What follows from the definitions alone. The functions do nothing: each clause is a law.
-ghost use Rattle.std.specs.Prelude.{◌≡◌, ℕ, ◌≤◌, Bool, true, false, List, length, Option, Some, Ok};
+ghost use Rattle.std.specs.Prelude.{◌≡◌, ℕ, ◌≤◌, ◌<◌, Bool, true, false, List, length, Option, Some, Ok};
 ghost use Rattle.std.specs.List.{flat_map};
 ghost use mathlib.Core.List.{IsPrefix};
 ghost use Rattle.sb_types.specs.declared.entry.Slot.TheVariants.{Set};
@@ -19,6 +19,7 @@ ghost use Rattle.sb_views.specs.Histories.{node_events_of, node_after};
 ghost use Rattle.sb_views.specs.Publishing.{IsView};
 ghost use Rattle.sb_directory.specs.Serving.{AnswersAfter};
 ghost use Rattle.sb_handlers.specs.Forgetting.{is_forgotten, kept_blocks};
+ghost use Rattle.sb_run.specs.Turns.{turn_after};
 ghost use Rattle.sb_run.specs.Together.{RunEvent, history_of, AreOpened, CanGive, HappenInTurn};
 
 use sb_digest::digests_are_true;
@@ -152,4 +153,9 @@ pub fn forgotten_owners_stay_out()
         Stands (kept_blocks names blocks) b → Stands blocks b × (is_forgotten names b.owner ≡ false) }
     ensures all { (names : List (List ℕ)) (blocks : List Block) (b : Block) →
         Stands blocks b → is_forgotten names b.owner ≡ false → Stands (kept_blocks names blocks) b }
+{}
+
+/// Law: if nobody is passed over, each of so many peers has its turn within as many turns as there are peers.
+pub fn turns_come_to_all()
+    ensures each { (count turn index : ℕ) → index < count → (more : ℕ) × (more < count) × (turn_after count turn more ≡ index) }
 {}

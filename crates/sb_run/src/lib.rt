@@ -49,8 +49,10 @@
 //! - The loop that accepts connections ends if one accept fails. Only `tools/check-node` refuses it.
 //! - `Turns`, `Schedule`, `Counts`, `BusyWorkers` or `Peers` gives the observer a wrong state, or reports too seldom or
 //!   never. The tests of `sb_run` and `tools/check-node` refuse it.
-//! - If a peer is passed over, another than the next is dialed, or nobody. `next_in_turn` covers the first turn
-//!   alone. The tests of `sb_run` and `tools/check-node` refuse it.
+//! - If a peer is passed over, another than the next is dialed. `next_in_turn` covers the first turn alone, and that somebody
+//!   is dialed. The tests of `sb_run` and `tools/check-node` refuse it.
+//! - `dial_peer` connects to nobody: no contract sees a socket. The tests of `sb_run` and `tools/check-node` refuse it. By the
+//!   types `Round` and `DialEnd` each round that has begun calls it before it ends.
 //! - No burst is dialed, or its peers are dialed one after another. The tests of `sb_run` and `tools/check-node`
 //!   refuse it.
 //! - A peer is pushed less than it may lack, because news is left out of its backlog, or because the delta is made before
@@ -71,7 +73,7 @@
 //! - A request or session may take too long, because its time never begins, or because it goes on once its time is
 //!   over. The tests of `sb_run` and `tools/check-node` refuse it.
 //! - A log that failed while the node runs does not end a node that must exit. Tests and `tools/check-node` refuse it.
-//! - A running node purges too seldom or never, or does not count or report it. `tools/check-node` refuses it.
+//! - A running node does not ask whether a purge is due, or does not count or report a purge. `tools/check-node` refuses it.
 //! - A node purges its own table although its log is closed. `tools/check-node` refuses it.
 //! - A node never asks whether the file of its log is lost, or goes on writing to it. Tests and `tools/check-node`
 //!   refuse it.
@@ -86,7 +88,7 @@
 //! - `run_node` purges its log first. It promises nothing of the log that it drops. Tests and `tools/check-node`
 //!   refuse it.
 //! - `run_node` reports `StoreFailed` or `LogDamaged` for a whole log. Tests refuse it.
-//! - A node makes fewer rounds than it reports, and dials nobody in any. Tests refuse it.
+//! - A round counts twice, so a node makes fewer than it reports. Tests refuse it.
 //! - A node has fewer worker threads than seats for them. `as_many_peers_are_served_at_once_as_there_are_workers`
 //!   refuses it.
 //! - A round has one exchange only, so it does not ask for owners after its first digest.
@@ -104,8 +106,9 @@
 //! - A worker asks the gate for another session than its own. `a_session_waits_for_another` refuses it.
 //! - `serve_control` answers each question with the number of `Closed`. No clause promises that a seat may enter.
 //!   Tests and `tools/check-node` refuse it.
-//! - The status of a node has a wrong uptime or a wrong count of owners, removals, rounds, workers or troubles. Clauses
-//!   cover its version, its keys, its conflict, and whether it is caught up. Tests and `tools/check-node` refuse it.
+//! - The status of a node has a wrong uptime, or counts its owners, rows, busy workers or troubles wrongly. Clauses cover
+//!   its version, its keys, its conflict, its rounds, its workers, and whether it is caught up. Tests and `tools/check-node`
+//!   refuse it.
 //! - A session takes blocks of an owner that the node is to forget, since it has no `ForgettingHandler`. Or the observer
 //!   learns of another owner, or never. The tests of `sb_run` and `tools/check-node` refuse it.
 //! - A node audits nobody, another peer, too seldom or too often, or does not report what it found. Or an audit asks for too
@@ -169,6 +172,7 @@ mod pool;
 mod purging;
 mod pushing;
 mod schedule;
+mod session_end;
 mod sockets;
 mod status_reply;
 mod status_texts;
@@ -179,7 +183,10 @@ mod write_request;
 
 pub use http_socket::is_own_port;
 pub use http_threads::HTTP_WORKERS;
-pub use laws::{forgotten_owners_stay_out, running_nodes_keep_truth, running_nodes_tell_truth};
+pub use laws::{
+    forgotten_owners_stay_out, running_nodes_keep_truth, running_nodes_tell_truth,
+    turns_come_to_all,
+};
 pub use node::{
     Beat, NodeConfig, OnLogFault, Pace, Paths, Ran, Runtime, run_closed_node, run_node,
 };

@@ -60,7 +60,7 @@ pub struct Pace {
     pub rounds: u64,
     /// How long it waits after each round in turn, in milliseconds.
     pub pause: u64,
-    /// How many peers it dials side by side where it has something new to pass on; 0 for none.
+    /// How many peers it dials side by side if it has something new to pass on; 0 for none.
     pub fanout: u64,
     /// How long a connection may move no byte, in milliseconds; 0 for no limit.
     pub idle: u64,

@@ -58,6 +58,7 @@ impl<L: WriteLog> OwnWrites<L> {
         ensures log { result.log ≡ log }
         ensures owed { result.owed ≡ None }
         ensures calm { (result.stored ≡ None) × (result.has_failed ≡ false) }
+        ensures full { result.was_full ≡ false }
     {
         OwnWrites {
             log,
@@ -73,6 +74,7 @@ impl<L: WriteLog> OwnWrites<L> {
         ensures log { result.log ≡ log }
         ensures owed { result.owed ≡ None }
         ensures failed { (result.stored ≡ None) × (result.has_failed ≡ true) }
+        ensures full { result.was_full ≡ false }
     {
         OwnWrites {
             log,
@@ -94,6 +96,7 @@ impl<L: WriteLog> OwnWrites<L> {
     pub(crate) fn take_stored(&mut self) -> Option<u64>
         ensures stored { (result ≡ self.old.stored) × (self.new.stored ≡ None) }
         ensures same { (self.new.log ≡ self.old.log) × (self.new.owed ≡ self.old.owed) × (self.new.has_failed ≡ self.old.has_failed) }
+        ensures full { self.new.was_full ≡ self.old.was_full }
     {
         self.stored.take()
     }
@@ -102,6 +105,7 @@ impl<L: WriteLog> OwnWrites<L> {
     pub(crate) fn take_failure(&mut self) -> bool
         ensures failed { (result ≡ self.old.has_failed) × (self.new.has_failed ≡ false) }
         ensures same { (self.new.log ≡ self.old.log) × (self.new.owed ≡ self.old.owed) × (self.new.stored ≡ self.old.stored) }
+        ensures full { self.new.was_full ≡ self.old.was_full }
     {
         let has_failed = self.has_failed;
         self.has_failed = false;
@@ -132,10 +136,13 @@ impl<L: WriteLog> OwnWrites<L> {
         ensures owed { self.new.owed ≡ self.old.owed }
         ensures stored { IfOk result (λ committed. self.new.stored ≡ Some committed.entry.version) }
         ensures unstored { OnErr result (self.new.stored ≡ self.old.stored) }
-        // A log is said to have failed only where this write closed it by a fault of its store.
+        // A log is said to have failed only if this write closed it by a fault of its store.
         ensures failed { self.new.has_failed ≡ true → (self.old.has_failed ≡ true) ⊎ (result ≡ Err Fault.StoreFailed) }
         ensures fails { result ≡ Err Fault.StoreFailed → self.new.has_failed ≡ true }
         ensures full { result ≡ Err Fault.TableFull → self.new.was_full ≡ true }
+        // Only a write for which no key is left counts so, and it counts until that is asked for.
+        ensures only_full { self.new.was_full ≡ true → (self.old.was_full ≡ true) ⊎ (result ≡ Err Fault.TableFull) }
+        ensures still_full { self.old.was_full ≡ true → self.new.was_full ≡ true }
         // One that was open and is closed now has failed.
         ensures closes { (L.seen self.old.log).is_open ≡ true → (L.seen self.new.log).is_open ≡ false → self.new.has_failed ≡ true }
     {
@@ -159,6 +166,7 @@ impl<L: WriteLog> OwnWrites<L> {
     ) -> Result<(), Fault>
         ensures log { self.new.log ≡ self.old.log }
         ensures same { self.new.has_failed ≡ self.old.has_failed }
+        ensures full { self.new.was_full ≡ self.old.was_full }
         // What is handed in is news.
         ensures news { OnOk result (self.new.stored ≡ news_after self.old.owed self.old.stored) }
         ensures unstored { OnErr result (self.new.stored ≡ self.old.stored) }
@@ -210,6 +218,8 @@ impl<L: WriteLog> OwnWrites<L> {
         // Where only what was owed is handed in, that is the news.
         ensures news { OnErr result ((self.new.stored ≡ self.old.stored) ⊎ ((self.new.owed ≡ None) × (self.new.stored ≡ news_after self.old.owed self.old.stored))) }
         ensures failed { self.new.has_failed ≡ true → (self.old.has_failed ≡ true) ⊎ (result ≡ Err Fault.StoreFailed) }
+        ensures only_full { self.new.was_full ≡ true → (self.old.was_full ≡ true) ⊎ (result ≡ Err Fault.TableFull) }
+        ensures still_full { self.old.was_full ≡ true → self.new.was_full ≡ true }
         ensures closes { (L.seen self.old.log).is_open ≡ true → (L.seen self.new.log).is_open ≡ false → self.new.has_failed ≡ true }
     {
         self.hand_in(rt, directory, seat)?;
@@ -231,6 +241,7 @@ impl<L: WriteLog> OwnWrites<ClosableLog<L>> {
         ensures closed { self.new.log.closed_by ≡ Some cause }
         ensures log { self.new.log.log ≡ self.old.log.log }
         ensures same { (self.new.owed ≡ self.old.owed) × (self.new.stored ≡ self.old.stored) × (self.new.has_failed ≡ self.old.has_failed) }
+        ensures full { self.new.was_full ≡ self.old.was_full }
     {
         self.log.close_by(cause);
     }

@@ -1,5 +1,5 @@
 //! The peers of a node, and whose turn it is to be dialed.
-ghost use Rattle.std.specs.Prelude.{◌≡◌, ◌≢◌, ◌+◌, ◌-◌, ◌<◌, ℕ, ◌&&◌, not, false, true, nat_lt, map, None, Some, slice_get, vec_len, IfSome, IfOk, IfErr};
+ghost use Rattle.std.specs.Prelude.{◌≡◌, ◌≢◌, ◌+◌, ◌-◌, ◌<◌, ℕ, ◌&&◌, not, false, true, nat_eq, nat_lt, map, None, Some, slice_get, vec_len, IfSome, IfOk, IfErr};
 ghost use Rattle.sb_run.specs.Turns as spec;
 ghost use Rattle.sb_run.specs.StatusReplies as replies;
 
@@ -142,6 +142,13 @@ impl<'a> Peers<'a> {
         })
     }
 
+    /// Whether there are none.
+    pub(crate) fn is_empty(&self) -> bool
+        ensures { result ≡ nat_eq (vec_len self.now.all) 0 }
+    {
+        self.all.is_empty()
+    }
+
     /// Takes the next turn: the index of the peer whose turn it is, and whether it is passed over. None if there are no
     /// peers.
     fn take_turn(&mut self) -> Option<(usize, bool)>
@@ -155,6 +162,7 @@ impl<'a> Peers<'a> {
         ensures passed { IfSome result (λ taken. IfSome (slice_get self.old.all.items taken.0) (λ before. IfSome (slice_get self.new.all.items taken.0)
             (λ after. (after.turns_out ≡ before.turns_out - 1) × (after.path ≡ before.path) × (after.state ≡ before.state) × (after.round ≡ before.round) × (after.misses ≡ before.misses)))) }
         ensures others { IfSome result (λ taken. (index : ℕ) → index ≢ taken.0 → slice_get self.new.all.items index ≡ slice_get self.old.all.items index) }
+        ensures count { vec_len self.new.all ≡ vec_len self.old.all }
     {
         let turn = turn_of(self.all.len(), self.turn);
         self.turn = turn.saturating_add(1);
@@ -169,19 +177,24 @@ impl<'a> Peers<'a> {
     pub(crate) fn next_in_turn(&mut self) -> Option<usize>
         ensures first { IfSome (slice_get self.old.all.items (spec.turn_of (vec_len self.old.all) self.old.turn))
             (λ peer. peer.turns_out ≡ 0 → result ≡ Some (spec.turn_of (vec_len self.old.all) self.old.turn)) }
+        // If there are peers, there is one to dial.
+        ensures none { result ≡ None → vec_len self.old.all ≡ 0 }
         ensures within { IfSome result (λ index. index < vec_len self.new.all) }
         ensures next { IfSome result (λ index. self.new.turn ≡ index + 1) }
         ensures burst { self.new.burst_turn ≡ self.old.burst_turn }
+        ensures count { vec_len self.new.all ≡ vec_len self.old.all }
     {
         let (turn, is_out) = self.take_turn()?;
         if is_out { self.pass_over() } else { Some(turn) }
     }
 
-    /// The index of the next peer that is not passed over, after one that is.
+    /// The index of the next peer that is not passed over, after one that is. None if there are no peers.
     fn pass_over(&mut self) -> Option<usize>
+        ensures none { result ≡ None → vec_len self.old.all ≡ 0 }
         ensures within { IfSome result (λ index. index < vec_len self.new.all) }
         ensures next { IfSome result (λ index. self.new.turn ≡ index + 1) }
         ensures burst { self.new.burst_turn ≡ self.old.burst_turn }
+        ensures count { vec_len self.new.all ≡ vec_len self.old.all }
     {
         let most = self.all.len().saturating_mul(TURNS_OUT as usize + 1);
         for _ in 0..most {
@@ -190,7 +203,9 @@ impl<'a> Peers<'a> {
                 return Some(turn);
             }
         }
-        None
+        // By now nobody is to be passed over any more.
+        let (turn, _) = self.take_turn()?;
+        Some(turn)
     }
 
     /// Takes the next turn of a burst: the index of the peer whose turn it is, and whether it is dialed for news. None if

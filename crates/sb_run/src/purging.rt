@@ -1,8 +1,9 @@
 //! When the calling thread of a running node purges the node's own table and log.
-ghost use Rattle.std.specs.Prelude.{◌≡◌, true, false};
+ghost use Rattle.std.specs.Prelude.{◌≡◌, true, false, if◌then◌else◌};
 ghost use Rattle.sb_log.specs.Puts.{IsSettled};
 ghost use Rattle.sb_directory.specs.Serving.{IsLater};
-ghost use Rattle.sb_run.specs.OwnPurging.{running_least, MayPurge};
+ghost use Rattle.sb_run.specs.OwnPurging.{running_least, counts_now, MayPurge};
+ghost use Rattle.sb_run.specs.Turns.{one_more};
 
 use crate::dialer::RoundsTag;
 use crate::observer::Observer;
@@ -28,6 +29,7 @@ impl PurgeTurns {
     /// It purges with as many removed keys as is given, but with no fewer than 64; never if 0 is given.
     pub(crate) fn new(given: u64) -> PurgeTurns
         ensures least { result.least ≡ running_least given }
+        ensures writes { result.writes ≡ 0 }
     {
         let least = match given {
             0 => 0,
@@ -39,6 +41,7 @@ impl PurgeTurns {
     /// A request came, which may ask for a write.
     pub(crate) fn note(&mut self, is_put: bool)
         ensures least { self.new.least ≡ self.old.least }
+        ensures writes { self.new.writes ≡ (if is_put then one_more self.old.writes else self.old.writes) }
     {
         if is_put {
             self.writes = self.writes.saturating_add(1);
@@ -46,13 +49,21 @@ impl PurgeTurns {
     }
 
     /// Whether it counts the removed keys now. It does after an eighth as many writes, and if the table is full after each write.
+    fn counts_now(&self, is_full: bool) -> bool
+        ensures counts { result ≡ counts_now self.now.least self.now.writes is_full }
+        ensures never { self.now.least ≡ 0 → result ≡ false }
+    {
+        self.least > 0 && self.writes > 0 && (is_full || self.writes >= self.least / 8)
+    }
+
+    /// Whether it counts the removed keys now. If so, the count of writes begins again.
     fn is_next(&mut self, is_full: bool) -> bool
         ensures least { self.new.least ≡ self.old.least }
         ensures never { self.old.least ≡ 0 → result ≡ false }
+        ensures next { result ≡ counts_now self.old.least self.old.writes is_full }
+        ensures writes { self.new.writes ≡ (if result then 0 else self.old.writes) }
     {
-        let is_next = self.least > 0
-            && self.writes > 0
-            && (is_full || self.writes >= self.least / 8);
+        let is_next = self.counts_now(is_full);
         if is_next {
             self.writes = 0;
         }

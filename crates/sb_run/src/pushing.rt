@@ -49,7 +49,9 @@ fn fits_push(length: u64, digests: u64, budget: u64) -> bool
 
 impl<S: RoundsTag> News<S> {
     /// Whether it has a block of each of so many owners. One whose log was purged above what the peer has is left out.
-    fn is_of_all(&self, owners: usize) -> bool {
+    fn is_of_all(&self, owners: usize) -> bool
+        ensures { result ≡ spec.are_of_all owners self.now.delta }
+    {
         self.delta.blocks().len() == owners
     }
 
@@ -73,7 +75,9 @@ impl<S: RoundsTag, H: Wait + Drop, Q: Wait> NodeContext<'_, S, H, Q> {
     }
 
     /// Whether news of so many owners is pushed by a node whose own digests have so many bytes.
-    pub(crate) fn can_push(&self, news: &News<S>, owners: usize, digests: u64) -> bool {
+    pub(crate) fn can_push(&self, news: &News<S>, owners: usize, digests: u64) -> bool
+        ensures { result ≡ spec.can_push news.now.delta owners digests S.settings.budget }
+    {
         let budget = self.directory.settings().budget();
         news.is_of_all(owners) && fits_push(news.delta.encoded_length(), digests, budget)
     }

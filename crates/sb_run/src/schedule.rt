@@ -1,14 +1,16 @@
 //! Whom to dial next, and the rounds that were made: what the threads that dial share, under one lock.
-ghost use Rattle.std.specs.Prelude.{◌≡◌, true, false, None, IfSome, MatchOption, IfOk, IfErr, ◌+◌, slice_get, vec_len, replicate};
+ghost use Rattle.std.specs.Prelude.{◌≡◌, ◌<◌, ◌≤◌, true, false, None, Some, IfSome, IsSomeAnd, MatchOption, IfOk, IfErr, ◌+◌, slice_get, vec_len, replicate, ℕ, List, length, nat_lt};
 ghost use Rattle.sb_run.specs.Deliveries as spec;
 ghost use Rattle.sb_run.specs.StatusReplies.{have_had_rounds};
-ghost use Rattle.sb_run.specs.Turns.{turn_of};
+ghost use Rattle.sb_run.specs.Turns.{one_more, turn_of, number_of_state};
 
 use crate::bell::Bell;
 use crate::dialer::{has_come, moment_after};
+use crate::dialing::DialEnd;
 use crate::node::Pace;
 use crate::observer::Observer;
-use crate::peers::{Peer, PeerState, Peers, turn_of};
+use crate::peers::{Peer, Peers, turn_of};
+use crate::session_end::SessionEnd;
 use sb_codec::PeerStatus;
 use sb_types::Fault;
 use std::alloc::Global;
@@ -20,17 +22,6 @@ const NEWS_INTERVAL: u64 = 20;
 /// The same after a burst of news that was gathered, as in a stream of writes.
 const STREAM_INTERVAL: u64 = 60;
 
-/// How a session with a peer ended: a round, or a push.
-#[derive(Clone, Copy)]
-pub(crate) struct SessionEnd {
-    /// How the peer is by it.
-    pub(crate) state: PeerState,
-    /// Whether it took as long as a connection to a peer may be idle.
-    pub(crate) has_waited: bool,
-    /// Whether it took so long that the peer is a slow one.
-    pub(crate) is_slow: bool,
-}
-
 /// Why a round is made.
 #[derive(Clone, Copy)]
 pub(crate) enum Cause {
@@ -38,6 +29,30 @@ pub(crate) enum Cause {
     Turn,
     /// There is news for the peer.
     News,
+}
+
+/// A round that has begun: with which peer, and why. Only `begin_round_in_turn` and `begin_round_for_news` make it. It can be neither
+/// copied nor let go, so each round that has begun ends once, by a dial of its peer.
+pub(crate) struct Round<'a> {
+    index: usize,
+    path: &'a str,
+    cause: Cause,
+}
+
+impl<'a> Round<'a> {
+    /// The index of its peer.
+    pub(crate) fn index(&self) -> usize
+        ensures { result ≡ self.now.index }
+    {
+        self.index
+    }
+
+    /// The path of its peer.
+    pub(crate) fn path(&self) -> &'a str
+        ensures { result ≡ self.now.path }
+    {
+        self.path
+    }
 }
 
 /// What a thread that dials for news is to do next.
@@ -56,6 +71,28 @@ pub(crate) struct RoundCounts {
     pub(crate) ended: u64,
     /// How many of these had a fault.
     pub(crate) faults: u64,
+}
+
+/// All rounds that were to be made, which have ended. Only `Schedule` makes it, once it has counted as many.
+#[derive(Drop)]
+pub(crate) struct AllRounds {
+    faults: u64,
+}
+
+impl AllRounds {
+    /// How many faults there were.
+    pub(crate) fn faults(&self) -> u64
+        ensures { result ≡ self.now.faults }
+    {
+        self.faults
+    }
+
+    /// The same rounds, with so many more faults.
+    pub(crate) fn with_faults(self, more: u64) -> AllRounds {
+        AllRounds {
+            faults: self.faults.saturating_add(more),
+        }
+    }
 }
 
 /// What the status of a node says of its rounds and its peers.
@@ -105,7 +142,8 @@ impl<'a> Schedule<'a> {
         most: u64,
         sessions: usize,
     ) -> Result<Schedule<'a>, Fault>
-        ensures { IfErr result (λ fault. fault ≡ Fault.NoMemory) }
+        ensures new { IfOk result (λ schedule. (schedule.most ≡ most) × (schedule.begun ≡ 0) × (schedule.counts.ended ≡ 0) × (schedule.counts.faults ≡ 0)) }
+        ensures memory { IfErr result (λ fault. fault ≡ Fault.NoMemory) }
     {
         Ok(Schedule {
             peers: Peers::new(alloc, paths)?,
@@ -129,11 +167,55 @@ impl<'a> Schedule<'a> {
         self.most == 0 || self.begun < self.most
     }
 
-    /// Begins a round in turn, if another round may begin, and gives the index of the peer whose turn it is, if there are peers.
-    /// The first round leaves each other peer due.
-    pub(crate) fn begin_turn(&mut self) -> Option<Option<usize>>
+    /// A round with the peer at this index, which has begun.
+    fn round_with(&self, index: usize, cause: Cause) -> Round<'a>
+        ensures index { result.index ≡ index }
+        ensures path { IfSome (slice_get self.now.peers.all.items index) (λ peer. result.path ≡ peer.path) }
+        ensures cause { result.cause ≡ cause }
+    {
+        Round {
+            index,
+            path: self.peers.path(index),
+            cause,
+        }
+    }
+
+    /// Begins a round in turn, if another round may begin: the round with the peer whose turn it is, if there are peers.
+    pub(crate) fn begin_round_in_turn(&mut self) -> Option<Option<Round<'a>>>
         ensures none { result ≡ None → spec.has_round_left self.old.most self.old.begun ≡ false }
         ensures some { IfSome result (λ _. spec.has_round_left self.old.most self.old.begun ≡ true) }
+        ensures counted { IfSome result (λ _. self.new.begun ≡ one_more self.old.begun) }
+        ensures turn { IfSome result (λ next. IfSome (slice_get self.old.peers.all.items (turn_of (vec_len self.old.peers.all) self.old.peers.turn))
+            (λ peer. peer.turns_out ≡ 0 → IsSomeAnd next (λ round. round.index ≡ turn_of (vec_len self.old.peers.all) self.old.peers.turn))) }
+        ensures someone { IfSome result (λ next. next ≡ None → vec_len self.old.peers.all ≡ 0) }
+        ensures path { IfSome result (λ next. IfSome next (λ round. IfSome (slice_get self.new.peers.all.items round.index) (λ peer. round.path ≡ peer.path))) }
+        ensures next { IfSome result (λ next. IfSome next (λ round. self.new.peers.turn ≡ round.index + 1)) }
+        ensures counts { (self.new.counts ≡ self.old.counts) × (self.new.most ≡ self.old.most) }
+        ensures same { result ≡ None → self.new ≡ self.old }
+        ensures first { self.old.begun ≡ 0 → IfSome result (λ next. IfSome next (λ round. spec.Changes round.index spec.without_news self.old.deliveries.all.items self.new.deliveries.all.items)) }
+    {
+        let next = self.begin_turn()?;
+        match next {
+            Some(index) => Some(Some(self.round_with(index, Cause::Turn))),
+            None => Some(None),
+        }
+    }
+
+    /// Counts one more round that has begun, if it may begin, and gives the index of the peer whose turn it is, if there are peers.
+    /// The first round leaves each other peer due.
+    fn begin_turn(&mut self) -> Option<Option<usize>>
+        ensures none { result ≡ None → spec.has_round_left self.old.most self.old.begun ≡ false }
+        ensures some { IfSome result (λ _. spec.has_round_left self.old.most self.old.begun ≡ true) }
+        ensures counted { IfSome result (λ _. self.new.begun ≡ one_more self.old.begun) }
+        // It is the peer whose turn it is, unless that one is passed over. If there are peers, there is one.
+        ensures turn { IfSome result (λ next. IfSome (slice_get self.old.peers.all.items (turn_of (vec_len self.old.peers.all) self.old.peers.turn))
+            (λ peer. peer.turns_out ≡ 0 → next ≡ Some (turn_of (vec_len self.old.peers.all) self.old.peers.turn))) }
+        ensures someone { IfSome result (λ next. next ≡ None → vec_len self.old.peers.all ≡ 0) }
+        ensures within { IfSome result (λ next. IfSome next (λ index. index < vec_len self.new.peers.all)) }
+        ensures next { IfSome result (λ next. IfSome next (λ index. self.new.peers.turn ≡ index + 1)) }
+        ensures count { vec_len self.new.peers.all ≡ vec_len self.old.peers.all }
+        ensures counts { (self.new.counts ≡ self.old.counts) × (self.new.most ≡ self.old.most) }
+        ensures same { result ≡ None → self.new ≡ self.old }
         ensures first { self.old.begun ≡ 0 → IfSome result (λ next. IfSome next (λ index. spec.Changes index spec.without_news self.old.deliveries.all.items self.new.deliveries.all.items)) }
     {
         if !self.has_round_left() {
@@ -150,6 +232,8 @@ impl<'a> Schedule<'a> {
 
     /// Notes that the peer at this index, if there is one, is not dialed for news: its first round is in turn.
     fn leave_to_turn(&mut self, next: Option<usize>)
+        ensures peers { (self.new.peers ≡ self.old.peers) × (self.new.begun ≡ self.old.begun) }
+        ensures counts { (self.new.counts ≡ self.old.counts) × (self.new.most ≡ self.old.most) }
         ensures left { IfSome next (λ index. spec.Changes index spec.without_news self.old.deliveries.all.items self.new.deliveries.all.items) }
     {
         if let Some(index) = next {
@@ -170,12 +254,22 @@ impl<'a> Schedule<'a> {
         None
     }
 
-    /// Notes that there is news for the next so many peers that are dialed for news.
-    fn begin_burst(&mut self, fanout: u64) {
+    /// Notes that there is news for the next peer that is dialed for news. Gives its index; none if nobody is.
+    fn expect_next(&mut self) -> Option<usize>
+        ensures none { result ≡ None → self.new.deliveries.all.items ≡ self.old.deliveries.all.items }
+        ensures some { IfSome result (λ index. spec.Changes index spec.with_news self.old.deliveries.all.items self.new.deliveries.all.items) }
+    {
+        let index = self.peers.next_in_burst()?;
+        self.deliveries.expect(index);
+        Some(index)
+    }
+
+    /// Notes that there is news for the next so many peers that are dialed for news, or for all of these.
+    fn begin_burst(&mut self, fanout: u64)
+        ensures { (dialed : List ℕ) × (length dialed ≤ fanout) × spec.ExpectInTurn dialed self.old.deliveries.all.items self.new.deliveries.all.items }
+    {
         for _ in 0..fanout.min(self.peers.count_for_news()) {
-            if let Some(index) = self.peers.next_in_burst() {
-                self.deliveries.expect(index);
-            }
+            let _ = self.expect_next();
         }
     }
 
@@ -204,24 +298,34 @@ impl<'a> Schedule<'a> {
         }
     }
 
-    /// Begins a round for news, if another round may begin, and says whether it does.
-    pub(crate) fn begin_round_for_news(&mut self) -> bool
-        ensures { result ≡ spec.has_round_left self.old.most self.old.begun }
+    /// Begins a round for news with the peer at this index, if another round may begin.
+    pub(crate) fn begin_round_for_news(&mut self, index: usize) -> Option<Round<'a>>
+        ensures none { result ≡ None → spec.has_round_left self.old.most self.old.begun ≡ false }
+        ensures some { IfSome result (λ _. spec.has_round_left self.old.most self.old.begun ≡ true) }
+        ensures counted { IfSome result (λ _. self.new.begun ≡ one_more self.old.begun) }
+        ensures peer { IfSome result (λ round. round.index ≡ index) }
+        ensures path { IfSome result (λ round. IfSome (slice_get self.new.peers.all.items index) (λ peer. round.path ≡ peer.path)) }
+        ensures counts { (self.new.counts ≡ self.old.counts) × (self.new.most ≡ self.old.most) }
+        ensures same { result ≡ None → self.new ≡ self.old }
     {
         if !self.has_round_left() {
-            return false;
+            return None;
         }
         self.begun = self.begun.saturating_add(1);
-        true
+        Some(self.round_with(index, Cause::News))
     }
 
     /// Notes that there is news for the peer at this index.
-    pub(crate) fn expect(&mut self, index: usize) {
+    pub(crate) fn expect(&mut self, index: usize)
+        ensures { spec.Changes index spec.with_news self.old.deliveries.all.items self.new.deliveries.all.items }
+    {
         self.deliveries.expect(index);
     }
 
     /// Ends a session for news with a peer that was not dialed.
-    pub(crate) fn leave_out(&mut self, index: usize) {
+    pub(crate) fn leave_out(&mut self, index: usize)
+        ensures { spec.Changes index spec.left_out self.old.deliveries.all.items self.new.deliveries.all.items }
+    {
         self.deliveries.leave_out(index);
     }
 
@@ -232,7 +336,10 @@ impl<'a> Schedule<'a> {
         index: usize,
         end: SessionEnd,
         observer: &O,
-    ) -> bool {
+    ) -> bool
+        ensures delivery { spec.Changes index (spec.ended end.is_slow) self.old.deliveries.all.items self.new.deliveries.all.items }
+        ensures counts { self.new.counts ≡ self.old.counts }
+    {
         self.deliveries.end(index, end.is_slow);
         if self
             .peers
@@ -243,40 +350,77 @@ impl<'a> Schedule<'a> {
         self.peers.takes_news(index)
     }
 
-    /// Takes down how a round with a peer ended, and tells the observer if the peer is otherwise than before. Returns whether
-    /// the peer is dialed for news from then on.
+    /// Ends a round by what came of the dial of its peer, and tells the observer if the peer is otherwise than before. Returns
+    /// whether the peer is dialed for news from then on.
     pub(crate) fn end_round<O: Observer>(
         &mut self,
-        index: usize,
-        cause: Cause,
-        end: SessionEnd,
+        round: Round<'a>,
+        dial: DialEnd,
         observer: &O,
-    ) -> bool {
+    ) -> bool
+        requires peer { dial.index ≡ round.index }
+        ensures delivery { spec.Changes round.entry.index (spec.after_round round.entry.cause dial.end.is_slow) self.old.deliveries.all.items self.new.deliveries.all.items }
+        ensures ended { self.new.counts.ended ≡ one_more self.old.counts.ended }
+        ensures faults { self.new.counts.faults ≡ spec.faults_after (nat_lt 0 (number_of_state dial.end.state)) self.old.counts.faults }
+        ensures begun { (self.new.begun ≡ self.old.begun) × (self.new.most ≡ self.old.most) }
+    {
+        let Round {
+            index,
+            path: _,
+            cause,
+        } = round;
+        let end = dial.end();
         self.count_round(end.state.has_fault());
-        let round = self.counts.ended;
-        match cause {
-            Cause::Turn => self.deliveries.note_pace(index, end.is_slow),
-            Cause::News => self.deliveries.end(index, end.is_slow),
-        }
+        let number = self.counts.ended;
+        self.deliveries.end_round(index, cause, end.is_slow);
         if self
             .peers
-            .note(index, round, end.state, end.has_waited, observer)
+            .note(index, number, end.state, end.has_waited, observer)
         {
             self.has_changed = true;
         }
         self.peers.takes_news(index)
     }
 
+    /// Counts a turn in which nobody is dialed, since there are no peers.
+    pub(crate) fn count_empty_turn(&mut self)
+        ensures same { 0 < vec_len self.old.peers.all → self.new ≡ self.old }
+        ensures ended { vec_len self.old.peers.all ≡ 0 → self.new.counts.ended ≡ one_more self.old.counts.ended }
+    {
+        if self.peers.is_empty() {
+            self.count_round(false);
+        }
+    }
+
     /// Counts a round that has ended, with a fault or not.
-    pub(crate) fn count_round(&mut self, has_fault: bool) {
+    fn count_round(&mut self, has_fault: bool)
+        ensures ended { self.new.counts.ended ≡ one_more self.old.counts.ended }
+        ensures faults { self.new.counts.faults ≡ spec.faults_after has_fault self.old.counts.faults }
+        ensures deliveries { self.new.deliveries ≡ self.old.deliveries }
+        ensures begun { (self.new.begun ≡ self.old.begun) × (self.new.most ≡ self.old.most) }
+    {
         self.counts.ended = self.counts.ended.saturating_add(1);
         if has_fault {
             self.counts.faults = self.counts.faults.saturating_add(1);
         }
     }
 
+    /// All rounds, once as many have ended as are to be made.
+    pub(crate) fn all_if_done(&self) -> Option<AllRounds>
+        ensures made { IfSome result (λ all. (0 < self.now.most) × (self.now.most ≤ self.now.counts.ended) × (all.faults ≡ self.now.counts.faults)) }
+        ensures none { result ≡ None → spec.faults_if_done self.now.most self.now.counts ≡ None }
+    {
+        match self.faults_if_done() {
+            Some(faults) => Some(AllRounds { faults }),
+            None => None,
+        }
+    }
+
     /// How many rounds had a fault, once all that are to be made have ended.
-    pub(crate) fn faults_if_done(&self) -> Option<u64> {
+    fn faults_if_done(&self) -> Option<u64>
+        ensures count { result ≡ spec.faults_if_done self.now.most self.now.counts }
+        ensures made { IfSome result (λ faults. (0 < self.now.most) × (self.now.most ≤ self.now.counts.ended) × (faults ≡ self.now.counts.faults)) }
+    {
         if self.most != 0 && self.counts.ended >= self.most {
             Some(self.counts.faults)
         } else {
@@ -333,6 +477,7 @@ impl<'a> Schedule<'a> {
 
     /// What the status of a node says of its rounds and its peers. `NoMemory`.
     pub(crate) fn peers_report(&self, alloc: Global) -> Result<PeersReport, Fault>
+        ensures counts { IfOk result (λ report. report.counts ≡ self.now.counts) }
         ensures caught_up { IfOk result (λ report. report.is_caught_up ≡ have_had_rounds report.peers.items) }
         ensures memory { IfErr result (λ fault. fault ≡ Fault.NoMemory) }
     {
@@ -505,6 +650,17 @@ impl Deliveries {
         if let Some(delivery) = self.all.get_mut(index) {
             delivery.is_open = false;
             delivery.is_slow = is_slow;
+        }
+    }
+
+    /// Ends a round with the peer at this index that was made for this reason, and took long or not.
+    pub(crate) fn end_round(&mut self, index: usize, cause: Cause, is_slow: bool)
+        ensures most { self.new.most ≡ self.old.most }
+        ensures changes { spec.Changes index (spec.after_round cause is_slow) self.old.all.items self.new.all.items }
+    {
+        match cause {
+            Cause::Turn => self.note_pace(index, is_slow),
+            Cause::News => self.end(index, is_slow),
         }
     }
 

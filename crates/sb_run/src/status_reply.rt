@@ -139,6 +139,9 @@ impl<S: RoundsTag, H: Wait + Drop, Q: Wait + Clock> NodeContext<'_, S, H, Q> {
     /// All that the node says of itself: of what it holds, of its peers, and what its threads counted.
     fn facts(&self, held: &HeldCounts, report: &PeersReport) -> Facts
         ensures held { (result.version ≡ held.now.version) × (result.keys ≡ held.now.keys) × (result.conflict ≡ held.now.conflict) }
+        ensures rows { (result.rows ≡ held.now.rows) × (result.owners ≡ held.now.owners) }
+        ensures rounds { result.rounds ≡ report.now.counts }
+        ensures workers { result.workers ≡ S.settings.workers }
         ensures peers { (result.peers ≡ vec_len report.now.peers) × (result.is_caught_up ≡ report.now.is_caught_up) }
     {
         let uptime = self.counts.uptime(self.rt);

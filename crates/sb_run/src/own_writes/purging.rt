@@ -17,6 +17,7 @@ impl<L: WriteLog> OwnWrites<L> {
         ensures purges { Purges (L.seen self.old.log) floor result (L.seen self.new.log) }
         ensures settled { IsSettled (L.seen self.new.log) (L.leaves self.new.log) }
         ensures same { (self.new.owed ≡ self.old.owed) × (self.new.stored ≡ self.old.stored) }
+        ensures full { self.new.was_full ≡ self.old.was_full }
         ensures failed { self.new.has_failed ≡ true → (self.old.has_failed ≡ true) ⊎ (result ≡ Err Fault.StoreFailed) }
         ensures closes { (L.seen self.old.log).is_open ≡ true → (L.seen self.new.log).is_open ≡ false → self.new.has_failed ≡ true }
     {
@@ -51,6 +52,7 @@ impl<L: WriteLog> OwnWrites<L> {
         // What was owed and is handed in is news.
         ensures news { (self.new.stored ≡ self.old.stored) ⊎ ((self.new.owed ≡ None) × (self.new.stored ≡ news_after self.old.owed self.old.stored)) }
         ensures failed { self.new.has_failed ≡ true → (self.old.has_failed ≡ true) ⊎ (result ≡ Err Fault.StoreFailed) }
+        ensures full { self.new.was_full ≡ self.old.was_full }
         ensures closes { (L.seen self.old.log).is_open ≡ true → (L.seen self.new.log).is_open ≡ false → self.new.has_failed ≡ true }
     {
         self.hand_in(rt, directory, seat)?;

@@ -1,5 +1,6 @@
 use Rattle.std.proofs.Common.{rules}
 use Rattle.sb_run.proofs.Entering.{session_enters}
+use Rattle.sb_run.proofs.Exchanges.{talks_exchange}
 use Rattle.sb_run.proofs.Hellos.{talks_greet}
 use Rattle.sb_run.proofs.threads.NodeContext.talk.Goals as goal
 
@@ -11,3 +12,6 @@ returns-clause-entered g c =
 
 pub returns-clause-greets : goal.returns-clause-greets
 returns-clause-greets g c = talks_greet _ _ _ _ _ _ _ _ _ _ c.session_of-session.ensures c.dial-ended.ensures.talks
+
+pub returns-clause-rounds : goal.returns-clause-rounds
+returns-clause-rounds g c = talks_exchange _ _ _ _ _ _ _ _ c.dial-ended.ensures.talks
