@@ -69,6 +69,9 @@ def lower_versions(check):
     """What counts is when a connection came, how long before it more was reported, and in which digest."""
     node = check.node("c", "--pause", "100", "--idle", "60000", "--metrics", str(check.folder() / "c.prom"))
     node.start()
+    # Of a connection that came before the node first looked for one, it does not know since when it waits: so one comes before.
+    tells(node, connect(node.sock), 1, name="z")
+    time.sleep(1)
     early = connect(node.sock)
     tells(node, connect(node.sock), 9)
     tells(node, connect(node.sock), 4)
