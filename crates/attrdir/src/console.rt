@@ -70,7 +70,7 @@ pub(crate) struct Console<'r, 'a> {
     pub(crate) rt: &'r HostRuntime,
     pub(crate) name: &'a str,
     pub(crate) log: &'a str,
-    /// The file of its log.
+    /// The files of its log.
     pub(crate) watch: LogWatch<'a>,
     pub(crate) sock: &'a str,
     pub(crate) control: &'a str,
@@ -343,7 +343,7 @@ impl Observer for Console<'_, '_> {
     fn difference_found(&self, peer: &str, difference: &Difference) {
         let (rt, head) = (self.rt, self.head(Level::Error));
         let _ = eprintln!(rt;
-            "{head} node {}: fault 21: another node, or an older copy of the log, writes under this name: peer {peer} {}; no more writes are taken: see RUNBOOK, An older copy of a log",
+            "{head} node {}: fault 21: another node, or an older copy of the log, writes under this name: peer {peer} {}; no more writes are taken: see RUNBOOK, Two nodes with one name, or An older copy of a log",
             self.name,
             DifferenceWords(difference)
         );
@@ -369,12 +369,12 @@ impl Observer for Console<'_, '_> {
 
     fn log_failed(&self, cause: LogCause) {
         let (rt, head) = (self.rt, self.head(Level::Error));
-        let advice = match cause {
-            LogCause::Store(cause) => about_cause(cause),
-            LogCause::Lost(_) => ABOUT_LOSS,
+        let (ending, advice) = match cause {
+            LogCause::Store(cause) => ("", about_cause(cause)),
+            LogCause::Lost(_) => (self.watch.lost_ending(), ABOUT_LOSS),
         };
         let _ = eprintln!(rt;
-            "{head} log {}: fault {}: {cause}; no more writes are taken: {advice}; then start the node again",
+            "{head} log {}{ending}: fault {}: {cause}; no more writes are taken: {advice}; then start the node again",
             self.log,
             Fault::StoreFailed.number()
         );

@@ -1,8 +1,9 @@
-//! Whether the file of a log is still at its path while the node runs.
+//! Whether the two files of a log are still at their paths while the node runs.
 use sb_control::LogLoss;
-use std::fs::{Metadata, metadata};
-use std::io::ErrorKind;
+use std::fs::{Metadata, canonicalize, metadata};
+use std::io::{self, ErrorKind};
 use std::os::unix::fs::MetadataExt;
+use std::sync::atomic::{AtomicBool, AtomicU64, Ordering};
 
 /// Which file it is, of all that the system has.
 #[derive(Clone, Copy, PartialEq, Eq)]
@@ -20,39 +21,101 @@ impl FileNumbers {
     }
 }
 
-/// The file of an open log.
-#[derive(Clone, Copy)]
+/// What the system has of the `-wal` of a log, which is beside the file to which a link leads. None if that cannot be seen.
+fn look_at_wal(rt: &HostRuntime, path: &str) -> Option<io::Result<Metadata>> {
+    let Ok(real) = canonicalize(rt, path) else {
+        return None;
+    };
+    let Ok(wal) = format!(in rt.alloc(); "{}-wal", real.as_str()) else {
+        return None;
+    };
+    Some(metadata(rt, wal.as_str()))
+}
+
+/// How a file was lost that could not be looked at by this error; none if that cannot be seen.
+fn loss_by(error: &io::Error) -> Option<LogLoss> {
+    match error.kind() {
+        ErrorKind::NotFound | ErrorKind::NotADirectory => Some(LogLoss::Removed),
+        _ => None,
+    }
+}
+
+/// The two files of an open log.
+#[derive(Drop)]
 pub(crate) struct LogWatch<'a> {
     path: &'a str,
     /// Which file was at the path when the log was opened; none if that could not be seen.
     opened: Option<FileNumbers>,
+    /// The same of the `-wal`.
+    opened_wal: Option<FileNumbers>,
+    /// How many bytes the `-wal` had at the last look. An open log never makes it shorter, and makes no other one.
+    wal_length: AtomicU64,
+    /// Whether the `-wal` was found lost.
+    has_lost_wal: AtomicBool,
 }
 
 impl<'a> LogWatch<'a> {
-    /// Watches the file that is at a path now.
+    /// Watches the files that are at a path and beside it now.
     pub(crate) fn new(rt: &HostRuntime, path: &'a str) -> LogWatch<'a> {
+        let (opened_wal, length) = match look_at_wal(rt, path) {
+            Some(Ok(found)) => (Some(FileNumbers::of(&found)), found.len()),
+            _ => (None, 0),
+        };
         LogWatch {
             path,
             opened: match metadata(rt, path) {
                 Ok(found) => Some(FileNumbers::of(&found)),
                 Err(_) => None,
             },
+            opened_wal,
+            wal_length: AtomicU64::new(length),
+            has_lost_wal: AtomicBool::new(false),
         }
     }
 
-    /// How the file was lost; none if it is at its path, or if that cannot be seen. An open log has at least one byte, so an empty
-    /// file is another one, or was emptied.
+    /// How the file or its `-wal` was lost; none if both are there, or if that cannot be seen. An open log has at least one byte, so
+    /// an empty file is another one, or was emptied.
     pub(crate) fn loss(&self, rt: &HostRuntime) -> Option<LogLoss> {
         let opened = self.opened?;
         match metadata(rt, self.path) {
             Ok(found) if FileNumbers::of(&found) != opened || found.len() == 0 => {
                 Some(LogLoss::Replaced)
             }
-            Ok(_) => None,
-            Err(error) => match error.kind() {
-                ErrorKind::NotFound | ErrorKind::NotADirectory => Some(LogLoss::Removed),
-                _ => None,
-            },
+            Ok(_) => self.loss_of_wal(rt),
+            Err(error) => loss_by(&error),
+        }
+    }
+
+    /// How the `-wal` was lost; none if it is there, or if that cannot be seen.
+    fn loss_of_wal(&self, rt: &HostRuntime) -> Option<LogLoss> {
+        let opened = self.opened_wal?;
+        // It is read before the look, since another thread may look at a longer one meanwhile.
+        let length = self.wal_length.load(Ordering::SeqCst);
+        let loss = match look_at_wal(rt, self.path)? {
+            Ok(found) => self.compare_wal(&found, opened, length),
+            Err(error) => loss_by(&error),
+        };
+        if loss.is_some() {
+            self.has_lost_wal.store(true, Ordering::SeqCst);
+        }
+        loss
+    }
+
+    /// The same of what is at its path. A `-wal` that is there gives the length for the next look.
+    fn compare_wal(&self, found: &Metadata, opened: FileNumbers, length: u64) -> Option<LogLoss> {
+        if FileNumbers::of(found) != opened || found.len() < length {
+            return Some(LogLoss::Replaced);
+        }
+        self.wal_length.store(found.len(), Ordering::SeqCst);
+        None
+    }
+
+    /// What comes after the path of the log in that of the lost file.
+    pub(crate) fn lost_ending(&self) -> &'static str {
+        if self.has_lost_wal.load(Ordering::SeqCst) {
+            "-wal"
+        } else {
+            ""
         }
     }
 }

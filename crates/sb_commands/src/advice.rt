@@ -107,10 +107,15 @@ fn about_store(place: FaultPlace<'_>) -> &'static str {
         FaultPlace::LinkedLog(_) => "give the path of the file itself",
         FaultPlace::BusyFolder(_) => "wait until that process ends, and give the command again",
         FaultPlace::OldWal(_) => {
-            "it has writes of that log: see that the path is right, and move the log back; if it is lost, move the file with -wal away, and give the command again"
+            "it has writes of that log: see that the path is right, and move the log back; if it is lost, see RUNBOOK, A removed log; if nobody wants these writes, \
+move the file with -wal away, and give the command again"
         }
         FaultPlace::EmptyLog(_) => {
             "these are writes of the log that was here before: move that file back; if it is lost, see RUNBOOK, A removed log; if nobody wants these writes, \
+move the file with -wal away, and give the command again"
+        }
+        FaultPlace::UnreadWal(_) => {
+            "nothing would read them, since the -wal of this log is beside the file to which the link leads: see RUNBOOK, A removed log; if nobody wants these writes, \
 move the file with -wal away, and give the command again"
         }
         FaultPlace::Node(_) => {

@@ -2,7 +2,7 @@
 use crate::advice::{about_cause, advice};
 use crate::asking::LONGEST_SILENCE;
 use crate::part::Range;
-use crate::quote::Quote;
+use crate::quote::{Quote, QuotedWord};
 use sb_log::StoreCause;
 use sb_types::Fault;
 use std::alloc::AllocError;
@@ -93,6 +93,8 @@ pub enum FaultPlace<'a> {
     OldWal(&'a str),
     /// At the file of a log, which is empty, beside which there is the `-wal` of another one.
     EmptyLog(&'a str),
+    /// At the file of a log, which is a link, beside which there is a `-wal` that no opening reads.
+    UnreadWal(&'a str),
     /// At a control socket at which no node could be reached.
     Unreached(&'a str, Obstacle),
     /// At a control socket whose node moved no byte for too long.
@@ -286,6 +288,9 @@ fn text_of_store(place: FaultPlace<'_>) -> Option<&'static str> {
         FaultPlace::EmptyLog(_) => {
             "the file of the log is empty, but a file of its name with -wal has writes"
         }
+        FaultPlace::UnreadWal(_) => {
+            "the path of the log is a link, but a file of its name with -wal has writes"
+        }
         _ => return None,
     })
 }
@@ -348,47 +353,56 @@ fn write_told<W: fmt::Write>(fault: &Fault, f: &mut fmt::Formatter<W>) -> fmt::R
     }
 }
 
+/// What is at the path of a place, and that path; none if the place has no path, or two.
+fn path_of<'a>(place: FaultPlace<'a>) -> Option<(&'static str, &'a str)> {
+    Some(match place {
+        FaultPlace::Log(path)
+        | FaultPlace::NoLog(path)
+        | FaultPlace::NoLogFolder(path)
+        | FaultPlace::UnreadableLog(path)
+        | FaultPlace::LockedLog(path)
+        | FaultPlace::LinkedLog(path)
+        | FaultPlace::BusyFolder(path)
+        | FaultPlace::OldWal(path)
+        | FaultPlace::EmptyLog(path)
+        | FaultPlace::UnreadWal(path) => ("log", path),
+        FaultPlace::Unreached(path, _)
+        | FaultPlace::Silent(path)
+        | FaultPlace::Control(path)
+        | FaultPlace::NoRows(path)
+        | FaultPlace::Node(path) => ("control socket", path),
+        FaultPlace::NoPeer(path, _)
+        | FaultPlace::SilentPeer(path)
+        | FaultPlace::Heard(path)
+        | FaultPlace::Session(path)
+        | FaultPlace::Taken(path)
+        | FaultPlace::Listening(path)
+        | FaultPlace::TooLong(path)
+        | FaultPlace::NoFolder(path)
+        | FaultPlace::Forbidden(path) => ("socket", path),
+        FaultPlace::Peer(path) => ("peer", path),
+        FaultPlace::Port(address) | FaultPlace::OtherAddress(address) => ("http", address),
+        FaultPlace::Metrics(path) | FaultPlace::MetricsOver(path) => ("metrics", path),
+        FaultPlace::Template(path) => ("template", path),
+        _ => return None,
+    })
+}
+
 impl fmt::Display for FaultPlace<'_> {
     fn fmt<W: fmt::Write>(&self, f: &mut fmt::Formatter<W>) -> fmt::Result {
+        if let Some((what, path)) = path_of(*self) {
+            return write!(f, "{what} {}: ", QuotedWord(path));
+        }
         match self {
-            FaultPlace::Line | FaultPlace::Input(_) => Ok(()),
-            FaultPlace::Word(what, word) => write!(f, "{what} '{word}': "),
-            FaultPlace::OwnName(name) => write!(f, "--forget '{name}': "),
-            FaultPlace::Value(kind, word) => write!(f, "value '{kind} {word}': "),
+            FaultPlace::Word(what, word) => write!(f, "{what} '{}': ", QuotedWord(*word)),
+            FaultPlace::OwnName(name) => write!(f, "--forget '{}': ", QuotedWord(*name)),
+            FaultPlace::Value(kind, word) => {
+                write!(f, "value '{} {}': ", QuotedWord(*kind), QuotedWord(*word))
+            }
             FaultPlace::Number(name, _) => write!(f, "--{name}: "),
-            FaultPlace::Log(path)
-            | FaultPlace::NoLog(path)
-            | FaultPlace::NoLogFolder(path)
-            | FaultPlace::UnreadableLog(path)
-            | FaultPlace::LockedLog(path)
-            | FaultPlace::LinkedLog(path)
-            | FaultPlace::BusyFolder(path)
-            | FaultPlace::OldWal(path)
-            | FaultPlace::EmptyLog(path) => write!(f, "log {path}: "),
-            FaultPlace::Unreached(path, _)
-            | FaultPlace::Silent(path)
-            | FaultPlace::Control(path)
-            | FaultPlace::NoRows(path)
-            | FaultPlace::Node(path) => write!(f, "control socket {path}: "),
-            FaultPlace::NoPeer(path, _)
-            | FaultPlace::SilentPeer(path)
-            | FaultPlace::Heard(path)
-            | FaultPlace::Session(path)
-            | FaultPlace::Taken(path)
-            | FaultPlace::Listening(path)
-            | FaultPlace::TooLong(path)
-            | FaultPlace::NoFolder(path)
-            | FaultPlace::Forbidden(path) => write!(f, "socket {path}: "),
-            FaultPlace::Peer(path) => write!(f, "peer {path}: "),
             FaultPlace::Sockets(sock, control) => write!(f, "sockets {sock} and {control}: "),
-            FaultPlace::Port(address) | FaultPlace::OtherAddress(address) => {
-                write!(f, "http {address}: ")
-            }
-            FaultPlace::Metrics(path) | FaultPlace::MetricsOver(path) => {
-                write!(f, "metrics {path}: ")
-            }
-            FaultPlace::Template(path) => write!(f, "template {path}: "),
             FaultPlace::MetricsNowhere => f.write_str("metrics : "),
+            _ => Ok(()),
         }
     }
 }

@@ -13,6 +13,7 @@ use sb_types::{Fault, Name, Slot, VERSION_MOST};
 use sqlite::{Connection, Error, File, FileStore};
 use std::alloc::Global;
 use std::io::{ErrorKind, Write};
+use std::os::unix::fs::MetadataExt;
 use std::{fs, io};
 
 /// How many bytes a `-wal` has at most if no write is in it.
@@ -93,8 +94,8 @@ fn failure_of<'a>(rt: &HostRuntime, path: &'a str, error: &Error) -> Failure<'a>
     }
 }
 
-/// Tests the lengths of the two files of a log, each 0 if there is no file. `StoreFailed` at a place if the log has no byte and
-/// its `-wal` has writes: an opening would drop them.
+/// Tests the lengths of the two files of a log, each 0 if there is no file. `StoreFailed` at a place if the first has no byte, and
+/// the `-wal` has writes: an opening would drop them.
 fn test_lengths<'a>(log: u64, wal: u64, place: FaultPlace<'a>) -> Result<(), Failure<'a>>
     ensures refused { DropsWrites log wal → IsErr result }
     ensures only { IfErr result (λ _. DropsWrites log wal) }
@@ -122,8 +123,25 @@ fn length_at(rt: &HostRuntime, path: &str) -> u64 {
     }
 }
 
-/// Tests that an opening of the log at a path drops no writes. `NoMemory`; `StoreFailed` if there is no file or an empty one,
-/// beside a `-wal` that has writes.
+/// How many bytes `LINK-wal` has, if the path of a log is a link LINK; 0 if it is none. An opening reads the `-wal` beside the file
+/// to which the link leads, so not this one, unless both are one file. `OutOfMemory`.
+fn unread_length(rt: &HostRuntime, path: &str, wal: &str) -> io::Result<u64> {
+    let is_link = fs::symlink_metadata(rt, path).is_ok_and(|found| found.file_type().is_symlink());
+    if !is_link {
+        return Ok(0);
+    }
+    let beside = format!(in rt.alloc(); "{path}-wal")?;
+    let Ok(found) = fs::metadata(rt, beside.as_str()) else {
+        return Ok(0);
+    };
+    match fs::metadata(rt, wal) {
+        Ok(read) if read.dev() == found.dev() && read.ino() == found.ino() => Ok(0),
+        _ => Ok(found.len()),
+    }
+}
+
+/// Tests that an opening of the log at a path drops no writes and passes over none. `NoMemory`. `StoreFailed` if a `-wal` has writes
+/// beside an empty file or none, or beside a link that leads elsewhere.
 pub(crate) fn test_wal<'a>(rt: &HostRuntime, path: &'a str) -> Result<(), Failure<'a>> {
     let Ok(wal) = wal_of(rt, path) else {
         return Err(Failure::at(FaultPlace::Log(path), Fault::NoMemory));
@@ -131,9 +149,14 @@ pub(crate) fn test_wal<'a>(rt: &HostRuntime, path: &'a str) -> Result<(), Failur
     // A node that makes a log writes the first page of its file before its `-wal` has a write. So the `-wal` is looked at first.
     let length = length_at(rt, wal.as_str());
     match fs::metadata(rt, path) {
-        Ok(found) => test_lengths(found.len(), length, FaultPlace::EmptyLog(path)),
-        Err(_) => test_lengths(0, length, FaultPlace::OldWal(path)),
+        Ok(found) => test_lengths(found.len(), length, FaultPlace::EmptyLog(path))?,
+        Err(_) => test_lengths(0, length, FaultPlace::OldWal(path))?,
     }
+    let Ok(unread) = unread_length(rt, path, wal.as_str()) else {
+        return Err(Failure::at(FaultPlace::Log(path), Fault::NoMemory));
+    };
+    // No byte of the log's file belongs to this one.
+    test_lengths(0, unread, FaultPlace::UnreadWal(path))
 }
 
 /// A connection to a file, which is made if it is not there. `StoreFailed` if it can't be opened or another has it open;

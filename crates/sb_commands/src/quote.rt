@@ -1,4 +1,4 @@
-//! The beginning of a line, as a failure quotes it.
+//! The beginning of a line, and a word, as a failure quotes them.
 ghost use Rattle.std.specs.Prelude.{◌≡◌, ◌<◌, ◌≤◌, length, nat_lt, take};
 ghost use Rattle.std.specs.Char.{digit_char};
 ghost use Rattle.sb_commands.specs.Lines as spec;
@@ -81,6 +81,24 @@ impl fmt::Display for QuotedByte {
         }
         let shown = [byte];
         f.write_str(str::from_utf8(&shown).map_err(|_| fmt::Error)?)
+    }
+}
+
+/// A word of the command line, or a path. Each control byte is printed as a backslash and two digits of 0-9 and a-f.
+#[derive(Clone, Copy)]
+pub(crate) struct QuotedWord<'a>(pub(crate) &'a str);
+
+impl fmt::Display for QuotedWord<'_> {
+    fn fmt<W: fmt::Write>(&self, f: &mut fmt::Formatter<W>) -> fmt::Result {
+        for sign in self.0.chars() {
+            let code = sign as u32;
+            if code < 32 || code == 127 {
+                f.write(QuotedByte(code as u8))?;
+            } else {
+                f.write_char(sign)?;
+            }
+        }
+        Ok(())
     }
 }
 
