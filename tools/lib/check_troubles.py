@@ -2,11 +2,13 @@
 import os
 import resource
 import sqlite3
+import threading
 import time
+from pathlib import Path
 
 from check_metrics import awaits, awaits_line, promtool_takes
 from check_waking import Place, fill
-from nodes import BYE, SECONDS, Difference, connect, hello, read_frame, run, throw, want
+from nodes import BYE, DONE, SECONDS, Difference, connect, exchange, hello, put, read_frame, run, throw, want, weight
 from small_disk import SmallDisk, disk_in
 
 # from so many removals in its log on a node here purges it at a start
@@ -111,6 +113,124 @@ def lost_logs(check):
         want("its sockets", (node.sock.exists(), node.control.exists()), (False, False))
 
 
+def wal_of(node):
+    """Where the -wal of a node's log lies."""
+    return node.log.with_name(node.log.name + "-wal")
+
+
+def writes_until_refused(node, answered):
+    """Writes one key after another, and notes the version of each that was answered, until the node refuses one."""
+    while True:
+        answer = exchange(node.control, put(f"k{len(answered) % 50:02}", weight(len(answered))))
+        if answer is None or answer[0] != DONE:
+            return
+        answered.append(int.from_bytes(answer[1], "big"))
+
+
+def is_shown(node, answered):
+    """A node that runs shows the last write that it answered to each key."""
+    last = {at % 50: (version, at) for at, version in enumerate(answered)}
+    want("its rows", node.get(), [f"a k{key:02} {version} weight {at}" for key, (version, at) in sorted(last.items())])
+
+
+def lost_wals(check):
+    """A node whose -wal is removed, moved, replaced, emptied or cut says so within two seconds, and refuses writes from then on. It shows each write
+    that it answered until then. If the -wal was only moved, and is put back, a start finds each of them."""
+
+    def replaces(wal, content):
+        # (in one step: a node that looks in between would find it removed)
+        os.link(wal, wal.with_name("moved"))
+        wal.with_name("other").write_bytes(content)
+        wal.with_name("other").replace(wal)
+
+    for cause, lose in (
+        ("removed", lambda wal: wal.unlink()),
+        ("removed", lambda wal: wal.rename(wal.with_name("moved"))),
+        ("replaced", lambda wal: replaces(wal, b"")),
+        ("replaced", lambda wal: replaces(wal, wal.read_bytes())),
+        ("replaced", lambda wal: wal.write_bytes(b"")),
+        ("replaced", lambda wal: os.truncate(wal, 5000)),
+    ):
+        folder = check.folder()
+        path = folder / "a.prom"
+        node = check.node("a", "--pause", "50", "--metrics", str(path), folder=folder).start()
+        answered, wal = [], wal_of(node)
+        writer = threading.Thread(target=writes_until_refused, args=(node, answered), daemon=True)
+        writer.start()
+        time.sleep(0.3)
+        lose(wal)
+        began = time.monotonic()
+        writer.join(SECONDS)
+        if writer.is_alive() or time.monotonic() - began > 2:
+            raise Difference(f"with a -wal that is {cause} the node took {len(answered)} writes, for {time.monotonic() - began:.2f} s")
+        refuses_a_write(node, 15)
+        front = f"attrdir: error log {node.log}-wal: fault 18: its file was {cause}; no more writes are taken: "
+        awaits_line(node, front + "put the file back, or see RUNBOOK, A removed log; then start the node again")
+        awaits(path, "a", {("attrdir_log_open",): 0, ("attrdir_log_fault", cause): 1})
+        is_shown(node, answered)
+        node.kill()
+        if wal.with_name("moved").exists():
+            wal.with_name("moved").replace(wal)
+            node.start()
+            is_shown(node, answered)
+            want("the next version", node.put("next", 5), answered[-1] + 1)
+            node.kill()
+
+
+def quiet_wals(check):
+    """A node without a write and without a caller says within two seconds that its -wal is gone. One with --on-log-fault exit ends."""
+    node = check.node("a", "--pause", "50").start()
+    wal_of(node).unlink()
+    began = time.monotonic()
+    while not any("-wal: fault 18: its file was removed" in it for it in node.lines()):
+        if time.monotonic() - began > 2:
+            raise Difference(f"a removed -wal is not said in {node.lines()}")
+        time.sleep(0.01)
+    refuses_a_write(node, 15)
+    node.kill()
+    node = check.node("a", "--pause", "50", "--on-log-fault", "exit").start()
+    want("a write", node.put("k", 5), 1)
+    wal_of(node).unlink()
+    status, printed, said = node.ended()
+    want("its end by a -wal that is removed", (status, printed, said[-3]), (3, "", "fault 18"))
+
+
+def whole_wals(check):
+    """A node whose -wal was copied into its log several times, and written from its front again, says nothing of its log. So too one whose log is a
+    link, and one whose folder is renamed, with a log that is named from there."""
+
+    def says_nothing(node):
+        want("what it says of its log", [it for it in node.lines() if "fault 18" in it], [])
+        node.kill()
+
+    folder = check.folder()
+    path = folder / "a.prom"
+    node = check.node("a", "--pause", "50", "--metrics", str(path), folder=folder).start()
+    # (it is copied after some 250 writes)
+    for at in range(5000 if check.is_long else 1200):
+        node.put(f"k{at % 100:02}", at)
+    if node.log.stat().st_size <= 4096:
+        raise Difference(f"nothing of the -wal was copied: the log has {node.log.stat().st_size} bytes")
+    awaits(path, "a", {("attrdir_log_open",): 1})
+    says_nothing(node)
+    folder = check.folder()
+    (folder / "inner").mkdir()
+    node = check.node("a", "--pause", "50", folder=folder)
+    node.log.rename(folder / "inner/a.log")
+    node.log.symlink_to(folder / "inner/a.log")
+    node.start()
+    want("writes", [node.put("k", it) for it in range(5)], [1, 2, 3, 4, 5])
+    time.sleep(0.5)
+    says_nothing(node)
+    node.log.unlink()
+    node.how["cwd"], node.log = str(folder / "inner"), Path("a.log")
+    node.start()
+    (folder / "inner").rename(folder / "renamed")
+    time.sleep(0.5)
+    want("a later write", node.put("k", 6), 6)
+    says_nothing(node)
+
+
 def faults_of_sessions(check):
     """A session that another node dialed and that ends with a fault is counted, and said: the first at once, and others not before a minute."""
     folder = check.folder()
@@ -182,4 +302,4 @@ def callers_turned_away(check):
     awaits(path, "a", {("attrdir_turned_away_total",): 1})
 
 
-PARTS = (full_disks_at_a_start, lost_logs, faults_of_sessions, busy_workers, callers_turned_away)
+PARTS = (full_disks_at_a_start, lost_logs, lost_wals, quiet_wals, whole_wals, faults_of_sessions, busy_workers, callers_turned_away)

@@ -28,7 +28,8 @@
 //! - `log`, `purge` or `begin` opens another file, prints nothing, or ends with another fault. `tools/check-logs` and
 //!   `tools/check-node` refuse it.
 //! - A command opens an empty file, or makes a missing one, beside a `-wal` with writes, and these are dropped. `tools/check-logs`
-//!   and `tools/check-node` refuse it.
+//!   and `tools/check-node` refuse it. Or it opens a link beside which a `-wal` with writes was left, or refuses one beside
+//!   which there is none. `tools/check-logs` refuses it.
 //! - `begin` begins after another version within the limits, or asks another node. `tools/check-logs` and
 //!   `tools/check-node` refuse it.
 //! - `restore` asks another node, leaves rows out, makes half a log, or leaves a file beside the log. `tools/check-node`
