@@ -192,7 +192,11 @@ def quiet_wals(check):
     want("a write", node.put("k", 5), 1)
     wal_of(node).unlink()
     status, printed, said = node.ended()
-    want("its end by a -wal that is removed", (status, printed, said[-3]), (3, "", "fault 18"))
+    last = [
+        "fault 18", "the node has ended, since its log takes no more writes",
+        f"log {node.log}: the line of this log before says why; before you start the node again, see RUNBOOK, A full disk, or A removed log",
+    ]
+    want("its end by a -wal that is removed", (status, printed, said[-3:]), (3, "", last))
 
 
 def whole_wals(check):

@@ -86,6 +86,8 @@ pub(crate) struct Console<'r, 'a> {
     pub(crate) series: Series,
     /// When the node was started, in seconds since 1970; 0 if the clock could not be read.
     pub(crate) started: u64,
+    /// Whether it has reported that the log takes no more writes.
+    pub(crate) has_failed_log: AtomicBool,
     /// What it has reported to run out.
     pub(crate) shortage: Shortage,
     /// What it has reported of what the node suffers.
@@ -368,6 +370,7 @@ impl Observer for Console<'_, '_> {
     }
 
     fn log_failed(&self, cause: LogCause) {
+        self.has_failed_log.store(true, Ordering::SeqCst);
         let (rt, head) = (self.rt, self.head(Level::Error));
         let (ending, advice) = match cause {
             LogCause::Store(cause) => ("", about_cause(cause)),

@@ -22,6 +22,7 @@ use std::net::{Net, SocketAddr, TcpListener, TcpStream};
 use std::os::unix::fs::FileTypeExt;
 use std::os::unix::net::UnixListener;
 use std::sync::Mutex;
+use std::sync::atomic::{AtomicBool, Ordering};
 
 /// The most bytes of the path of a socket.
 const SOCKET_PATH_MOST: usize = 107;
@@ -209,6 +210,19 @@ fn place_of<'a>(rt: &HostRuntime, fault: &Fault, given: &ServeArguments<'a>) -> 
     }
 }
 
+/// The place at which a node met the fault that ended it. A log that failed while the node ran has its line already.
+fn place_of_end<'a>(
+    rt: &HostRuntime,
+    console: &Console<'_, '_>,
+    fault: &Fault,
+    given: &ServeArguments<'a>,
+) -> FaultPlace<'a> {
+    if matches!(fault, Fault::StoreFailed) && console.has_failed_log.load(Ordering::SeqCst) {
+        return FaultPlace::FailedLog(given.log);
+    }
+    place_of(rt, fault, given)
+}
+
 /// Drops the tombstones of a log if there are many, and prints what became of them. Returns the table of the log, if its
 /// store failed on the way and it is closed now. The faults of `purge_removals`.
 fn purge_first<'a, L: WriteLog>(
@@ -303,6 +317,7 @@ fn console_of<'r, 'a>(rt: &'r HostRuntime, given: &ServeArguments<'a>) -> Consol
             Ok(now) => now.as_second().max(0) as u64,
             Err(_) => 0,
         },
+        has_failed_log: AtomicBool::new(false),
         shortage: Shortage::new(),
         troubles: TroubleLines::new(),
     }
@@ -344,7 +359,7 @@ fn run<'a, L: WriteLog + Drop, R: Runtime + Net<Listener = TcpListener, Stream =
             console.ended();
             print_ran(rt, ran)
         }
-        Err(fault) => Err(Failure::at(place_of(rt, &fault, given), fault)),
+        Err(fault) => Err(Failure::at(place_of_end(rt, &console, &fault, given), fault)),
     }
 }
 

@@ -118,6 +118,9 @@ move the file with -wal away, and give the command again"
             "nothing would read them, since the -wal of this log is beside the file to which the link leads: see RUNBOOK, A removed log; if nobody wants these writes, \
 move the file with -wal away, and give the command again"
         }
+        FaultPlace::FailedLog(_) => {
+            "the line of this log before says why; before you start the node again, see RUNBOOK, A full disk, or A removed log"
+        }
         FaultPlace::Node(_) => {
             "the node could not write its log, and takes no more writes: its line on standard error says why; before you start it again, \
 see RUNBOOK, A full disk, or A removed log"

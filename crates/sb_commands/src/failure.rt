@@ -95,6 +95,8 @@ pub enum FaultPlace<'a> {
     EmptyLog(&'a str),
     /// At the file of a log, which is a link, beside which there is a `-wal` that no opening reads.
     UnreadWal(&'a str),
+    /// At the file of a log that takes no more writes, and whose node has ended because of that.
+    FailedLog(&'a str),
     /// At a control socket at which no node could be reached.
     Unreached(&'a str, Obstacle),
     /// At a control socket whose node moved no byte for too long.
@@ -291,6 +293,7 @@ fn text_of_store(place: FaultPlace<'_>) -> Option<&'static str> {
         FaultPlace::UnreadWal(_) => {
             "the path of the log is a link, but a file of its name with -wal has writes"
         }
+        FaultPlace::FailedLog(_) => "the node has ended, since its log takes no more writes",
         _ => return None,
     })
 }
@@ -365,7 +368,8 @@ fn path_of<'a>(place: FaultPlace<'a>) -> Option<(&'static str, &'a str)> {
         | FaultPlace::BusyFolder(path)
         | FaultPlace::OldWal(path)
         | FaultPlace::EmptyLog(path)
-        | FaultPlace::UnreadWal(path) => ("log", path),
+        | FaultPlace::UnreadWal(path)
+        | FaultPlace::FailedLog(path) => ("log", path),
         FaultPlace::Unreached(path, _)
         | FaultPlace::Silent(path)
         | FaultPlace::Control(path)

@@ -123,7 +123,7 @@ fn length_at(rt: &HostRuntime, path: &str) -> u64 {
     }
 }
 
-/// How many bytes `LINK-wal` has, if the path of a log is a link LINK; 0 if it is none. An opening reads the `-wal` beside the file
+/// How many bytes `LINK-wal` has, if the path of a log is a link LINK; else 0. An opening reads the `-wal` beside the file
 /// to which the link leads, so not this one, unless both are one file. `OutOfMemory`.
 fn unread_length(rt: &HostRuntime, path: &str, wal: &str) -> io::Result<u64> {
     let is_link = fs::symlink_metadata(rt, path).is_ok_and(|found| found.file_type().is_symlink());
