@@ -90,6 +90,24 @@ pub fn about_cause(cause: StoreCause) -> &'static str {
     }
 }
 
+/// What to do about a `-wal` with writes that no opening would read.
+fn about_wal(place: FaultPlace<'_>) -> &'static str {
+    match place {
+        FaultPlace::OldWal(_) => {
+            "it has writes of that log: see that the path is right, and move the log back; if it is lost, see RUNBOOK, A removed log; if nobody wants these writes, \
+move the file with -wal away, and give the command again"
+        }
+        FaultPlace::UnreadWal(_) => {
+            "nothing would read them, since the -wal of this log is beside the file to which the link leads: see RUNBOOK, A removed log; if nobody wants these writes, \
+move the file with -wal away, and give the command again"
+        }
+        _ => {
+            "these are writes of the log that was here before: move that file back; if it is lost, see RUNBOOK, A removed log; if nobody wants these writes, \
+move the file with -wal away, and give the command again"
+        }
+    }
+}
+
 fn about_store(place: FaultPlace<'_>) -> &'static str {
     match place {
         FaultPlace::NoLog(_) => {
@@ -106,17 +124,8 @@ fn about_store(place: FaultPlace<'_>) -> &'static str {
         }
         FaultPlace::LinkedLog(_) => "give the path of the file itself",
         FaultPlace::BusyFolder(_) => "wait until that process ends, and give the command again",
-        FaultPlace::OldWal(_) => {
-            "it has writes of that log: see that the path is right, and move the log back; if it is lost, see RUNBOOK, A removed log; if nobody wants these writes, \
-move the file with -wal away, and give the command again"
-        }
-        FaultPlace::EmptyLog(_) => {
-            "these are writes of the log that was here before: move that file back; if it is lost, see RUNBOOK, A removed log; if nobody wants these writes, \
-move the file with -wal away, and give the command again"
-        }
-        FaultPlace::UnreadWal(_) => {
-            "nothing would read them, since the -wal of this log is beside the file to which the link leads: see RUNBOOK, A removed log; if nobody wants these writes, \
-move the file with -wal away, and give the command again"
+        FaultPlace::OldWal(_) | FaultPlace::EmptyLog(_) | FaultPlace::UnreadWal(_) => {
+            about_wal(place)
         }
         FaultPlace::FailedLog(_) => {
             "the line of this log before says why; before you start the node again, see RUNBOOK, A full disk, or A removed log"
