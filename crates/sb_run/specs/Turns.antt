@@ -126,6 +126,10 @@ is_changed_by_push before ended = if is_answer ended then false else not (is_sti
 abbrev pub one_more : ℕ → ℕ
 one_more count = min (count + 1) (2 ^ 64 - 1)
 
+-- so many more, as far as such a number goes
+abbrev pub with_more : ℕ → ℕ → ℕ
+with_more count more = min (count + more) (2 ^ 64 - 1)
+
 -- whose turn it is of so many: behind the last comes the first
 abbrev pub turn_of : ℕ → ℕ → ℕ
 turn_of count turn = if nat_lt turn count then turn else 0

@@ -683,6 +683,7 @@ pub(crate) struct Rounds<S: RoundsTag> {
 impl<S: RoundsTag> Rounds<S> {
     pub(crate) fn new(made: u64, all: &AllRounds) -> Rounds<S>
         requires { made ≡ S.rounds }
+        ensures { (result.made ≡ made) × (result.faults ≡ all.now.faults) }
     {
         Rounds {
             made,

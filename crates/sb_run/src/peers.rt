@@ -344,7 +344,8 @@ impl<'a> Peers<'a> {
         ensures noted { IfSome (slice_get self.old.all.items index) (λ before. IfSome (slice_get self.new.all.items index) (λ after.
             (after.path ≡ before.path) × (after.round ≡ round)
             × (after.turns_out ≡ spec.turns_after (has_waited && nat_lt 0 (spec.number_of_state ended)) before.turns_out)
-            × (after.misses ≡ spec.misses_after ended before.misses) × (after.state ≡ spec.state_after before.state ended) × (result ≡ not (spec.is_still before.state ended)))) }
+            × (after.state ≡ spec.state_after before.state ended) × (result ≡ not (spec.is_still before.state ended)))) }
+        ensures misses { IfSome (slice_get self.old.all.items index) (λ before. IfSome (slice_get self.new.all.items index) (λ after. after.misses ≡ spec.misses_after ended before.misses)) }
         ensures others { (other : ℕ) → other ≢ index → slice_get self.new.all.items other ≡ slice_get self.old.all.items other }
     {
         let Some(peer) = self.all.get_mut(index) else {
@@ -368,8 +369,9 @@ impl<'a> Peers<'a> {
     ) -> bool
         ensures turns { (self.new.turn ≡ self.old.turn) × (self.new.burst_turn ≡ self.old.burst_turn) }
         ensures noted { IfSome (slice_get self.old.all.items index) (λ before. IfSome (slice_get self.new.all.items index) (λ after.
-            (after.path ≡ before.path) × (after.round ≡ before.round) × (after.misses ≡ spec.misses_after ended before.misses)
+            (after.path ≡ before.path) × (after.round ≡ before.round)
             × (after.state ≡ spec.state_after_push before.state ended) × (result ≡ spec.is_changed_by_push before.state ended))) }
+        ensures misses { IfSome (slice_get self.old.all.items index) (λ before. IfSome (slice_get self.new.all.items index) (λ after. after.misses ≡ spec.misses_after ended before.misses)) }
         ensures others { (other : ℕ) → other ≢ index → slice_get self.new.all.items other ≡ slice_get self.old.all.items other }
     {
         let Some(peer) = self.all.get_mut(index) else {

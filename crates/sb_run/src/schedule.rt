@@ -2,7 +2,7 @@
 ghost use Rattle.std.specs.Prelude.{◌≡◌, ◌<◌, ◌≤◌, true, false, None, Some, IfSome, IsSomeAnd, MatchOption, IfOk, IfErr, ◌+◌, slice_get, vec_len, replicate, ℕ, List, length, nat_lt};
 ghost use Rattle.sb_run.specs.Deliveries as spec;
 ghost use Rattle.sb_run.specs.StatusReplies.{have_had_rounds};
-ghost use Rattle.sb_run.specs.Turns.{one_more, turn_of, number_of_state};
+ghost use Rattle.sb_run.specs.Turns.{one_more, with_more, turn_of, number_of_state, misses_after, takes_news};
 
 use crate::bell::Bell;
 use crate::dialer::{has_come, moment_after};
@@ -88,7 +88,9 @@ impl AllRounds {
     }
 
     /// The same rounds, with so many more faults.
-    pub(crate) fn with_faults(self, more: u64) -> AllRounds {
+    pub(crate) fn with_faults(self, more: u64) -> AllRounds
+        ensures { result.faults ≡ with_more self.faults more }
+    {
         AllRounds {
             faults: self.faults.saturating_add(more),
         }
@@ -339,6 +341,9 @@ impl<'a> Schedule<'a> {
     ) -> bool
         ensures delivery { spec.Changes index (spec.ended end.is_slow) self.old.deliveries.all.items self.new.deliveries.all.items }
         ensures counts { self.new.counts ≡ self.old.counts }
+        ensures misses { IfSome (slice_get self.old.peers.all.items index)
+            (λ before. IfSome (slice_get self.new.peers.all.items index) (λ after. after.misses ≡ misses_after end.state before.misses)) }
+        ensures answer { IfSome (slice_get self.new.peers.all.items index) (λ peer. result ≡ takes_news peer) }
     {
         self.deliveries.end(index, end.is_slow);
         if self
@@ -363,6 +368,9 @@ impl<'a> Schedule<'a> {
         ensures ended { self.new.counts.ended ≡ one_more self.old.counts.ended }
         ensures faults { self.new.counts.faults ≡ spec.faults_after (nat_lt 0 (number_of_state dial.end.state)) self.old.counts.faults }
         ensures begun { (self.new.begun ≡ self.old.begun) × (self.new.most ≡ self.old.most) }
+        ensures misses { IfSome (slice_get self.old.peers.all.items round.entry.index)
+            (λ before. IfSome (slice_get self.new.peers.all.items round.entry.index) (λ after. after.misses ≡ misses_after dial.end.state before.misses)) }
+        ensures answer { IfSome (slice_get self.new.peers.all.items round.entry.index) (λ peer. result ≡ takes_news peer) }
     {
         let Round {
             index,
@@ -397,6 +405,7 @@ impl<'a> Schedule<'a> {
         ensures ended { self.new.counts.ended ≡ one_more self.old.counts.ended }
         ensures faults { self.new.counts.faults ≡ spec.faults_after has_fault self.old.counts.faults }
         ensures deliveries { self.new.deliveries ≡ self.old.deliveries }
+        ensures peers { self.new.peers ≡ self.old.peers }
         ensures begun { (self.new.begun ≡ self.old.begun) × (self.new.most ≡ self.old.most) }
     {
         self.counts.ended = self.counts.ended.saturating_add(1);
