@@ -219,6 +219,8 @@ impl<L: WriteLog> OwnWrites<L> {
         ensures news { OnErr result ((self.new.stored ≡ self.old.stored) ⊎ ((self.new.owed ≡ None) × (self.new.stored ≡ news_after self.old.owed self.old.stored))) }
         ensures failed { self.new.has_failed ≡ true → (self.old.has_failed ≡ true) ⊎ (result ≡ Err Fault.StoreFailed) }
         ensures only_full { self.new.was_full ≡ true → (self.old.was_full ≡ true) ⊎ (result ≡ Err Fault.TableFull) }
+        // If there is no key left for the write itself, that counts.
+        ensures full { IfErr result (λ fault. IsHeldBack S.opening seat.old self.old.owed fault seat.new ⊎ (fault ≡ Fault.TableFull → self.new.was_full ≡ true)) }
         ensures still_full { self.old.was_full ≡ true → self.new.was_full ≡ true }
         ensures closes { (L.seen self.old.log).is_open ≡ true → (L.seen self.new.log).is_open ≡ false → self.new.has_failed ≡ true }
     {
