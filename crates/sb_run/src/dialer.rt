@@ -10,7 +10,7 @@ use crate::dialing::{DialEnd, OwnDigests, dial_peer, digests_of_all};
 use crate::node::Pace;
 use crate::observer::Observer;
 use crate::peers::Peer;
-use crate::pushing::{News, push_peer};
+use crate::pushing::{FitNews, push_peer};
 use crate::schedule::{AllRounds, NewsStep, Round, Schedule};
 use crate::session_end::SessionStart;
 use crate::threads::NodeContext;
@@ -52,7 +52,7 @@ enum Plan<S: RoundsTag> {
     /// It lacks nothing, or what it lacks is due after the round that is under way with it.
     Nothing,
     /// It is pushed what it may lack: the backlog to give back if that fails, and the news to push.
-    Push(Backlog, News<S>),
+    Push(Backlog, FitNews<S>),
     /// A round is made with it.
     Round,
 }
@@ -218,7 +218,7 @@ impl<'a, O: Observer> Dialing<'a, O> {
         }
         if let Ok(news) = node.news(seat, &backlog) {
             let digests = self.own_digests(node, seat);
-            if node.can_push(&news, owners, digests.length) {
+            if let Some(news) = node.fit_news(news, owners, digests.length) {
                 return Plan::Push(backlog, news);
             }
         }
@@ -232,7 +232,7 @@ impl<'a, O: Observer> Dialing<'a, O> {
         node: &NodeContext<S, H, Q>,
         index: usize,
         backlog: Backlog,
-        news: News<S>,
+        news: FitNews<S>,
     ) {
         let path = self.schedule.lock(node.rt).path(index);
         let length = news.frame_length();

@@ -1,5 +1,5 @@
 //! A push: it brings a peer news for which the peer did not ask.
-ghost use Rattle.std.specs.Prelude.{◌≡◌, ◌+◌, ◌<◌, ◌≤◌, IfErr};
+ghost use Rattle.std.specs.Prelude.{◌≡◌, ◌+◌, ◌<◌, ◌≤◌, true, false, None, IfSome, IfErr};
 ghost use Rattle.sb_directory.specs.Serving.{IsStill};
 ghost use Rattle.sb_session.specs.Pushes.{Pushes};
 ghost use Rattle.sb_session.specs.Sessions.{new_session};
@@ -38,6 +38,17 @@ pub(crate) struct News<S: RoundsTag> {
     ghost answered: { ∥ spec.IsAnswered S.opening S.settings delta ∥₁ },
 }
 
+/// News that may be pushed. Only `NodeContext::fit_news` makes it, and nothing else is pushed.
+#[derive(Drop)]
+pub(crate) struct FitNews<S: RoundsTag> {
+    news: News<S>,
+    /// Of how many owners it is news.
+    owners: usize,
+    /// How many bytes the payloads of the node's own digests have.
+    digests: u64,
+    ghost fits: { spec.can_push news.delta owners digests S.settings.budget ≡ true },
+}
+
 /// Whether a delta of so many bytes is pushed: it is short, or no longer than the node's own digests. Its frame also has room
 /// for one more entry within the budget, so nothing was cut off. A round brings any other.
 fn fits_push(length: u64, digests: u64, budget: u64) -> bool
@@ -54,10 +65,15 @@ impl<S: RoundsTag> News<S> {
     {
         self.delta.blocks().len() == owners
     }
+}
 
+impl<S: RoundsTag> FitNews<S> {
     /// How many bytes its frame has.
     pub(crate) fn frame_length(&self) -> u64 {
-        self.delta.encoded_length().saturating_add(HEADER_LENGTH)
+        self.news
+            .delta
+            .encoded_length()
+            .saturating_add(HEADER_LENGTH)
     }
 }
 
@@ -75,11 +91,32 @@ impl<S: RoundsTag, H: Wait + Drop, Q: Wait> NodeContext<'_, S, H, Q> {
     }
 
     /// Whether news of so many owners is pushed by a node whose own digests have so many bytes.
-    pub(crate) fn can_push(&self, news: &News<S>, owners: usize, digests: u64) -> bool
+    fn can_push(&self, news: &News<S>, owners: usize, digests: u64) -> bool
         ensures { result ≡ spec.can_push news.now.delta owners digests S.settings.budget }
     {
         let budget = self.directory.settings().budget();
         news.is_of_all(owners) && fits_push(news.delta.encoded_length(), digests, budget)
+    }
+
+    /// News of so many owners, if a node pushes it whose own digests have so many bytes.
+    pub(crate) fn fit_news(
+        &self,
+        news: News<S>,
+        owners: usize,
+        digests: u64,
+    ) -> Option<FitNews<S>>
+        ensures some { IfSome result (λ fit. fit.news.delta ≡ news.delta) }
+        ensures none { result ≡ None → spec.can_push news.delta owners digests S.settings.budget ≡ false }
+    {
+        if self.can_push(&news, owners, digests) {
+            Some(FitNews {
+                news,
+                owners,
+                digests,
+            })
+        } else {
+            None
+        }
     }
 
     /// Pushes news over a connection. It writes the node's Hello, the news and a Bye, and makes at most the node's `max_reads`
@@ -87,12 +124,17 @@ impl<S: RoundsTag, H: Wait + Drop, Q: Wait> NodeContext<'_, S, H, Q> {
     fn push_on<I: Read, O: Write, K: Ledger>(
         &self,
         connection: &mut Connection<I, O, K>,
-        news: News<S>,
+        news: FitNews<S>,
     ) -> Result<PushEnd, Fault>
         requires limit { connection.old.left ≤ self.now.pace.max_reads }
-        ensures pushes { Pushes (new_session S.settings.cluster S.opening.held.me) news.delta connection.old connection.new result }
+        ensures pushes { Pushes (new_session S.settings.cluster S.opening.held.me) news.news.delta connection.old connection.new result }
         ensures reads { connection.new.steps ≤ connection.old.steps + self.now.pace.max_reads }
     {
+        let FitNews {
+            news,
+            owners: _,
+            digests: _,
+        } = news;
         let News { delta, of: _ } = news;
         push(connection, session_of(self.directory), delta)
     }
@@ -114,7 +156,7 @@ fn state_of_push(pushed: &Result<PushEnd, Fault>, was_heard: bool, was_silent: b
 fn push_stream<S: RoundsTag, H: Wait + Drop, Q: Wait, K: Ledger>(
     node: &NodeContext<S, H, Q>,
     stream: &UnixStream,
-    news: News<S>,
+    news: FitNews<S>,
     blank: Blank,
 ) -> PeerState
     requires name { blank.name ≡ K.name }
@@ -134,7 +176,7 @@ fn push_stream<S: RoundsTag, H: Wait + Drop, Q: Wait, K: Ledger>(
 pub(crate) fn push_peer<S: RoundsTag, H: Wait + Drop, Q: Wait + Net>(
     node: &NodeContext<S, H, Q>,
     path: &str,
-    news: News<S>,
+    news: FitNews<S>,
 ) -> PeerState {
     match reach(node, path) {
         Ok(stream) => push_stream::<S, H, Q, Brand>(node, &stream, news, Blank::new(1)),
