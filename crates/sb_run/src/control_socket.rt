@@ -1,5 +1,5 @@
 //! The calling thread of a running node: it answers what callers asked at the control socket, and makes the own writes.
-ghost use Rattle.std.specs.Prelude.{◌≡◌, true, false, List, IfErr};
+ghost use Rattle.std.specs.Prelude.{◌≡◌, ◌⊎◌, true, false, List, IfErr};
 ghost use Rattle.sb_codec.specs.declared.message.Message.{Message};
 ghost use Rattle.sb_codec.specs.declared.message.Message.TheVariants as kinds;
 ghost use Rattle.sb_directory.specs.Serving.{IsLater, IsStill};
@@ -207,6 +207,7 @@ impl<S: RoundsTag, H: Wait + Drop, Q: Wait + Clock> NodeContext<'_, S, H, Q> {
         ensures ends { writes.old.has_failed ≡ true → self.now.pace.on_log_fault ≡ OnLogFault.Exit → result ≡ true }
         ensures purges { MayPurge L.seen S.opening turns.old.least writes.old.log writes.old.owed seat.old writes.new.log writes.new.owed seat.new }
         ensures least { turns.new.least ≡ turns.old.least }
+        ensures noted { (turns.new.writes ≡ turns.old.writes) ⊎ (turns.new.writes ≡ 0) }
         ensures later { IsLater seat.old seat.new }
         // A log that the purge closes ends the node too.
         ensures closes { (L.seen writes.old.log).is_open ≡ true → (L.seen writes.new.log).is_open ≡ false → self.now.pace.on_log_fault ≡ OnLogFault.Exit → result ≡ true }
@@ -279,6 +280,8 @@ impl<S: RoundsTag, H: Wait + Drop, Q: Wait + Clock> NodeContext<'_, S, H, Q> {
         ensures next { DoesNext L.seen S.opening S.settings turns.old.beats.beat turns.old.purges.least work
             (record { log = writes.old.log; owed = writes.old.owed; seat = seat }) (record { log = writes.new.log; owed = writes.new.owed; seat = result.0 }) }
         ensures same { (turns.new.beats.beat ≡ turns.old.beats.beat) × (turns.new.purges.least ≡ turns.old.purges.least) }
+        // The work is noted, unless the count of writes begins again.
+        ensures noted { (turns.new.purges.writes ≡ writes_after work turns.old.purges.writes) ⊎ (turns.new.purges.writes ≡ 0) }
     {
         let observer = dialing.observer();
         self.close_lost_log(writes, &AskObserver { observer }, observer);

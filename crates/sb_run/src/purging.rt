@@ -1,5 +1,5 @@
 //! When the calling thread of a running node purges the node's own table and log.
-ghost use Rattle.std.specs.Prelude.{◌≡◌, true, false, if◌then◌else◌};
+ghost use Rattle.std.specs.Prelude.{◌≡◌, ◌⊎◌, true, false, if◌then◌else◌};
 ghost use Rattle.sb_log.specs.Puts.{IsSettled};
 ghost use Rattle.sb_directory.specs.Serving.{IsLater};
 ghost use Rattle.sb_run.specs.OwnPurging.{running_least, counts_now, MayPurge};
@@ -62,6 +62,8 @@ impl PurgeTurns {
         ensures never { self.old.least ≡ 0 → result ≡ false }
         ensures next { result ≡ counts_now self.old.least self.old.writes is_full }
         ensures writes { self.new.writes ≡ (if result then 0 else self.old.writes) }
+        ensures again { result ≡ true → self.new.writes ≡ 0 }
+        ensures kept { result ≡ false → self.new.writes ≡ self.old.writes }
     {
         let is_next = self.counts_now(is_full);
         if is_next {
@@ -83,6 +85,7 @@ impl<S: RoundsTag, H: Wait + Drop, Q: Wait> NodeContext<'_, S, H, Q> {
     )
         ensures purges { MayPurge L.seen S.opening turns.old.least writes.old.log writes.old.owed seat.old writes.new.log writes.new.owed seat.new }
         ensures least { turns.new.least ≡ turns.old.least }
+        ensures noted { (turns.new.writes ≡ turns.old.writes) ⊎ (turns.new.writes ≡ 0) }
         ensures later { IsLater seat.old seat.new }
         ensures settled { IsSettled (L.seen writes.old.log) (L.leaves writes.old.log) → IsSettled (L.seen writes.new.log) (L.leaves writes.new.log) }
         ensures closes { (L.seen writes.old.log).is_open ≡ true → (L.seen writes.new.log).is_open ≡ false → writes.new.has_failed ≡ true }

@@ -12,3 +12,6 @@ returns-clause-next g c =
     (record { log = done.new.writes.log; owed = done.new.writes.owed; seat = done.result.0 })
     (record { log = c.ends_after-has_ended.new.writes.log; owed = c.ends_after-has_ended.new.writes.owed; seat = c.ends_after-has_ended.new.seat })
     closed.ensures.log closed.ensures.owed (ap (λ (b : BeatTurns). b.beat) c.note.ensures.beats) c.note.ensures.least done.ensures.does c.ends_after-has_ended.ensures.purges
+
+pub returns-clause-noted : goal.returns-clause-noted
+returns-clause-noted g c = rw c.note.ensures.writes at c.ends_after-has_ended.ensures.noted
