@@ -1,6 +1,7 @@
 //! The thread that accepts the connections at both sockets of a node, and hands them on once they have something to say.
-ghost use Rattle.std.specs.Prelude.{◌≡◌, IfErr, ◌+◌, ◌<◌, ◌≤◌, ◌++◌, ◌∷◌, [], true, vec_len, length, position, MatchBool, OnOk, IfSome, IsSomeAnd, IfOk};
+ghost use Rattle.std.specs.Prelude.{◌≡◌, IfErr, ◌+◌, ◌*◌, ◌<◌, ◌≤◌, ◌++◌, ◌∷◌, [], true, vec_len, length, position, MatchBool, OnOk, IfSome, IsSomeAnd, IfOk};
 ghost use Rattle.std.specs.Duration.{as_nanos};
+ghost use Rattle.std.specs.Time.{instant_nanos};
 ghost use Rattle.sb_run.specs.declared.first_message.TheConstants.{FIRST_MOST};
 ghost use Rattle.sb_run.specs.declared.accepting.TheConstants.{WAITING_MOST};
 ghost use Rattle.sb_run.specs.Arriving.{is_silent, has_begun, has_number, without_oldest, with_room, left_at_both, failure_wait};
@@ -467,7 +468,10 @@ impl Read for Arrived<'_> {
 }
 
 /// The moment so many milliseconds from now; none for 0, or if the clock can't be read.
-pub(crate) fn deadline_after<Q: Clock>(clock: &Q, milliseconds: u64) -> Option<Instant> {
+pub(crate) fn deadline_after<Q: Clock>(clock: &Q, milliseconds: u64) -> Option<Instant>
+    // A moment counts from its clock's zero. What the clock said, no clause sees.
+    ensures later { IfSome result (λ moment. milliseconds * 1_000_000 ≤ instant_nanos moment) }
+{
     if milliseconds == 0 {
         return None;
     }

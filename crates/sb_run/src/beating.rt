@@ -1,5 +1,6 @@
 //! The beats of a node: own writes by which its peers hear that it lives.
-ghost use Rattle.std.specs.Prelude.{◌≡◌, true, false, None, IsSome};
+ghost use Rattle.std.specs.Prelude.{◌≡◌, ◌*◌, ◌≤◌, true, false, None, IsSome, IfSome};
+ghost use Rattle.std.specs.Time.{instant_nanos};
 ghost use Rattle.sb_run.specs.Beating.{MakesBeat};
 
 use crate::accepting::deadline_after;
@@ -57,6 +58,8 @@ impl<S: RoundsTag, H: Wait + Drop, Q: Wait + Clock> NodeContext<'_, S, H, Q> {
         // With a closed log none is due any more.
         ensures over { IsSome beats.old.beat → IsSome (L.why writes.old.log) → beats.new.next ≡ None }
         ensures none { beats.old.beat ≡ None → beats.new ≡ beats.old }
+        // The next one waits for the whole pause, whatever the clock said.
+        ensures paused { IfSome beats.old.beat (λ beat. IfSome beats.new.next (λ moment. beat.pause * 1_000_000 ≤ instant_nanos moment)) }
     {
         let Some(beat) = beats.beat else {
             return;
