@@ -49,14 +49,15 @@
 //! - The loop that accepts connections ends if one accept fails. Only `tools/check-node` refuses it.
 //! - `Turns`, `Schedule`, `Counts`, `BusyWorkers` or `Peers` gives the observer a wrong state, or reports too seldom or
 //!   never. The tests of `sb_run` and `tools/check-node` refuse it.
-//! - If a peer is passed over, another than the next is dialed. `next_in_turn` covers the first turn alone, and that somebody
-//!   is dialed. The tests of `sb_run` and `tools/check-node` refuse it.
+//! - If a peer is passed over, another than the next is dialed, or peers lose turns. `next_in_turn` covers the first turn alone,
+//!   and that somebody is dialed. The tests of `sb_run` and `tools/check-node` refuse it.
 //! - `dial_peer` connects to nobody: no contract sees a socket. The tests of `sb_run` and `tools/check-node` refuse it. By the
 //!   types `Round` and `DialEnd` each round that has begun calls it before it ends.
 //! - No burst is dialed, or its peers are dialed one after another. The tests of `sb_run` and `tools/check-node`
 //!   refuse it.
 //! - A peer is pushed less than it may lack, because news is left out of its backlog, or because the delta is made before
-//!   the news is taken. The tests of `sb_run` and `tools/check-node` refuse it.
+//!   the news is taken. Or `plan` asks for other numbers of owners or of bytes before a push. The tests of `sb_run` and
+//!   `tools/check-node` refuse it.
 //! - A push counts as taken although the peer did not end it. The tests of `sb_run` and `tools/check-node` refuse it.
 //! - A gap hastens no round, or each gap hastens one. The tests of `sb_run` and `tools/check-node` refuse it.
 //! - Pushes, gaps or hastened rounds are counted wrongly. The tests of `sb_run` refuse it.
@@ -88,7 +89,7 @@
 //! - `run_node` purges its log first. It promises nothing of the log that it drops. Tests and `tools/check-node`
 //!   refuse it.
 //! - `run_node` reports `StoreFailed` or `LogDamaged` for a whole log. Tests refuse it.
-//! - A round counts twice, so a node makes fewer than it reports. Tests refuse it.
+//! - A turn without peers counts twice, so the status of a node reports more rounds than were made. Nothing refuses it.
 //! - A node has fewer worker threads than seats for them. `as_many_peers_are_served_at_once_as_there_are_workers`
 //!   refuses it.
 //! - A round has one exchange only, so it does not ask for owners after its first digest.
@@ -119,7 +120,7 @@
 //!   it stays after it left. The tests of `sb_run` and `tools/check-node` refuse it.
 //! - An owner has a wrong age or none, also over HTTP: no clause is about when an owner was heard. The tests of `sb_run` and
 //!   `tools/check-node` refuse it.
-//! - A beat is missing, or comes too often. The tests of `sb_run` and `tools/check-node` refuse it.
+//! - A beat is missing, or comes before it is due. The tests of `sb_run` and `tools/check-node` refuse it.
 //! - The calling thread takes a request and does not answer it, or makes beats alone. The tests of `sb_run` and
 //!   `tools/check-node` refuse it.
 //! - The gate of a dialed session, or that of the node, tells nobody what was entered, heard or missed. The tests of
