@@ -99,12 +99,7 @@ impl<S: RoundsTag, H: Wait + Drop, Q: Wait> NodeContext<'_, S, H, Q> {
     }
 
     /// News of so many owners, if a node pushes it whose own digests have so many bytes.
-    pub(crate) fn fit_news(
-        &self,
-        news: News<S>,
-        owners: usize,
-        digests: u64,
-    ) -> Option<FitNews<S>>
+    pub(crate) fn fit_news(&self, news: News<S>, owners: usize, digests: u64) -> Option<FitNews<S>>
         ensures some { IfSome result (λ fit. fit.news.delta ≡ news.delta) }
         ensures none { result ≡ None → spec.can_push news.delta owners digests S.settings.budget ≡ false }
     {
