@@ -475,10 +475,9 @@ pub(crate) fn deadline_after<Q: Clock>(clock: &Q, milliseconds: u64) -> Option<I
     if milliseconds == 0 {
         return None;
     }
-    match Instant::now(clock) {
-        Ok(now) => now.checked_add(Duration::from_millis(milliseconds)),
-        Err(_) => None,
-    }
+    let now = Instant::now(clock).ok()?;
+    let moment = now.checked_add(Duration::from_millis(milliseconds))?;
+    Some(moment)
 }
 
 impl Waiting {
