@@ -24,8 +24,18 @@ TEXTS = {
     6: "the owner has 4,096 keys, removed ones counted; write under a key that it has",
     8: "the owner has used every version that the settings allow",
     9: "there is nothing to remove under this key",
+    10: "a frame begins with another byte than a7; the peer speaks another protocol",
+    11: "the frame is of another version of the format; run the same release at both ends",
+    12: "a frame's length is outside 1 to 65,530",
+    13: "a message of this kind has no place here",
+    14: "a message breaks the format",
     15: "this is closed; open it again",
+    16: "reading failed",
+    17: "writing failed",
     18: "the log could not be read or written; open it again",
+    21: "another node writes under this node's name; give each node a name of its own",
+    28: "the stream ends inside a frame",
+    29: "the reads, calls or events that were allowed are spent",
 }
 
 
@@ -51,6 +61,52 @@ def part(text, pattern, fault, size=1):
     if not re.fullmatch(pattern, text.encode()):
         raise Fault(fault)
     return len(text.encode()).to_bytes(size, "big") + text.encode()
+
+
+class Kept:
+    """The rows that a watch keeps, by the rules of `attrdir watch --retry` in docs/REFERENCE.md. Each version is the greatest of an owner."""
+
+    def __init__(self):
+        self.rows, self.shown, self.yielded, self.gone, self.gone_before = {}, {}, {}, {}, {}
+
+    def restart(self):
+        """The node was started again, and has shown nothing since."""
+        self.shown, self.gone_before = {}, dict(self.gone)
+
+    def differ(self, owner, old, new):
+        """Whether the watch yields that a row changed: from the one that it keeps to the one that the node shows, each a row or None."""
+        version, shown = (new or old)["version"], self.shown.get(owner, 0)
+        is_held_back = shown < self.yielded.get(owner, 0) >= version  # the owner may have replaced or removed it since
+        if not new:
+            return version <= shown
+        if not old:
+            return version > self.gone_before.get(owner, 0) and not is_held_back
+        return new != old if version == old["version"] else version > old["version"] and not is_held_back
+
+    def take(self, found):
+        """Takes all rows that the node shows, each under its owner and key. Returns the changes."""
+        changes = []
+        for place in sorted({*self.rows, *found}):
+            old, new = self.rows.get(place), found.get(place)
+            if self.differ(place[0], old, new):
+                changes.append(("set", new) if new else ("gone", old))
+        for row in found.values():
+            self.note(self.shown, row)
+        for change, row in changes:
+            if change == "set":
+                self.rows[row["owner"], row["key"]] = row
+                self.note(self.yielded, row)
+            else:
+                del self.rows[row["owner"], row["key"]]
+                self.note(self.gone, row)
+                for versions in self.shown, self.yielded:
+                    self.note(versions, row, 1)  # a row goes by a later write of its owner
+        return changes
+
+    @staticmethod
+    def note(versions, row, more=0):
+        """Raises the version of an owner to that of a row, or so much more."""
+        versions[row["owner"]] = max(row["version"] + more, versions.get(row["owner"], 0))
 
 
 class Node:
@@ -89,25 +145,20 @@ class Node:
 
     def watch(self, owner=None, prefix="", key=None, pause=0.2):
         """Yields ("set", row) for each new or changed row, and ("gone", row) for each that is gone, without end."""
-        table, latest, start = {}, {}, None
+        kept, start = Kept(), None
         while True:
+            changes = []
             try:
-                before = os.stat(self.path).st_mtime_ns  # each start of the node makes the socket again
+                before = self._start()
                 rows = {(row["owner"], row["key"]): row for row in self.get(owner, prefix, key)}
-                if before == os.stat(self.path).st_mtime_ns:
-                    start, latest = before, latest if before == start else {}
-                    for place in sorted({*table, *rows}):
-                        old, new = table.get(place), rows.get(place)
-                        if new and (not old or new != old and new["version"] >= old["version"]):
-                            table[place] = new
-                            yield "set", new
-                        elif not new and latest.get(place[0], 0) >= old["version"]:  # the node had heard of it since its start
-                            yield "gone", table.pop(place)
-                    for row in rows.values():
-                        latest[row["owner"]] = max(row["version"], latest.get(row["owner"], 0))
+                if before == self._start():  # else some of these rows are of another start
+                    if before != start:
+                        kept.restart()
+                    start, changes = before, kept.take(rows)
             except (Fault, OSError) as fault:
                 if getattr(fault, "number", 16) not in (1, 15, 16, 28):
                     raise
+            yield from changes
             time.sleep(pause)
 
     def status(self):
@@ -121,6 +172,11 @@ class Node:
         cause = CAUSES.get(status["log_fault"], f"cause_{status['log_fault']}")
         status.update(peers=peers, log_fault=cause, caught_up=status["caught_up"] == 1, conflict=status["conflict"] or None)
         return {**status, "ready": status["caught_up"] and not cause and not status["conflict"]}
+
+    def _start(self):
+        """Which socket is at the path: each start of the node makes another one."""
+        found = os.stat(self.path)
+        return found.st_dev, found.st_ino, found.st_mtime_ns
 
     def _ask(self, kind, body):
         """Sends a message, and returns the body of its answer."""
@@ -158,7 +214,7 @@ def main():
     try:
         answer = getattr(node, "delete" if command == "del" else command)(**given)
         for item in answer if command in ("get", "watch") else [answer]:
-            print(json.dumps(item, ensure_ascii=False, sort_keys=True, separators=(",", ":")), flush=True)
+            print(json.dumps(item, ensure_ascii=False, sort_keys=True, separators=(",", ":")).replace("\x7f", r"\u007f"), flush=True)
     except Fault as fault:
         parser.exit(3, f"fault {fault.number}\n{fault.text}\n")
     except KeyboardInterrupt:

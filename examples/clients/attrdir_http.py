@@ -16,11 +16,61 @@ class Fault(Exception):
         self.status, self.text, self.number = status, text, number
 
 
+class Kept:
+    """The rows that a watch keeps, by the rules of `attrdir watch --retry` in docs/REFERENCE.md. Each version is the greatest of an owner."""
+
+    def __init__(self):
+        self.rows, self.shown, self.yielded, self.gone, self.gone_before = {}, {}, {}, {}, {}
+
+    def restart(self):
+        """The node was started again, and has shown nothing since."""
+        self.shown, self.gone_before = {}, dict(self.gone)
+
+    def differ(self, owner, old, new):
+        """Whether the watch yields that a row changed: from the one that it keeps to the one that the node shows, each a row or None."""
+        version, shown = (new or old)["version"], self.shown.get(owner, 0)
+        is_held_back = shown < self.yielded.get(owner, 0) >= version  # the owner may have replaced or removed it since
+        if not new:
+            return version <= shown
+        if not old:
+            return version > self.gone_before.get(owner, 0) and not is_held_back
+        return new != old if version == old["version"] else version > old["version"] and not is_held_back
+
+    def take(self, found):
+        """Takes all rows that the node shows, each under its owner and key. Returns the changes."""
+        changes = []
+        for place in sorted({*self.rows, *found}):
+            old, new = self.rows.get(place), found.get(place)
+            if self.differ(place[0], old, new):
+                changes.append(("set", new) if new else ("gone", old))
+        for row in found.values():
+            self.note(self.shown, row)
+        for change, row in changes:
+            if change == "set":
+                self.rows[row["owner"], row["key"]] = row
+                self.note(self.yielded, row)
+            else:
+                del self.rows[row["owner"], row["key"]]
+                self.note(self.gone, row)
+                for versions in self.shown, self.yielded:
+                    self.note(versions, row, 1)  # a row goes by a later write of its owner
+        return changes
+
+    @staticmethod
+    def note(versions, row, more=0):
+        """Raises the version of an owner to that of a row, or so much more."""
+        versions[row["owner"]] = max(row["version"] + more, versions.get(row["owner"], 0))
+
+
 class Node:
     """A node at 127.0.0.1:PORT, at [::1]:PORT or at the path of a socket. Threads can share it. Each call can raise Fault and OSError."""
 
     def __init__(self, address, timeout=60.0):
+        """Takes the address, and for how many seconds the node may be silent. ValueError of what is no address of a node."""
         self.address, self.timeout = address, timeout
+        self.is_port = re.fullmatch(r"(127\.0\.0\.1|\[::1]):[0-9]+", address) is not None
+        if not self.is_port and (address.isdigit() or ":" in address and "/" not in address):
+            raise ValueError(f"{address} is no address of a node: give 127.0.0.1:PORT, [::1]:PORT, or the path of a socket")
 
     def set(self, key, kind, value):
         """Writes a str (addr, text), an int (weight) or a bool (flag). Returns the version of the write."""
@@ -36,19 +86,22 @@ class Node:
 
     def watch(self, owner=None, prefix=""):
         """Yields ("set", row) for each new or changed row, and ("gone", row) for each that is gone, without end."""
-        table, seen = {}, None
+        kept, run, seen, wait = Kept(), None, None, "30s"
         while True:
             try:
-                rows, seen = self._rows({"owner": owner, "prefix": prefix}, wait="30s", seen=seen)
-            except (Fault, OSError, http.client.HTTPException) as fault:
+                rows, mark = self._rows({"owner": owner, "prefix": prefix}, wait=wait, seen=seen)
+                found = self._run()
+            except (Fault, OSError) as fault:
                 if getattr(fault, "status", 503) != 503:
                     raise
                 time.sleep(1)  # the node does not run, or others wait in all its places
                 continue
-            for place in sorted({*table, *rows}):
-                if table.get(place) != rows.get(place):
-                    yield ("set", rows[place]) if place in rows else ("gone", table[place])
-            table = rows
+            if found == run:
+                yield from kept.take(rows)
+                seen, wait = mark, "30s" if rows == kept.rows else "10s"  # a later asking may show that a row is gone
+            else:  # some of these rows may be of the run before
+                kept.restart()
+                run, seen = found, None
 
     def _rows(self, query, **poll):
         """The rows from all pages by their places, and if it is a poll the mark of these rows."""
@@ -59,20 +112,35 @@ class Node:
             rows += page["rows"]
         return {(row["owner"], row["key"]): row for row in rows}, seen
 
+    def _run(self):
+        """A word that is another in each run of the node: the mark of a row that nobody has."""
+        return self._ask(owner="-", prefix="-" * 64, wait="0s")["seen"]
+
     def _ask(self, method="GET", path="/v1/rows", body=None, **query):
         """Sends a request, and returns the object that answers it. A parameter that is None is left out."""
-        at_port = re.fullmatch(r"(127\.0\.0\.1|\[::1]):[0-9]+", self.address)
-        connection = http.client.HTTPConnection(self.address if at_port else "localhost", timeout=self.timeout + 30 * ("wait" in query))
-        if not at_port:
-            connection.sock = socket.socket(socket.AF_UNIX)
-            connection.sock.settimeout(connection.timeout)
-            connection.sock.connect(self.address)
-        connection.request(method, path + "?" + urlencode({name: word for name, word in query.items() if word is not None}), body)
-        answer = connection.getresponse()
-        content = json.loads(answer.read() or "{}")
-        if answer.status == 200:
+        connection = http.client.HTTPConnection(self.address if self.is_port else "localhost", timeout=self.timeout + 30 * ("wait" in query))
+        try:
+            if not self.is_port:
+                connection.sock = socket.socket(socket.AF_UNIX)
+                connection.sock.settimeout(connection.timeout)
+                connection.sock.connect(self.address)
+            connection.request(method, path + "?" + urlencode({name: word for name, word in query.items() if word is not None}), body)
+            answer = connection.getresponse()
+            body = answer.read()
+        except http.client.HTTPException as error:
+            raise ConnectionError(f"no whole answer came: {error!r}") from error
+        finally:
+            connection.close()
+        if answer.status == 200 and not body:
+            raise ConnectionError("no whole answer came: it has no body")
+        try:
+            content = dict(json.loads(body or b"{}"))
+        except (TypeError, ValueError):
+            content = {}
+        if answer.status == 200 and {"rows", "version"} & {*content}:
             return content
-        raise Fault(answer.status, content.get("error", answer.reason), content.get("fault"))
+        reason = "the answer is not that of a node" if answer.status == 200 else answer.reason
+        raise Fault(answer.status, content.get("error", reason), content.get("fault"))
 
 
 def main():
@@ -84,15 +152,20 @@ def main():
         for word in words:
             options.add_argument(word)
     given = vars(parser.parse_args())
-    node, command = Node(given.pop("http")), given.pop("command")
+    try:
+        node, command = Node(given.pop("http")), given.pop("command")
+    except ValueError as wrong:
+        parser.error(str(wrong))
     if given.get("kind") in ("weight", "flag") and re.fullmatch("0|[1-9][0-9]*|true|false", given["value"]):
         given["value"] = json.loads(given["value"])
     try:
         answer = getattr(node, "delete" if command == "del" else command)(**given)
         for item in answer if command in ("get", "watch") else [answer]:
-            print(json.dumps(item, ensure_ascii=False, sort_keys=True, separators=(",", ":")), flush=True)
-    except (Fault, OSError, KeyboardInterrupt) as fault:
+            print(json.dumps(item, ensure_ascii=False, sort_keys=True, separators=(",", ":")).replace("\x7f", r"\u007f"), flush=True)
+    except (Fault, OSError) as fault:
         parser.exit(3, f"{fault}\n")
+    except KeyboardInterrupt:
+        parser.exit(130)
 
 
 if __name__ == "__main__":

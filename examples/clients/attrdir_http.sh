@@ -7,6 +7,7 @@
 #
 # ADDRESS is that of the node's --http: 127.0.0.1:PORT, [::1]:PORT, or the path of a socket. A row is a line of JSON.
 # If the node refuses, the status is 3, and its answer is on standard error. If no node answers, the status is that of curl.
+# A watch goes on then: it prints a line on standard error once the node does not answer, and one once it answers again.
 set -u
 LC_ALL=C
 export LC_ALL
@@ -26,41 +27,60 @@ ask() {
     [ "$code" = 200 ] || { printf '%s\n' "status $code: $body" >&2 && return 3; }
 }
 
+# Writes the control byte 7f as an escape of JSON. The node has written the others so.
+escape() { sed 's/\x7f/\\u007f/g'; }
+
 # Prints a word of $body, which the last member of this name has. A quote within a text has a backslash before it, so no text has such members.
 last() { printf '%s\n' "$body" | sed -n 's/.*[{,]"'"$1"'":"\{0,1\}\([^",}]*\).*/\1/p'; }
 
 # Prints the rows of the page in $body, a line each, and those of all pages after it.
 pages() {
     while :; do
-        printf '%s\n' "$body" | sed -n 's/.*[{,]"rows":\[\(.*\)\].*/\1/p' | sed -e 's/},\({"[a-z_]*":\)/}\n\1/g' -e '/^$/d'
+        printf '%s\n' "$body" | sed -n 's/.*[{,]"rows":\[\(.*\)\].*/\1/p' | sed -e 's/},\({"[a-z_]*":\)/}\n\1/g' -e '/^$/d' | escape
         [ "$(last more)" = true ] || return 0
         ask "/v1/rows?prefix=$1&after=$(last owner)/$(last key)" || return
     done
 }
 
+# Prints a line about the node on standard error, unless it is the one before. At first the node is taken to answer.
+tell() {
+    [ "$1" = "$told" ] || printf '%s: %s %s: %s\n' "${0##*/}" "$2" "$address" "$1${3:+: $3}" >&2
+    told=$1
+}
+
 # Waits until the mark of the rows is another, and compares all of them with those of before.
 watch() {
-    now=$(mktemp) old=$(mktemp) mark=''
-    trap 'rm -f "$now" "$old"' EXIT
+    now=$(mktemp) old=$(mktemp) said=$(mktemp) mark='' told=answers
+    trap 'rm -f "$now" "$old" "$said"' EXIT
     trap 'exit 130' INT
     trap 'exit 143' TERM
     while :; do
-        if ask "/v1/rows?prefix=$1&wait=30s${mark:+&seen=$mark}" && seen=$(last seen) && pages "$1" > "$now"; then
+        if ask "/v1/rows?prefix=$1&wait=30s${mark:+&seen=$mark}" 2> "$said" && seen=$(last seen) && pages "$1" > "$now" 2> "$said"; then
+            tell answers info
             sort -o "$now" "$now"
             comm -3 "$old" "$now" | sed -e 's/^\t/+ /' -e t -e 's/^/- /'
             cp "$now" "$old" && mark=$seen
         elif [ "${code:-503}" = 503 ]; then
+            tell 'does not answer' warning "$(head -n 1 "$said")"
             sleep 1 # the node does not run, or others wait in all its places
         else
+            cat "$said" >&2
             return 3
         fi
     done
 }
 
 address=${1-} command=${2-}
+case $address in
+    127.0.0.1:* | "[::1]:"* | */* | '') ;;
+    *:* | "${address##*[!0-9]*}") # this one is a number alone
+        printf '%s\n' "$address is no address of a node: give 127.0.0.1:PORT, [::1]:PORT, or the path of a socket" >&2
+        exit 2
+        ;;
+esac
 case $#,$command in
     2,rows | 3,rows) ask "/v1/rows?prefix=${3-}" && pages "${3-}" ;;
-    4,row) ask "/v1/rows?owner=$3&key=$4" && printf '%s\n' "$body" ;;
+    4,row) ask "/v1/rows?owner=$3&key=$4" && printf '%s\n' "$body" | escape ;;
     2,watch | 3,watch) watch "${3-}" ;;
     *) sed -n '2,/^[^#]/s/^# \{0,1\}//p' "$0" >&2 && exit 2 ;;
 esac

@@ -11,6 +11,7 @@ import subprocess
 import sys
 import threading
 import time
+from contextlib import suppress
 from queue import Empty, Queue
 
 from check_asking import MadeUp, done, refused, rows, texts
@@ -30,7 +31,7 @@ def module_of(path):
     return module
 
 
-CLIENT_MODULE = module_of(CLIENT)
+CLIENT_MODULE, HTTP_MODULE = module_of(CLIENT), module_of(HTTP_CLIENT)
 Fault = CLIENT_MODULE.Fault
 
 
@@ -54,12 +55,16 @@ def fault_of(call, *words):
     raise Difference(f"no fault of {words}, but {found!r}")
 
 
-class Changes:
-    """The changes that a watch of the client yields, as they come."""
+def escaped(printed):
+    """Rows as JSON with the escape of the byte 7f, which the clients write and the program does not."""
+    return printed.replace("\x7f", "\\u007f")
 
-    def __init__(self, node, *words, **how):
-        self.queue = Queue()
-        self.watch = client_of(node).watch(*words, **how)
+
+class Changes:
+    """The changes that a watch of a client yields, as they come."""
+
+    def __init__(self, watch):
+        self.queue, self.watch = Queue(), watch
         threading.Thread(target=self.read, daemon=True).start()
 
     def read(self):
@@ -78,6 +83,35 @@ class Changes:
         except Empty:
             pass
         want("the changes of a client's watch", found + [self.queue.get() for _ in range(self.queue.qsize())], list(wanted))
+
+
+def changes_at(node, *words, **how):
+    return Changes(client_of(node).watch(*words, **how))
+
+
+class MadeUpRuns(MadeUp):
+    """A made-up node that is started again after the answers of each run. It makes its socket anew once somebody asks after the last of them."""
+
+    def __init__(self, path, runs):
+        self.runs = runs[1:]
+        super().__init__(path, runs[0])
+
+    def serve(self):
+        while True:
+            for answer in self.answers:
+                stream, request = self.take()
+                with stream:
+                    self.requests.append(request)
+                    stream.sendall(answer)
+            if not self.runs:
+                return self.door.close()
+            stream, _ = self.door.accept()
+            door, self.answers, self.runs = self.door, self.runs[0], self.runs[1:]
+            self.path.unlink()
+            self.door = socket.socket(socket.AF_UNIX)
+            self.door.bind(str(self.path))
+            self.door.listen(8)
+            door.close(), stream.close()
 
 
 # ---- the parts
@@ -105,7 +139,7 @@ def client_rows(check):
     want("no rows", (asked.get("c"), asked.get(prefix="l"), asked.get("b", key="k")), ([], [], []))
     want("a removal", asked.delete("many/050"), count + 101)
     want("rows afterwards", asked.get(prefix="many/05"), whole("--prefix", "many/05"))
-    want("what it prints", command(node, "get"), (0, node.command("get", "--format", "json")[1], ""))
+    want("what it prints", command(node, "get"), (0, escaped(node.command("get", "--format", "json")[1]), ""))
 
 
 def client_commands(check):
@@ -132,7 +166,7 @@ def client_watches(check):
     asked = client_of(node)
     asked.set("own", "weight", 1)
     tell(node, "p", 0, ("x", 1, 10), ("y", 2, 20), ("z", 3, 30))
-    watch = Changes(node, pause=0.02)
+    watch = changes_at(node, pause=0.02)
     watch.awaits(("set", "a", "own", 1, 1), ("set", "p", "x", 1, 10), ("set", "p", "y", 2, 20), ("set", "p", "z", 3, 30))
     asked.set("own", "weight", 2)
     watch.awaits(("set", "a", "own", 2, 2))
@@ -147,14 +181,14 @@ def client_watches(check):
     watch.awaits(("set", "p", "v", 5, 50), ("gone", "p", "y", 2, 20))
     asked.delete("own")
     watch.awaits(("gone", "a", "own", 3, 3))
-    filtered = Changes(node, "p", "v", pause=0.02)
+    filtered = changes_at(node, "p", "v", pause=0.02)
     filtered.awaits(("set", "p", "v", 5, 50))
     tell(node, "p", 5, ("w", 6, 60), ("v", 7, 70))
     filtered.awaits(("set", "p", "v", 7, 70))
     began = time.monotonic()
     made = check.folder() / "made.ctl"
     MadeUp(made, [rows(("a", "k", at, at)) for at in range(1, 7)])
-    six = Changes(type("Place", (), {"control": made}))
+    six = changes_at(type("Place", (), {"control": made}))
     six.awaits(*(("set", "a", "k", at, at) for at in range(1, 7)))
     if not 1 <= time.monotonic() - began <= 10:
         raise Difference(f"six askings took {time.monotonic() - began:.2f} s")
@@ -166,16 +200,87 @@ def client_watches_pages(check):
     """The node heard of an owner between two pages after it was started again: no row is gone that only the first page could have had."""
     place = type("Place", (), {"control": check.folder() / "made.ctl"})
     MadeUp(place.control, [rows(("a", "b1", 5, 1), ("a", "z", 6, 1))])
-    watch = Changes(place, pause=0.02)
+    watch = changes_at(place, pause=0.02)
     watch.awaits(("set", "a", "b1", 5, 1), ("set", "a", "z", 6, 1))
     place.control.unlink()
     whole = rows(("a", "c1", 1, 1), ("a", "z", 100, 1))
     MadeUp(place.control, [rows(("a", "c1", 1, 1), more=1), rows(("a", "z", 100, 1)), whole])
-    watch.awaits(("set", "a", "c1", 1, 1), ("set", "a", "z", 100, 1), ("gone", "a", "b1", 5, 1))
+    # (c1 may be a row that was removed: it is yielded once the node has shown a as far as before)
+    watch.awaits(("set", "a", "z", 100, 1), ("gone", "a", "b1", 5, 1), ("set", "a", "c1", 1, 1))
     # a row of an earlier version is passed over
     other = type("Place", (), {"control": check.folder() / "made.ctl"})
     MadeUp(other.control, [rows(("b", "k", 2, 1), ("b", "l", 3, 1)), rows(("b", "k", 1, 9))])
-    Changes(other, pause=0.02).awaits(("set", "b", "k", 2, 1), ("set", "b", "l", 3, 1), ("gone", "b", "l", 3, 1))
+    changes_at(other, pause=0.02).awaits(("set", "b", "k", 2, 1), ("set", "b", "l", 3, 1), ("gone", "b", "l", 3, 1))
+
+
+def client_watches_back(check):
+    """After a restart of its node a watch of each client in Python yields no earlier version, no removed row, and each later one. It does not
+    matter whether the node hears less of the owner at first, or hears of it in pieces."""
+    folder = check.folder()
+    node, _ = node_at(check, "b", folder / "b.http", folder=folder)
+    watches = [changes_at(node, pause=0.02), Changes(HTTP_MODULE.Node(str(folder / "b.http")).watch())]
+
+    def yield_both(*wanted):
+        for watch in watches:
+            watch.awaits(*wanted)
+
+    def write(value):
+        node.put("own", value)
+        yield_both(("set", "b", "own", value, value))
+
+    tell(node, "a", 0, ("y", 1, 10), ("x", 2, 20))
+    yield_both(("set", "a", "x", 2, 20), ("set", "a", "y", 1, 10))
+    tell(node, "a", 2, ("x", 3, None), ("y", 4, 40))
+    yield_both(("gone", "a", "x", 2, 20), ("set", "a", "y", 4, 40))
+    node.kill()
+    node.start()
+    # the node hears of a from one that was away
+    tell(node, "a", 0, ("y", 1, 10), ("x", 2, 20))
+    write(1)
+    write(2)
+    want("the rows", node.get("--owner", "a"), ["a x 2 weight 20", "a y 1 weight 10"])
+    tell(node, "a", 2, ("x", 3, None), ("y", 4, 40))
+    tell(node, "a", 4, ("z", 5, 50))
+    yield_both(("set", "a", "z", 5, 50))
+    node.kill()
+    node.start()
+    # a wrote x and y again, which comes last: until then the node shows what was so before x went
+    tell(node, "a", 0, ("y", 1, 10), ("x", 2, 20))
+    tell(node, "a", 2, ("z", 5, 50))
+    write(3)
+    write(4)
+    want("the rows in pieces", node.get("--owner", "a"), ["a x 2 weight 20", "a y 1 weight 10", "a z 5 weight 50"])
+    tell(node, "a", 5, ("y", 7, 70), ("x", 8, 80))
+    yield_both(("set", "a", "x", 8, 80), ("set", "a", "y", 7, 70))
+    node.kill()
+    node.start()
+    # now x and y are gone, and no write comes after the one that shows it
+    tell(node, "a", 0, ("z", 5, 50), ("w", 11, 110))
+    yield_both(("set", "a", "w", 11, 110), ("gone", "a", "x", 8, 80), ("gone", "a", "y", 7, 70))
+
+
+def client_watch_rules(check):
+    """Of random listings, in one page or more, of a made-up node that is started again now and then, a watch of the client yields what
+    `attrdir watch --retry` prints."""
+    chance, places = check.chance, [(owner, key) for owner in "ab" for key in ("k", "l", "m")]
+
+    def listing():
+        found = [(*place, version, version if chance.random() < 0.9 else 99) for place in places if chance.random() < 0.6 for version in [chance.randrange(1, 12)]]
+        cut = chance.randrange(len(found)) if found else 0
+        return [rows(*found[:cut], more=1), rows(*found[cut:])] if cut else [rows(*found)]
+
+    for _ in range(20 if check.is_long else 4):
+        listings = [[listing() for _ in range(chance.randrange(1, 7))] for _ in range(15)] + [[[rows(("c", "end", 1, 1))]]]
+        runs, count = [sum(run, []) for run in listings], sum(map(len, listings))
+        made = [MadeUpRuns(check.folder() / "made.ctl", runs) for _ in range(2)]
+        status, printed, _ = run(check.program, "watch", "--retry", "--every", "0", "--count", str(count), "--control", str(made[0].path))
+        want("the end of the program's watch", (status, printed.splitlines()[-1]), (0, "set c end 1 weight 1"))
+        found = []
+        for change, row in CLIENT_MODULE.Node(made[1].path).watch(pause=0):
+            found.append(f"{change} {row['owner']} {row['key']}" + (f" {row['version']} weight {row['value']}" if change == "set" else ""))
+            if row["owner"] == "c":
+                break
+        want("the changes of a watch", found, printed.splitlines())
 
 
 def client_statuses(check):
@@ -223,6 +328,8 @@ def client_status_words(check):
 def client_faults(check):
     """The client ends by the fault of the program's commands, with its text: of wrong words, of a node's refusal, of no node, and of wrong answers."""
     told, folder = texts(), check.folder()
+    closer = {13: "a message of this kind has no place here", 14: "a message breaks the format", 17: "writing failed"}
+    closer[21] = "another node writes under this node's name; give each node a name of its own"
     node = check.node("a").start()
     asked = client_of(node)
     for fault, call, *words in (
@@ -252,8 +359,8 @@ def client_faults(check):
     for fault in told:
         found, words = fault_of(made(refused(fault)).set, "k", "weight", 5)
         want("the number of a refusal", found, fault)
-        if fault in (1, 6, 8, 9, 15, 18):
-            want("the text of a refusal", words, told[fault])
+        if fault in (1, 2, 3, *range(6, 10), *range(10, 19), 21, 28, 29) and fault != 7:
+            want("the text of a refusal", words, closer.get(fault, told[fault]))
     door = socket.socket(socket.AF_UNIX)
     door.bind(str(folder / "silent.ctl"))
     door.listen(8)
@@ -262,13 +369,16 @@ def client_faults(check):
 
 
 def client_alone(check):
-    """Both clients in Python are plain Python 3.8, and import nothing but the standard library."""
+    """Both clients in Python are plain Python 3.8, import nothing but the standard library, and keep rows by the same code."""
+    kept = []
     for path in (CLIENT, HTTP_CLIENT):
         tree = ast.parse(path.read_text(), feature_version=(3, 8))
+        kept += [ast.dump(it) for it in tree.body if getattr(it, "name", None) == "Kept"]
         imports = [alias.name for it in ast.walk(tree) if isinstance(it, ast.Import) for alias in it.names]
         imports += [it.module for it in ast.walk(tree) if isinstance(it, ast.ImportFrom)]
         there = set("argparse http.client io json os re socket struct time typing collections urllib.parse".split())
         want(f"what {path.name} imports", sorted(set(imports) - there), [])
+    want("how both keep rows", kept, 2 * kept[:1])
 
 
 # ---- the clients over HTTP
@@ -282,6 +392,34 @@ def by_http(place, *words):
 def by_shell(place, *words):
     """The same by the reader in shell."""
     return run("sh", str(SHELL_CLIENT), str(place), *words)
+
+
+class MadeUpHttp:
+    """A socket that takes a request for each of these answers, which it sends as they are."""
+
+    def __init__(self, path, *answers):
+        self.path, self.answers, self.targets = path, answers, []
+        self.door = socket.socket(socket.AF_UNIX)
+        self.door.bind(str(path))
+        self.door.listen(8)
+        threading.Thread(target=self.serve, daemon=True).start()
+
+    def serve(self):
+        for answer in self.answers:
+            stream, _ = self.door.accept()
+            with stream, suppress(OSError):
+                request = b""
+                while b"\r\n\r\n" not in request:
+                    request += stream.recv(65536)
+                self.targets.append(request.split()[1].decode())
+                stream.sendall(answer)
+        self.door.close()
+
+
+def http_answer(content, length=None):
+    """An answer with this object, of which so many bytes are announced."""
+    body = json.dumps(content).encode()
+    return b"HTTP/1.1 200 OK\r\nContent-Length: %d\r\n\r\n%s" % (len(body) if length is None else length, body)
 
 
 class WatchingByHttp(Watching):
@@ -304,7 +442,7 @@ def http_client_rows(check):
     node, _ = node_at(check, "a", folder / "a.http", "--budget", "1024", folder=folder)
     port = f"127.0.0.1:{free_port()}"
     other = check.node("b", "--http", port, "--budget", "1024", "--pause", "100", folder=folder, peers=[node.sock]).start()
-    asked = module_of(HTTP_CLIENT).Node(str(folder / "a.http"))
+    asked = HTTP_MODULE.Node(str(folder / "a.http"))
     for at, (kind, _, value) in enumerate(VALUES, 1):
         want(f"the version of {value!r}", asked.set(f"k/{at:02}._-", kind, value), at)
     for at, value in enumerate(("},{", '},{"key":"b","owner":"b"', ',"more":true,', "],", '"],"rows":[{"', "\\"), at + 1):
@@ -313,14 +451,15 @@ def http_client_rows(check):
         node.put(f"many/{at:03}", at)
     count = len(node.get())
     other.awaits("all rows", lambda found: len(found) == count)
-    whole = lambda *words: node.command("get", "--format", "json", *words)[1]
+    whole = lambda *words: escaped(node.command("get", "--format", "json", *words)[1])
     for place, printed in ((folder / "a.http", whole()), (port, whole())):
         want(f"rows at {place}", by_http(place, "get"), (0, printed, ""))
         want(f"rows by the shell at {place}", by_shell(place, "rows"), (0, printed, ""))
         for prefix in ("many/05", "n/", "l"):
             want(f"rows under {prefix}", by_http(place, "get", "--prefix", prefix), (0, whole("--prefix", prefix), ""))
             want(f"rows by the shell under {prefix}", by_shell(place, "rows", prefix), (0, whole("--prefix", prefix), ""))
-        want("a row by the shell", by_shell(place, "row", "a", "x/../y"), (0, whole("--owner", "a", "--key", "x/../y"), ""))
+        for key in ("x/../y", "k/09._-"):
+            want(f"the row of {key} by the shell", by_shell(place, "row", "a", key), (0, whole("--owner", "a", "--key", key), ""))
         want("no row by the shell", by_shell(place, "row", "b", "k"), (3, "", 'status 404: {"error":"there is no such row"}\n'))
     want("rows of an owner", by_http(port, "get", "--owner", "a", "--prefix", "n/"), (0, whole("--prefix", "n/"), ""))
     want("rows of nobody", by_http(port, "get", "--owner", "b"), (0, "", ""))
@@ -346,6 +485,35 @@ def http_client_faults(check):
         want(f"a wrong prefix of {command}", (status, printed, json.loads(said.partition(": ")[2])["fault"], said[:12]), (3, "", 3, "status 400: "))
     want("no node", (by_http(folder / "none.http", "get")[:2], by_shell(folder / "none.http", "rows")[:2]), ((3, ""), (7, "")))
     want("wrong command lines", [by_shell(*it)[0] for it in (("x",), ("x", "put"), ("x", "row", "a"), ("x", "rows", "a", "b"))], [2, 2, 2, 2])
+    for address in ("localhost:19111", "127.0.0.2:8080", "10.0.0.1:80", ":80", "8080"):
+        for status, printed, said in (by_http(address, "get"), by_shell(address, "rows"), by_shell(address, "watch")):
+            wanted = f"{address} is no address of a node: give 127.0.0.1:PORT, [::1]:PORT, or the path of a socket\n"
+            want(f"the end at {address}", (status, printed, said[-len(wanted) :]), (2, "", wanted))
+
+
+def http_client_answers(check):
+    """What is no whole answer is an OSError of each call of the client over HTTP, and its command line ends with status 3. A watch asks again. What
+    no node answers is a Fault."""
+    good = http_answer({"more": False, "rows": []})
+    broken = (b"", b"no answer\r\n\r\n", good[:20], good[:-5], http_answer({}, 1000), b"HTTP/1.1 200 OK\r\nTransfer-Encoding: chunked\r\n\r\n5\r\n{")
+    made = lambda *answers: MadeUpHttp(check.folder() / "made.http", *answers).path
+    for answer in broken:
+        for call, *words in (("get",), ("set", "k", "weight", 5), ("delete", "k")):
+            try:
+                found = getattr(HTTP_MODULE.Node(str(made(answer)), SECONDS), call)(*words)
+            except OSError as fault:
+                found = type(fault)
+            want(f"the end of {call} after {answer}", issubclass(found, ConnectionError) if isinstance(found, type) else found, True)
+        status, printed, said = by_http(made(answer), "get")
+        want(f"what is printed after {answer}", (status, printed, len(said.splitlines())), (3, "", 1))
+    for answer in (b"HTTP/1.1 200 OK\r\nContent-Length: 5\r\n\r\nhello", http_answer(5), http_answer("rows"), http_answer({"row": 5})):
+        want(f"the end after {answer}", by_http(made(answer), "get"), (3, "", "status 200: the answer is not that of a node\n"))
+    row = {"key": "k", "kind": "weight", "owner": "a", "value": 5, "version": 1}
+    rows_of = lambda mark, *found: http_answer({"more": False, "rows": found, "seen": mark})
+    node = MadeUpHttp(check.folder() / "made.http", broken[3], rows_of("m", row), broken[2], rows_of("m", row), rows_of("r"), rows_of("m", row), rows_of("r"), broken[0])
+    Changes(HTTP_MODULE.Node(str(node.path), SECONDS).watch()).awaits(("set", "a", "k", 1, 5))
+    polls = [it for it in node.targets if "owner" not in it]
+    want("the polls of a watch", polls[:4], 4 * ["/v1/rows?prefix=&wait=30s"])
 
 
 def http_client_watches(check):
@@ -379,12 +547,15 @@ def http_client_watches(check):
         want("del", other.command("del", "w/l")[0], 0)
         print_both([row("b", "w/l", 1, 1)], [])
         node.kill()
-        time.sleep(1.5)
+        time.sleep(2.5)
         node.start()
         node.put("w/k", 9)
         print_both([row("a", "w/k", 33, 7)], [row("a", "w/k", 35, 9)])
     finally:
         shell.stop(), python.stop()
+    front, said = f"attrdir_http.sh: {{}} {folder / 'a.http'}: {{}}", shell.ran.stderr.read().splitlines()
+    away = front.format("warning", "does not answer: curl: (")
+    want("what the shell says", [said[0][: len(away)], *said[1:]], [away, front.format("info", "answers")])
     want("what the shell leaves", list((folder / "tmp").iterdir()), [])
 
 
@@ -403,6 +574,6 @@ def client_page(check):
 
 
 PARTS = (
-    client_rows, client_commands, client_watches, client_watches_pages, client_statuses, client_status_words, client_faults, client_alone,
-    http_client_rows, http_client_faults, http_client_watches, client_page,
+    client_rows, client_commands, client_watches, client_watches_pages, client_watches_back, client_watch_rules, client_statuses, client_status_words,
+    client_faults, client_alone, http_client_rows, http_client_faults, http_client_answers, http_client_watches, client_page,
 )
