@@ -275,11 +275,10 @@ def client_watch_rules(check):
         made = [MadeUpRuns(check.folder() / "made.ctl", runs) for _ in range(2)]
         status, printed, _ = run(check.program, "watch", "--retry", "--every", "0", "--count", str(count), "--control", str(made[0].path))
         want("the end of the program's watch", (status, printed.splitlines()[-1]), (0, "set c end 1 weight 1"))
-        found = []
-        for change, row in CLIENT_MODULE.Node(made[1].path).watch(pause=0):
-            found.append(f"{change} {row['owner']} {row['key']}" + (f" {row['version']} weight {row['value']}" if change == "set" else ""))
-            if row["owner"] == "c":
-                break
+        watch, found = Changes(CLIENT_MODULE.Node(made[1].path).watch(pause=0)), []
+        while found[-1:] != ["set c end 1 weight 1"]:
+            change, owner, key, version, value = watch.queue.get(timeout=SECONDS)
+            found.append(f"{change} {owner} {key}" + (f" {version} weight {value}" if change == "set" else ""))
         want("the changes of a watch", found, printed.splitlines())
 
 
