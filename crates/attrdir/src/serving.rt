@@ -9,12 +9,14 @@ use crate::serve_command::SEATS;
 use crate::troubles::TroubleLines;
 use jiff::Timestamp;
 use sb_commands::{
-    Failure, FaultPlace, Range, StartPurge, error_of, has_folder, name_of, open_log, purge_removals,
+    Failure, FaultPlace, LogNames, Range, StartPurge, error_of, has_folder, log_in, name_of,
+    open_database, purge_removals,
 };
 use sb_log::{LogError, WriteLog};
 use sb_run::{Beat, NodeConfig, Pace, Paths, Ran, Runtime, is_own_port, run_closed_node, run_node};
 use sb_table::Table;
 use sb_types::{Fault, Key, Name, RawSettings, Settings, WORKERS_MOST};
+use sqlite::{Alter, Connection};
 use std::alloc::Global;
 use std::fs::{remove_file, symlink_metadata};
 use std::io::ErrorKind;
@@ -363,6 +365,21 @@ fn run<'a, L: WriteLog + Drop, R: Runtime + Net<Listener = TcpListener, Stream =
     }
 }
 
+/// Runs a node with the log of its name in a database. The faults of `log_in`, then those of `run`.
+fn run_in<'a, S: Alter + Drop, R: Runtime + Net<Listener = TcpListener, Stream = TcpStream>>(
+    rt: &HostRuntime,
+    runtime: &R,
+    given: &ServeArguments<'a>,
+    checked: Checked,
+    owner: Name,
+    conn: Connection<S>,
+) -> Result<(), Failure<'a>> {
+    let (cluster, max_version) = (checked.settings.cluster(), checked.settings.max_version());
+    let names = LogNames { owner, cluster };
+    let log = log_in(rt.alloc(), given.log, conn, names, max_version)?;
+    run(rt, runtime, given, checked, log)
+}
+
 /// The place of too few seats: the workers, if so many have too few also of the most seats.
 fn place_of_seats(workers: u64, has_http: bool) -> FaultPlace<'static> {
     if has_http && workers >= WORKERS_MOST {
@@ -380,8 +397,8 @@ fn place_of_seats(workers: u64, has_http: bool) -> FaultPlace<'static> {
 /// - `ReadFailed` if the path of a peer cannot be that of a socket.
 /// - `WriteFailed` if metrics would replace something else.
 ///
-/// Then come the faults of `open_log`, those of `purge_removals` and of `run_node`, and `WriteFailed` of what is
-/// printed at the end.
+/// Then come the faults of `open_database` and of `log_in`, those of `purge_removals` and of `run_node`, and `WriteFailed` of
+/// what is printed at the end.
 pub(crate) fn serve<'a, R: Runtime + Net<Listener = TcpListener, Stream = TcpStream>>(
     rt: &HostRuntime,
     runtime: &R,
@@ -407,12 +424,11 @@ pub(crate) fn serve<'a, R: Runtime + Net<Listener = TcpListener, Stream = TcpStr
     if let Some(place) = taken_for_metrics(rt, given) {
         return Err(Failure::at(place, Fault::WriteFailed(0)));
     }
-    let (cluster, max_version) = (settings.cluster(), settings.max_version());
-    let log = open_log(rt, given.log, name, cluster, max_version)?;
+    let conn = open_database(rt, given.log)?;
     let checked = Checked {
         settings,
         forgotten,
         beat,
     };
-    run(rt, runtime, given, checked, log)
+    run_in(rt, runtime, given, checked, name, conn)
 }

@@ -80,8 +80,8 @@ pub use careful::{CarefulWatch, View};
 pub use change_source::WatchPace;
 pub use failure::{Failure, FaultPlace, InputLine, Obstacle};
 pub use log_file::{
-    DroppedRemovals, FileLog, Floor, StartPurge, error_of, has_folder, open_log, print_log,
-    purge_log, purge_removals,
+    DroppedRemovals, Floor, LogDatabase, StartPurge, error_of, has_folder, log_in, open_database,
+    print_log, purge_log, purge_removals,
 };
 pub use one_row::{Portion, RowQuery, print_one};
 pub use owners::print_owners;
@@ -92,4 +92,4 @@ pub use restoring::{AskedNode, restore_log};
 pub use status::print_status;
 pub use template::TemplateLine;
 pub use watching::{WatchQuery, watch, watch_on};
-pub use words::{key_of, name_of, prefix_of, text_of, value_of};
+pub use words::{LogNames, key_of, name_of, prefix_of, text_of, value_of};

@@ -5,12 +5,12 @@ ghost use Rattle.sb_commands.specs.LogFiles.{DropsWrites};
 ghost use Rattle.sb_commands.specs.Removals as spec;
 
 use crate::failure::{Failure, FaultPlace};
-use crate::words::name_of;
+use crate::words::{LogNames, names_of};
 use sb_lines::{log_run, purge_run};
 use sb_log::{LogError, SqlLog, StoreCause, WriteLog};
 use sb_table::Table;
-use sb_types::{Fault, Name, Slot, VERSION_MOST};
-use sqlite::{Connection, Error, File, FileStore};
+use sb_types::{Fault, Slot, VERSION_MOST};
+use sqlite::{Alter, Connection, Error, File, FileStore};
 use std::alloc::Global;
 use std::io::{ErrorKind, Write};
 use std::os::unix::fs::MetadataExt;
@@ -19,8 +19,9 @@ use std::{fs, io};
 /// How many bytes a `-wal` has at most if no write is in it.
 const EMPTY_WAL_MOST: u64 = 41;
 
-/// A log in a file of the system.
-pub type FileLog = SqlLog<FileStore<File>>;
+/// The database in the file of a log. A call that hands it to a function over any store is slow to prove, and so is a place
+/// that drops it. So each command does that once.
+pub type LogDatabase = Connection<FileStore<File>>;
 
 /// Up to which version removals go.
 #[derive(Clone, Copy)]
@@ -161,41 +162,31 @@ pub(crate) fn test_wal<'a>(rt: &HostRuntime, path: &'a str) -> Result<(), Failur
 
 /// A connection to a file, which is made if it is not there. `StoreFailed` if it can't be opened or another has it open;
 /// `LogDamaged` if it is not a database; `NoMemory`.
-fn connect<'a>(
-    rt: &HostRuntime,
-    path: &'a str,
-) -> Result<Connection<FileStore<File>>, Failure<'a>> {
+fn connect<'a>(rt: &HostRuntime, path: &'a str) -> Result<LogDatabase, Failure<'a>> {
     match Connection::open(rt, path) {
         Ok(conn) => Ok(conn),
         Err(error) => Err(failure_of(rt, path, &error)),
     }
 }
 
-/// The log of an owner of a cluster, in a file that is made if it is not there. An empty one becomes a new log. It gives versions up to
-/// `max_version`. The faults of `connect` and of `SqlLog::open`.
-fn log_in<'a>(
-    rt: &HostRuntime,
+/// The log of an owner of a cluster, in the database of the file at a path. An empty one becomes a new log. It gives versions up to
+/// `max_version`. The faults of `SqlLog::open`.
+pub fn log_in<'a, S: Alter + Drop>(
+    alloc: Global,
     path: &'a str,
-    owner: Name,
-    cluster: Name,
+    conn: Connection<S>,
+    names: LogNames,
     max_version: u64,
-) -> Result<FileLog, Failure<'a>> {
-    let conn = connect(rt, path)?;
-    match SqlLog::open(rt.alloc(), conn, owner, cluster, max_version) {
+) -> Result<SqlLog<S>, Failure<'a>> {
+    match SqlLog::open(alloc, conn, names.owner, names.cluster, max_version) {
         Ok(log) => Ok(log),
         Err((error, _)) => Err(failure(path, error)),
     }
 }
 
-/// The log of an owner of a cluster, in a file that is there. The faults of `test_wal`; `StoreFailed` if it is not there, or must
-/// not be read; the faults of `log_in`.
-pub fn open_log<'a>(
-    rt: &HostRuntime,
-    path: &'a str,
-    owner: Name,
-    cluster: Name,
-    max_version: u64,
-) -> Result<FileLog, Failure<'a>> {
+/// The database in the file of a log, which is there. The faults of `test_wal`; `StoreFailed` if it is not there, or must not be
+/// read; the faults of `connect`.
+pub fn open_database<'a>(rt: &HostRuntime, path: &'a str) -> Result<LogDatabase, Failure<'a>> {
     test_wal(rt, path)?;
     if let Err(error) = fs::File::open(rt, path) {
         let place = match error.kind() {
@@ -205,19 +196,16 @@ pub fn open_log<'a>(
         };
         return Err(Failure::at(place, Fault::StoreFailed));
     }
-    log_in(rt, path, owner, cluster, max_version)
+    connect(rt, path)
 }
 
-/// The log of an owner of a cluster, in a file that is made if it is not there. It gives all versions. The faults of `test_wal`
-/// and of `log_in`.
-pub(crate) fn make_log<'a>(
+/// The database in the file of a log, which is made if it is not there. The faults of `test_wal` and of `connect`.
+pub(crate) fn make_database<'a>(
     rt: &HostRuntime,
     path: &'a str,
-    owner: Name,
-    cluster: Name,
-) -> Result<FileLog, Failure<'a>> {
+) -> Result<LogDatabase, Failure<'a>> {
     test_wal(rt, path)?;
-    log_in(rt, path, owner, cluster, VERSION_MOST)
+    connect(rt, path)
 }
 
 /// Whether another process has the log at a path open. Otherwise it makes the file, if there is none.
@@ -246,23 +234,6 @@ fn print_lines<L: WriteLog>(rt: &HostRuntime, log: L) -> Result<(), LogError> {
     match printed.and(log.close()) {
         Ok(()) => Ok(()),
         Err(fault) => Err(error_of(fault, cause)),
-    }
-}
-
-/// Prints what the log of an owner of a cluster holds. `BadName` of either name, before the file is looked for; then the
-/// faults of `open_log`, of `log_run` and of `close`.
-pub fn print_log<'a>(
-    rt: &HostRuntime,
-    path: &'a str,
-    owner: &'a str,
-    cluster: &'a str,
-) -> Result<(), Failure<'a>> {
-    let owner = name_of("--name", owner)?;
-    let cluster = name_of("--cluster", cluster)?;
-    let log = open_log(rt, path, owner, cluster, VERSION_MOST)?;
-    match print_lines(rt, log) {
-        Ok(()) => Ok(()),
-        Err(error) => Err(failure(path, error)),
     }
 }
 
@@ -297,8 +268,63 @@ fn purge_lines<L: WriteLog>(rt: &HostRuntime, log: L, floor: Floor) -> Result<()
     }
 }
 
+/// What a command does with a log that is there, which it then ends.
+#[derive(Clone, Copy)]
+enum LogTask {
+    /// It prints what the log holds.
+    Print,
+    /// It drops the removals up to a version, and prints that version.
+    Purge(Floor),
+}
+
+/// Does a task with a log, and ends it. The faults of `print_lines` or of `purge_lines`.
+fn run_task<L: WriteLog>(rt: &HostRuntime, log: L, task: LogTask) -> Result<(), LogError> {
+    match task {
+        LogTask::Print => print_lines(rt, log),
+        LogTask::Purge(floor) => purge_lines(rt, log, floor),
+    }
+}
+
+/// Does a task with the log in a database. The faults of `log_in` and of `run_task`.
+fn run_in<'a, S: Alter + Drop>(
+    rt: &HostRuntime,
+    path: &'a str,
+    conn: Connection<S>,
+    names: LogNames,
+    task: LogTask,
+) -> Result<(), Failure<'a>> {
+    let log = log_in(rt.alloc(), path, conn, names, VERSION_MOST)?;
+    match run_task(rt, log, task) {
+        Ok(()) => Ok(()),
+        Err(error) => Err(failure(path, error)),
+    }
+}
+
+/// Does a task with the log in the file at a path. The faults of `open_database` and of `run_in`.
+fn run_at<'a>(
+    rt: &HostRuntime,
+    path: &'a str,
+    names: LogNames,
+    task: LogTask,
+) -> Result<(), Failure<'a>> {
+    let conn = open_database(rt, path)?;
+    run_in(rt, path, conn, names, task)
+}
+
+/// Prints what the log of an owner of a cluster holds. `BadName` of either name, before the file is looked for; then the
+/// faults of `open_database`, of `log_in`, of `log_run` and of `close`.
+pub fn print_log<'a>(
+    rt: &HostRuntime,
+    path: &'a str,
+    owner: &'a str,
+    cluster: &'a str,
+) -> Result<(), Failure<'a>> {
+    let names = names_of(owner, cluster)?;
+    run_at(rt, path, names, LogTask::Print)
+}
+
 /// Drops the removals of the log of an owner of a cluster, and prints up to which version. `BadName` of either name, before the
-/// file is looked for; then the faults of `open_log`, of `load` and `purge_run`, and of `close`.
+/// file is looked for; then the faults of `open_database`, of `log_in`, of `load` and `purge_run`, and of `close`.
 pub fn purge_log<'a>(
     rt: &HostRuntime,
     path: &'a str,
@@ -306,13 +332,8 @@ pub fn purge_log<'a>(
     cluster: &'a str,
     floor: Floor,
 ) -> Result<(), Failure<'a>> {
-    let owner = name_of("--name", owner)?;
-    let cluster = name_of("--cluster", cluster)?;
-    let log = open_log(rt, path, owner, cluster, VERSION_MOST)?;
-    match purge_lines(rt, log, floor) {
-        Ok(()) => Ok(()),
-        Err(error) => Err(failure(path, error)),
-    }
+    let names = names_of(owner, cluster)?;
+    run_at(rt, path, names, LogTask::Purge(floor))
 }
 
 /// How many keys of a table are removed ones.

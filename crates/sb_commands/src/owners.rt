@@ -1,5 +1,6 @@
 //! How far a node holds each owner, which it is asked as by a peer.
-ghost use Rattle.std.specs.Prelude.{◌≡◌, ◌<◌, IfOk, IfErr};
+ghost use Rattle.std.specs.Prelude.{◌≡◌, ◌<◌, false, IfOk, IfErr};
+ghost use Rattle.sb_frames.specs.Sending.{has_failed};
 ghost use Rattle.sb_session.specs.Handlers.{IsRefusal};
 ghost use Rattle.sb_commands.specs.Owners as spec;
 
@@ -143,6 +144,56 @@ fn hear_digest<R: Read, W: Write, L: Ledger>(
     Err(Fault::TurnsSpent)
 }
 
+/// Sends a Hello, and hears that of the node. Its faults are those of `Connection::send` and of `hear`.
+fn greet<R: Read, W: Write, L: Ledger>(
+    connection: &mut Connection<R, W, L>,
+    session: &mut Session,
+    heard: &mut HeardDigests,
+) -> Result<(), Fault>
+    ensures goes_on { IfOk result (λ _. has_failed connection.new.last_write ≡ false) }
+{
+    connection.start()?;
+    connection.send(&session.hello())?;
+    let _ = hear(connection, session, heard)?;
+    Ok(())
+}
+
+/// Sends the next digest. Its faults are those of `Session::ask` and of `Connection::send`.
+fn send_digest<R: Read, W: Write, L: Ledger>(
+    connection: &mut Connection<R, W, L>,
+    session: &mut Session,
+    heard: &mut HeardDigests,
+) -> Result<(), Fault>
+    requires goes_on { has_failed connection.old.last_write ≡ false }
+    ensures goes_on { IfOk result (λ _. has_failed connection.new.last_write ≡ false) }
+{
+    let asked = session.ask(heard)?;
+    connection.send(&asked)
+}
+
+/// An exchange: the next digest, that of the node, and what answers it. Its faults are those of `send_digest`, of `hear_digest` and of
+/// `Connection::send`.
+fn exchange<R: Read, W: Write, L: Ledger>(
+    connection: &mut Connection<R, W, L>,
+    session: &mut Session,
+    heard: &mut HeardDigests,
+) -> Result<(), Fault>
+    requires goes_on { has_failed connection.old.last_write ≡ false }
+    ensures goes_on { IfOk result (λ _. has_failed connection.new.last_write ≡ false) }
+{
+    send_digest(connection, session, heard)?;
+    let delta = hear_digest(connection, session, heard)?;
+    connection.send(&Message::Delta(delta))
+}
+
+/// Sends a Bye. Its faults are those of `Connection::send`.
+fn send_bye<R: Read, W: Write, L: Ledger>(connection: &mut Connection<R, W, L>) -> Result<(), Fault>
+    requires goes_on { has_failed connection.old.last_write ≡ false }
+{
+    let bye = Bye::new(REASON_ROUNDS_DONE)?;
+    connection.send(&Message::Bye(bye))
+}
+
 /// A whole session: Hello, as many exchanges as it takes until all owners of the node came, and Bye. It asks nothing before the node's
 /// Hello came, since a node ends a session that it refuses. Its faults are those of `hear_digest` and of `Connection::send`; `TurnsSpent`
 /// if the node has more digests than there may be owners, or if the session needs more reads than the connection has.
@@ -152,16 +203,11 @@ fn hear_all<R: Read, W: Write, L: Ledger>(
     heard: &mut HeardDigests,
 ) -> Result<(), Fault> {
     let mut session = session;
-    connection.start()?;
-    connection.send(&session.hello())?;
-    let _ = hear(connection, &mut session, heard)?;
+    greet(connection, &mut session, heard)?;
     for _ in 0..OWNERS_MOST {
-        let asked = session.ask(heard)?;
-        connection.send(&asked)?;
-        let delta = hear_digest(connection, &mut session, heard)?;
-        connection.send(&Message::Delta(delta))?;
+        exchange(connection, &mut session, heard)?;
         if heard.is_whole {
-            return connection.send(&Message::Bye(Bye::new(REASON_ROUNDS_DONE)?));
+            return send_bye(connection);
         }
     }
     Err(Fault::TurnsSpent)
