@@ -190,6 +190,21 @@ fn question_in(message: &Message) -> Option<Ask> {
     }
 }
 
+/// Sends a message, and says whether there was room. It takes any message, since a place that drops one of many parts is slow to
+/// prove.
+pub(crate) fn is_sent<T: Drop, R: Wait>(rt: &R, way: &Sender<T>, message: T) -> bool {
+    way.try_send(rt, message).is_ok()
+}
+
+/// Why a message was not sent: `TurnsSpent` if too many wait, `NoMemory`, or `Closed` if nobody receives any more.
+fn unsent<T: Drop>(error: TrySendError<T>) -> Fault {
+    match error {
+        TrySendError::Full(_) => Fault::TurnsSpent,
+        TrySendError::OutOfMemory(_) => Fault::NoMemory,
+        TrySendError::Disconnected(_) => Fault::Closed,
+    }
+}
+
 impl OwnerSender {
     /// The way for what this message asks.
     fn way(&self, message: &Message) -> &Sender<Request> {
@@ -203,8 +218,7 @@ impl OwnerSender {
     /// Hands a request to the calling thread, and says whether there was room.
     fn give<R: Wait>(&self, rt: &R, request: ControlRequest, stream: UnixStream) -> bool {
         let way = self.way(request.message());
-        way.try_send(rt, Request::Control(request, stream)).is_ok()
-            && self.arrivals.try_send(rt, ()).is_ok()
+        is_sent(rt, way, Request::Control(request, stream)) && is_sent(rt, &self.arrivals, ())
     }
 }
 
@@ -219,14 +233,13 @@ impl WriteSender {
     ) -> Result<(), Fault> {
         match self.writes.try_send(rt, Request::Http(asked, to)) {
             Ok(()) => {}
-            Err(TrySendError::Full(_)) => return Err(Fault::TurnsSpent),
-            Err(TrySendError::OutOfMemory(_)) => return Err(Fault::NoMemory),
-            Err(TrySendError::Disconnected(_)) => return Err(Fault::Closed),
+            Err(error) => return Err(unsent(error)),
         }
-        if self.arrivals.try_send(rt, ()).is_err() {
-            return Err(Fault::Closed);
+        if is_sent(rt, &self.arrivals, ()) {
+            Ok(())
+        } else {
+            Err(Fault::Closed)
         }
-        Ok(())
     }
 }
 
@@ -238,7 +251,7 @@ impl Handover {
 
     /// Hands a job to the workers, and says whether there was room.
     fn give<R: Wait>(&mut self, rt: &R, job: Job) -> bool {
-        let is_given = self.to_workers.try_send(rt, job).is_ok();
+        let is_given = is_sent(rt, &self.to_workers, job);
         if is_given {
             self.handed = self.handed.saturating_add(1);
         }

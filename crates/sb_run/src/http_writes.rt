@@ -1,7 +1,7 @@
 //! How a thread that answers over HTTP hands a write to the calling thread, and waits for the answer.
 ghost use Rattle.sb_run.specs.HttpReads.{IsWriteReply};
 
-use crate::arrivals::WriteSender;
+use crate::arrivals::{WriteSender, is_sent};
 use crate::control::refused_by;
 use crate::threads::EndFlag;
 use crossbeam_channel::{Receiver, RecvTimeoutError, Sender, bounded};
@@ -38,7 +38,7 @@ impl AnswerSender {
         requires { IsWriteReply message }
     {
         let AnswerSender { to } = self;
-        let _ = to.try_send(rt, WriteAnswer { message });
+        let _ = is_sent(rt, &to, WriteAnswer { message });
     }
 }
 
