@@ -479,11 +479,11 @@ pub(crate) fn run_tagged<
         beat,
         writes,
     } = start;
+    let hearing = FirstHearing::new(alloc, paths.peers.len(), deadline_after(rt, pace.hearing))?;
     let (channels, write_sender) = Channels::<S>::new(alloc)?;
     let seated = seat_all::<S, R>(rt, alloc, directory, http_seats(paths.http))?;
     let (news, http) = (seated.news_seats(), seated.http_seats());
     let (dialing, turns, bell) = Dialing::new(alloc, paths.peers, &pace, news, observer)?;
-    let hearing = FirstHearing::new(alloc, paths.peers.len(), deadline_after(rt, pace.hearing))?;
     let setup = NodeSetup {
         alloc,
         paths,
