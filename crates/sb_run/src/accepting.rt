@@ -62,7 +62,6 @@ enum Left {
 }
 
 /// The connections that wait at both sockets, and the way to the threads that serve them.
-#[derive(Drop)]
 struct Backlog {
     peers: WaitingList,
     callers: WaitingList,
@@ -77,12 +76,37 @@ struct Backlog {
     counts_again: Option<Instant>,
 }
 
+// It is written out, so that a caller does not prove again how each part is dropped.
+impl Drop for Backlog {
+    fn drop(self) {
+        let Backlog {
+            peers: _peers,
+            callers: _callers,
+            handover: _handover,
+            since: _,
+            last_number: _,
+            faults: _,
+            counts_again: _,
+        } = self;
+    }
+}
+
 /// Accepts at both sockets.
-#[derive(Drop)]
 pub(crate) struct Acceptor {
     poll: Poll,
     events: Events,
     backlog: Backlog,
+}
+
+// It is written out, so that a caller does not prove again how each part is dropped.
+impl Drop for Acceptor {
+    fn drop(self) {
+        let Acceptor {
+            poll: _poll,
+            events: _events,
+            backlog: _backlog,
+        } = self;
+    }
 }
 
 impl Backlog {

@@ -118,7 +118,6 @@ pub(crate) struct Jobs {
 }
 
 /// The end of the calling thread.
-#[derive(Drop)]
 pub(crate) struct Requests {
     writes: Receiver<Request>,
     questions: Receiver<Request>,
@@ -128,6 +127,20 @@ pub(crate) struct Requests {
     takes_writes: bool,
     /// How many arrivals were of writes that had to wait.
     held: u64,
+}
+
+// It is written out, so that a caller does not prove again how each part is dropped.
+impl Drop for Requests {
+    fn drop(self) {
+        let Requests {
+            writes: _writes,
+            questions: _questions,
+            others: _others,
+            arrivals: _arrivals,
+            takes_writes: _,
+            held: _,
+        } = self;
+    }
 }
 
 /// The ways from the thread that accepts to the workers and to the calling thread, and that of writes over HTTP to the latter.

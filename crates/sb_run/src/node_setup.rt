@@ -109,7 +109,6 @@ impl<S: RoundsTag, H: Wait + Drop> SeatedNode<S, H> {
 }
 
 /// What a node notes while it runs.
-#[derive(Drop)]
 pub(crate) struct NodeRecords {
     ending: EndFlag,
     counts: Counts,
@@ -118,6 +117,21 @@ pub(crate) struct NodeRecords {
     watchers: WatcherCount,
     heard: HeardTimes,
     reported_versions: ReportedVersions,
+}
+
+// It is written out, so that a caller does not prove again how each part is dropped.
+impl Drop for NodeRecords {
+    fn drop(self) {
+        let NodeRecords {
+            ending: _ending,
+            counts: _counts,
+            asked: _asked,
+            vain_offers: _vain_offers,
+            watchers: _watchers,
+            heard: _heard,
+            reported_versions: _reported_versions,
+        } = self;
+    }
 }
 
 impl NodeRecords {
