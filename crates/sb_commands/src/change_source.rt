@@ -37,7 +37,6 @@ struct Told {
 }
 
 /// The source from which a watch learns that something may have changed.
-#[derive(Drop)]
 pub(crate) struct ChangeSource<'r, 'a> {
     rt: &'r HostRuntime,
     control: &'a str,
@@ -47,6 +46,21 @@ pub(crate) struct ChangeSource<'r, 'a> {
     told: Option<Told>,
     /// For how many more pauses the node is not asked to tell.
     pauses_left: u64,
+}
+
+// It is written out, so that a caller does not prove again how each part is dropped.
+impl Drop for ChangeSource<'_, '_> {
+    fn drop(self) {
+        let ChangeSource {
+            rt: _,
+            control: _,
+            asked: _,
+            pace: _,
+            pauses: _pauses,
+            told: _told,
+            pauses_left: _,
+        } = self;
+    }
 }
 
 impl<'r, 'a> ChangeSource<'r, 'a> {

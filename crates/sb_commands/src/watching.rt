@@ -112,7 +112,6 @@ pub fn watch<'a>(
 
 /// The rows that were printed, and what the node has shown since its last start. If the watch is careful, they count as
 /// printed once it has them.
-#[derive(Drop)]
 struct PrintedRows<'a> {
     rows: Vec<Row>,
     /// What decides which of them are shown, if the watch is careful.
@@ -129,6 +128,23 @@ struct PrintedRows<'a> {
     is_away: bool,
     /// How many askings were answered.
     count: u64,
+}
+
+// It is written out, so that a caller does not prove again how each part is dropped.
+impl Drop for PrintedRows<'_> {
+    fn drop(self) {
+        let PrintedRows {
+            rows: _rows,
+            careful: _careful,
+            caught_up: _,
+            is_waiting: _,
+            stamp: _,
+            reaches: _reaches,
+            lag: _,
+            is_away: _,
+            count: _,
+        } = self;
+    }
 }
 
 impl<'a> PrintedRows<'a> {
