@@ -243,7 +243,7 @@ fn restore_beside<'a>(
     Err(placed)
 }
 
-/// Makes a log at a path in a folder, where nothing is or an empty log. Returns its last version. `NoMemory`; the faults of
+/// Makes a log in a folder, at a path that has no file or an empty log. Returns its last version. `NoMemory`; the faults of
 /// `restore_beside`.
 fn restore_in<'a>(
     rt: &HostRuntime,
@@ -255,8 +255,8 @@ fn restore_in<'a>(
     restore_beside(rt, folder, beside.as_str(), path, lost)
 }
 
-/// Makes a log at a path in a folder, where this database is. Its log stays open meanwhile, so that no node starts with it. Returns the
-/// last version. The faults of `log_in`, of `test_empty` and of `restore_in`.
+/// Makes a log in a folder, in place of the empty one in this database. That one stays open meanwhile, so that no node starts with it.
+/// Returns the last version of the new one. The faults of `log_in`, of `test_empty` and of `restore_in`.
 fn restore_over<'a, S: Alter + Drop>(
     rt: &HostRuntime,
     folder: &fs::File,
@@ -272,7 +272,7 @@ fn restore_over<'a, S: Alter + Drop>(
     }
 }
 
-/// Makes a log at a path in a folder, where no file is. Returns its last version. The faults of `test_wal` and of `restore_in`.
+/// Makes a log in a folder, at a path that has no file. Returns its last version. The faults of `test_wal` and of `restore_in`.
 fn restore_anew<'a>(
     rt: &HostRuntime,
     folder: &fs::File,

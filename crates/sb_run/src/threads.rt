@@ -500,7 +500,6 @@ fn threads_end<S: RoundsTag>(
 
 /// The seats of a node's threads. Each worker and each thread that dials for news has one, and so have the thread that dials in
 /// turn and the calling thread.
-#[derive(Drop)]
 pub(crate) struct ThreadSeats<S: DirectoryTag> {
     pub(crate) workers: Vec<ReaderSeat<S>>,
     /// With room for all seats of the node.
@@ -509,6 +508,19 @@ pub(crate) struct ThreadSeats<S: DirectoryTag> {
     pub(crate) http: Vec<ReaderSeat<S>>,
     pub(crate) dialing: ReaderSeat<S>,
     pub(crate) control: ReaderSeat<S>,
+}
+
+// It is written out, so that a caller does not prove again how each part is dropped.
+impl<S: DirectoryTag> Drop for ThreadSeats<S> {
+    fn drop(self) {
+        let ThreadSeats {
+            workers: _workers,
+            news: _news,
+            http: _http,
+            dialing: _dialing,
+            control: _control,
+        } = self;
+    }
 }
 
 /// Gives so many workers, the thread that dials in turn and the calling thread a seat each. Of the others at most so many are for
