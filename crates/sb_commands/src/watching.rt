@@ -84,6 +84,18 @@ fn print_difference(
     Ok(())
 }
 
+/// Prints what changed from the rows of the last listing to those of the next. After it comes the line `asked`, if
+/// `prints_asked` is true. `NoMemory`; `WriteFailed`.
+fn print_next(
+    rt: &HostRuntime,
+    last: &[Row],
+    next: &[Row],
+    prints_asked: bool,
+) -> Result<(), Fault> {
+    let told = changes(rt.alloc(), last, next)?;
+    print_difference(rt, &told, prints_asked)
+}
+
 /// Asks a node for rows each time that something may have changed, and prints what changed since the last asking. The first
 /// time it prints each row. The first fault of an asking ends it, also a later one, and it prints nothing of a listing whose pages did not
 /// all come. `WriteFailed`, also if standard output was closed since it asked.
@@ -104,7 +116,7 @@ pub fn watch<'a>(
         }
         source.begin();
         let rows = listing(rt, control, &query.asked)?;
-        print_difference(rt, &changes(rt.alloc(), &last, &rows)?, query.prints_asked)?;
+        print_next(rt, &last, &rows, query.prints_asked)?;
         last = rows;
     }
     Ok(())
@@ -270,6 +282,23 @@ impl<'a> PrintedRows<'a> {
         Ok(Some(listing(rt, control, asked)?))
     }
 
+    /// Takes a listing that came from this socket, shows it, and reports it if the node lags. `NoMemory`; `WriteFailed`.
+    fn take_and_show(
+        &mut self,
+        rt: &HostRuntime,
+        control: &str,
+        stamp: Option<SocketStamp>,
+        found: &[Row],
+        query: &WatchQuery,
+    ) -> Result<(), Fault> {
+        self.tell(rt, control, false);
+        self.take(rt, stamp, found, query.prints_asked)?;
+        self.show(rt, control, query.prints_asked)?;
+        let differing = differing_owners(rt.alloc(), &self.rows, found, &self.reaches)?;
+        self.lag.report(rt, control, differing);
+        Ok(())
+    }
+
     /// Asks once. If the node was started again in the meantime, it takes none of the rows. A fault of asking that may pass is reported,
     /// and ends nothing. The others are those of `found_rows`, then `NoMemory` and `WriteFailed`.
     fn ask<'b>(
@@ -283,16 +312,7 @@ impl<'a> PrintedRows<'a> {
             Ok(None) => Ok(()),
             Ok(Some(found)) => {
                 if stamp == stamp_of(rt, control) {
-                    self.tell(rt, control, false);
-                    self.take(rt, stamp, &found, query.prints_asked)?;
-                    self.show(rt, control, query.prints_asked)?;
-                    let differing = differing_owners(
-                        rt.alloc(),
-                        &self.rows,
-                        &found,
-                        &self.reaches,
-                    )?;
-                    self.lag.report(rt, control, differing);
+                    self.take_and_show(rt, control, stamp, &found, query)?;
                 }
                 Ok(())
             }
