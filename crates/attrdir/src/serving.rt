@@ -388,6 +388,55 @@ fn place_of_seats(workers: u64, has_http: bool) -> FaultPlace<'static> {
     SEATS.place()
 }
 
+/// The settings of a node. `BadSetting`, also for too few seats.
+fn checked_settings<'a>(
+    rt: &HostRuntime,
+    given: &ServeArguments<'a>,
+) -> Result<Settings, Failure<'a>> {
+    let settings = match Settings::check(given.settings) {
+        Ok(settings) => settings,
+        Err(fault) => return Err(Failure::at(place_of(rt, &fault, given), fault)),
+    };
+    if settings.seats() < settings.workers() + 2 + u64::from(given.http.is_some()) {
+        let place = place_of_seats(settings.workers(), given.http.is_some());
+        return Err(Failure::at(place, Fault::BadSetting));
+    }
+    Ok(settings)
+}
+
+/// Tests the paths beside that of the log. `ReadFailed` if the path of a peer cannot be that of a socket; `WriteFailed` if metrics
+/// would replace something else.
+fn test_paths<'a>(rt: &HostRuntime, given: &ServeArguments<'a>) -> Result<(), Failure<'a>> {
+    if let Some(path) = unreachable_peer(given) {
+        return Err(Failure::at(FaultPlace::Peer(path), Fault::ReadFailed));
+    }
+    if let Some(place) = taken_for_metrics(rt, given) {
+        return Err(Failure::at(place, Fault::WriteFailed(0)));
+    }
+    Ok(())
+}
+
+/// What was checked of the command line of a node of this name. The faults are those of `serve` before it opens the log, in their
+/// order, but `BadName`.
+fn checked_of<'a>(
+    rt: &HostRuntime,
+    given: &ServeArguments<'a>,
+    name: &Name,
+) -> Result<Checked, Failure<'a>> {
+    let settings = checked_settings(rt, given)?;
+    if let Some(address) = other_address(given) {
+        return Err(Failure::at(FaultPlace::OtherAddress(address), Fault::BadSetting));
+    }
+    let forgotten = forgotten_of(rt.alloc(), given, name)?;
+    let beat = beat_of(given)?;
+    test_paths(rt, given)?;
+    Ok(Checked {
+        settings,
+        forgotten,
+        beat,
+    })
+}
+
 /// Runs a node. The faults before it opens the log, in this order:
 ///
 /// - `BadName` of its name.
@@ -405,30 +454,7 @@ pub(crate) fn serve<'a, R: Runtime + Net<Listener = TcpListener, Stream = TcpStr
     given: &ServeArguments<'a>,
 ) -> Result<(), Failure<'a>> {
     let name = name_of("--name", given.name)?;
-    let settings = match Settings::check(given.settings) {
-        Ok(settings) => settings,
-        Err(fault) => return Err(Failure::at(place_of(rt, &fault, given), fault)),
-    };
-    if settings.seats() < settings.workers() + 2 + u64::from(given.http.is_some()) {
-        let place = place_of_seats(settings.workers(), given.http.is_some());
-        return Err(Failure::at(place, Fault::BadSetting));
-    }
-    if let Some(address) = other_address(given) {
-        return Err(Failure::at(FaultPlace::OtherAddress(address), Fault::BadSetting));
-    }
-    let forgotten = forgotten_of(rt.alloc(), given, &name)?;
-    let beat = beat_of(given)?;
-    if let Some(path) = unreachable_peer(given) {
-        return Err(Failure::at(FaultPlace::Peer(path), Fault::ReadFailed));
-    }
-    if let Some(place) = taken_for_metrics(rt, given) {
-        return Err(Failure::at(place, Fault::WriteFailed(0)));
-    }
+    let checked = checked_of(rt, given, &name)?;
     let conn = open_database(rt, given.log)?;
-    let checked = Checked {
-        settings,
-        forgotten,
-        beat,
-    };
     run_in(rt, runtime, given, checked, name, conn)
 }
