@@ -415,17 +415,21 @@ pub fn all_listed(rt: &impl Abort, alloc: Global, writes: &[Listed]) -> Vec<Entr
     entries
 }
 
-fn listing(alloc: Global, shown: &Table) -> Result<Vec<Listed>, AllocError> {
+fn listed_of(entry: &Entry) -> Listed {
+    let letter = entry.key().bytes().first().copied().unwrap_or(0);
+    let number = match entry.slot() {
+        Slot::Set(value) => value.as_weight(),
+        Slot::Removed => None,
+    };
+    (letter, entry.version(), number)
+}
+
+fn listing(rt: &impl Abort, alloc: Global, shown: &Table) -> Vec<Listed> {
     let mut writes = Vec::new(alloc);
     for entry in shown.after(0) {
-        let letter = entry.key().bytes().first().copied().unwrap_or(0);
-        let number = match entry.slot() {
-            Slot::Set(value) => value.as_weight(),
-            Slot::Removed => None,
-        };
-        writes.push((letter, entry.version(), number))?;
+        push(rt, &mut writes, listed_of(entry));
     }
-    Ok(writes)
+    writes
 }
 
 /// Returns how many entries the table has by key.
@@ -449,7 +453,7 @@ fn assert_holds(
     let counts = (shown.len(), count_by_key(rt, shown));
     let wanted = (upto, floor, (writes.len(), writes.len()));
     same(rt, &(shown.upto(), shown.floor(), counts), &wanted);
-    let found = got(rt, listing(alloc, shown));
+    let found = listing(rt, alloc, shown);
     same_at(rt, &(upto, floor), &found.as_slice(), &writes);
 }
 
