@@ -722,19 +722,31 @@ impl<S: RoundsTag> Rounds<S> {
 }
 
 /// The end of the dialing thread.
-#[derive(Drop)]
 pub(crate) struct RoundsSender<S: RoundsTag> {
     to: RuledSender<Rounds<S>, (), Free>,
     pass: Pass<Rounds<S>, ()>,
     ghost fits: { IsSeatAt (sends_on to) pass },
 }
 
+// It is written out, so that a caller does not prove again how each part is dropped.
+impl<S: RoundsTag> Drop for RoundsSender<S> {
+    fn drop(self) {
+        let RoundsSender { to: _, pass: _ } = self;
+    }
+}
+
 /// The end of the calling thread.
-#[derive(Drop)]
 pub(crate) struct RoundsReceiver<S: RoundsTag> {
     from: RuledReceiver<Rounds<S>, (), Free>,
     pass: Pass<Rounds<S>, ()>,
     ghost fits: { IsSeatAt (receives_on from) pass },
+}
+
+// The same.
+impl<S: RoundsTag> Drop for RoundsReceiver<S> {
+    fn drop(self) {
+        let RoundsReceiver { from: _, pass: _ } = self;
+    }
 }
 
 /// Neither end knows anything.
