@@ -54,9 +54,16 @@ enum Content {
 /// ```
 ///
 /// The test `example_of_values` runs these lines.
-#[derive(Debug, Drop)]
+#[derive(Debug)]
 pub struct Value {
     content: Content,
+}
+
+// It is written out, so that a caller does not prove again how each part is dropped.
+impl Drop for Value {
+    fn drop(self) {
+        let Value { content: _content } = self;
+    }
 }
 
 impl Model for Value {
