@@ -34,7 +34,6 @@ use std::sync::ledger::{Book, Share};
 ///     }
 /// }
 /// ```
-#[derive(Drop)]
 pub struct ReaderSeat<S: NodeTag> {
     reader: Reader<S>,
     /// Less than its reader has seen, if that also entered a view from before what the seat knows.
@@ -42,6 +41,19 @@ pub struct ReaderSeat<S: NodeTag> {
     knowledge: HistoryPrefix<S>,
     last_call: HistoryPrefix<S>,
     share: Share<S>,
+}
+
+// It is written out, so that a caller does not prove again how each part is dropped.
+impl<S: NodeTag> Drop for ReaderSeat<S> {
+    fn drop(self) {
+        let ReaderSeat {
+            reader: _reader,
+            seen: _seen,
+            knowledge: _knowledge,
+            last_call: _last_call,
+            share: _share,
+        } = self;
+    }
 }
 
 impl<S: NodeTag> Model for ReaderSeat<S> {
@@ -57,12 +69,23 @@ impl<S: NodeTag> Model for ReaderSeat<S> {
 }
 
 /// A seat that has entered: it reads a snapshot, and makes no call until it leaves. Contracts see it as they see the seat.
-#[derive(Drop)]
 pub struct EnteredSeat<S: NodeTag> {
     entered: Entered<S>,
     knowledge: HistoryPrefix<S>,
     last_call: HistoryPrefix<S>,
     share: Share<S>,
+}
+
+// It is written out, so that a caller does not prove again how each part is dropped.
+impl<S: NodeTag> Drop for EnteredSeat<S> {
+    fn drop(self) {
+        let EnteredSeat {
+            entered: _entered,
+            knowledge: _knowledge,
+            last_call: _last_call,
+            share: _share,
+        } = self;
+    }
 }
 
 impl<S: NodeTag> Model for EnteredSeat<S> {
