@@ -404,7 +404,12 @@ impl fmt::Display for FaultPlace<'_> {
                 write!(f, "value '{} {}': ", QuotedWord(*kind), QuotedWord(*word))
             }
             FaultPlace::Number(name, _) => write!(f, "--{name}: "),
-            FaultPlace::Sockets(sock, control) => write!(f, "sockets {sock} and {control}: "),
+            FaultPlace::Sockets(sock, control) => write!(
+                f,
+                "sockets {} and {}: ",
+                QuotedWord(*sock),
+                QuotedWord(*control)
+            ),
             FaultPlace::MetricsNowhere => f.write_str("metrics : "),
             _ => Ok(()),
         }
