@@ -20,7 +20,7 @@ FIELDS = [("connection", "close"), ("cache-control", "no-store"), ("x-content-ty
 
 PARAMETERS = "the parameters are owner, prefix, after, wait and seen, or owner and key, or key for a write, each once"
 WAIT = "wait is 0s to 60s, as in wait=30s; seen is a mark of an answer, and goes with wait"
-VALUE = "a value is addr with 1 to 128 printing bytes, weight below 2^63, flag true or false, or text of 1 to 512 UTF-8 bytes"
+VALUE = "a value is addr with 1 to 128 printing bytes, weight a whole number from 0 to 2^63 - 1 without quotes, flag true or false, or text of 1 to 512 UTF-8 bytes"
 SPENT = "as many polls or writes wait at this node as may; a write was not made; ask again in a second, or give polls a shorter wait"
 
 

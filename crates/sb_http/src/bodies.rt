@@ -229,7 +229,7 @@ fn fault_object(alloc: Global, text: &str, number: u8) -> Result<Value, AllocErr
 fn fault_text(alloc: Global, fault: Fault) -> Result<String, AllocError> {
     let text = match fault {
         Fault::BadValue => {
-            "a value is addr with 1 to 128 printing bytes, weight below 2^63, flag true or false, or text of 1 to 512 UTF-8 bytes"
+            "a value is addr with 1 to 128 printing bytes, weight a whole number from 0 to 2^63 - 1 without quotes, flag true or false, or text of 1 to 512 UTF-8 bytes"
         }
         Fault::WatchesFull => {
             "64 callers wait for changes at this node; ask again after one of them, or without wait"

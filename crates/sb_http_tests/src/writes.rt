@@ -93,7 +93,7 @@ fn a_body_that_is_no_value_is_refused(rt: HostRuntime) {
         case(&rt, alloc, "PUT /v1/keys/k", sent, "400", form);
     }
     let value =
-        "{\"error\":\"a value is addr with 1 to 128 printing bytes, weight below 2^63, flag true or false, or text of 1 to 512 UTF-8 bytes\",\"fault\":4}\n";
+        "{\"error\":\"a value is addr with 1 to 128 printing bytes, weight a whole number from 0 to 2^63 - 1 without quotes, flag true or false, or text of 1 to 512 UTF-8 bytes\",\"fault\":4}\n";
     for sent in [
         "{\"kind\":\"x\",\"value\":5}",
         "{\"kind\":5,\"value\":5}",
