@@ -225,11 +225,20 @@ fn fault_object(alloc: Global, text: &str, number: u8) -> Result<Value, AllocErr
     json!(in alloc; {"error": text, "fault": number})
 }
 
-/// The text of a fault, as a response has it: what to write in JSON, and when to ask again.
+/// The text of a fault, as a response has it: what to write in JSON, where to look, and when to ask again.
 fn fault_text(alloc: Global, fault: Fault) -> Result<String, AllocError> {
     let text = match fault {
         Fault::BadValue => {
             "a value is addr with 1 to 128 printing bytes, weight a whole number from 0 to 2^63 - 1 without quotes, flag true or false, or text of 1 to 512 UTF-8 bytes"
+        }
+        Fault::Closed => {
+            "the log of this node takes no writes, or the node ends: its standard error says why"
+        }
+        Fault::StoreFailed => {
+            "the node could not write its log, and takes no more writes: its standard error says why; this write may have been made"
+        }
+        Fault::OwnerConflict(_) => {
+            "another node writes under this node's name; give each node a name of its own"
         }
         Fault::WatchesFull => {
             "64 callers wait for changes at this node; ask again after one of them, or without wait"

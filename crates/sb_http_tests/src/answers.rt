@@ -86,7 +86,8 @@ fn polls_have_a_mark(rt: HostRuntime) {
 
 #[test]
 fn faults_of_a_node_are_named(rt: HostRuntime) {
-    let closed = "{\"error\":\"this is closed; open it again\",\"fault\":15}\n";
+    let closed =
+        "{\"error\":\"the log of this node takes no writes, or the node ends: its standard error says why\",\"fault\":15}\n";
     case(&rt, rt.alloc(), "/v1/rows?owner=shut", "503", closed);
     let unknown =
         "{\"error\":\"a message of kind 0 is not known, or has no place here\",\"fault\":13}\n";

@@ -138,7 +138,7 @@ fn a_fault_of_a_write_has_its_status(rt: HostRuntime) {
         spent,
     );
     let conflict =
-        "{\"error\":\"another node writes under this name: its version 0 was seen; give each node a name of its own\",\"fault\":21}\n";
+        "{\"error\":\"another node writes under this node's name; give each node a name of its own\",\"fault\":21}\n";
     case(
         &rt,
         alloc,
@@ -147,7 +147,8 @@ fn a_fault_of_a_write_has_its_status(rt: HostRuntime) {
         "409",
         conflict,
     );
-    let closed = "{\"error\":\"this is closed; open it again\",\"fault\":15}\n";
+    let closed =
+        "{\"error\":\"the log of this node takes no writes, or the node ends: its standard error says why\",\"fault\":15}\n";
     case(
         &rt,
         alloc,
@@ -155,6 +156,21 @@ fn a_fault_of_a_write_has_its_status(rt: HostRuntime) {
         "{\"kind\":\"text\",\"value\":\"fault 15\"}",
         "503",
         closed,
+    );
+}
+
+#[test]
+fn a_write_that_may_have_been_made_is_named(rt: HostRuntime) {
+    let alloc = rt.alloc();
+    let failed =
+        "{\"error\":\"the node could not write its log, and takes no more writes: its standard error says why; this write may have been made\",\"fault\":18}\n";
+    case(
+        &rt,
+        alloc,
+        "PUT /v1/keys/k",
+        "{\"kind\":\"text\",\"value\":\"fault 18\"}",
+        "503",
+        failed,
     );
 }
 
