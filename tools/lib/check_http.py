@@ -205,7 +205,7 @@ def http_writes(check):
         refused(at_port, "/v1/keys/k", 403, "writes are taken at a Unix socket only", None, *words)
     for method in ("GET", "POST"):
         status, fields, body = place.curl("/v1/keys/k", "-X", method)
-        want(f"{method} of a key", (status, dict(fields)["allow"], json.loads(body)), (405, "put, delete", {"error": "this path is only written"}))
+        want(f"{method} of a key", (status, dict(fields)["allow"], json.loads(body)), (405, "put, delete", {"error": "write by PUT, remove by DELETE; a row is read at /v1/rows/OWNER/KEY"}))
     form = 'the body is JSON of this form: {"kind":"weight","value":5}'
     for body in ("", "5", "{}", '{"kind":"weight"}', '{"kind":"weight","value":5,"x":1}', '{"kind":"weight","value":5', "\x01", 200 * "[", 900 * '{"value":'):
         refused(place, "/v1/keys/k", 400, form, None, "-X", "PUT", "-d", body)

@@ -156,7 +156,7 @@ Refuses NotFound response = Has (fields_for json_kind) (is_error 404 (codes "the
 Refuses NotAllowed response =
     Has (fields_for json_kind ++ (codes "allow", codes "GET, HEAD") ∷ []) (is_error 405 (codes "this path is only read")) response
 Refuses OnlyWritten response =
-    Has (fields_for json_kind ++ (codes "allow", codes "PUT, DELETE") ∷ []) (is_error 405 (codes "this path is only written")) response
+    Has (fields_for json_kind ++ (codes "allow", codes "PUT, DELETE") ∷ []) (is_error 405 (codes "write by PUT, remove by DELETE; a row is read at /v1/rows/OWNER/KEY")) response
 Refuses NotByPort response = Has (fields_for json_kind) (is_error 403 (codes "writes are taken at a Unix socket only")) response
 Refuses (Bad fault) response = (content : Content) × IsFault 400 fault content × Has (fields_for json_kind) content response
 Refuses BadParameters response =

@@ -102,7 +102,10 @@ fn refuse_reading(alloc: Global, response: &mut Response) -> Result<(), AllocErr
 {
     add_fields(response, json_type())?;
     response.add_header(header::ALLOW, HeaderValue::from_static("PUT, DELETE"))?;
-    let body = error_line(alloc, "this path is only written")?;
+    let body = error_line(
+        alloc,
+        "write by PUT, remove by DELETE; a row is read at /v1/rows/OWNER/KEY",
+    )?;
     fill(response, StatusCode::METHOD_NOT_ALLOWED, body)
 }
 

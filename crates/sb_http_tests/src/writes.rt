@@ -192,7 +192,8 @@ fn a_write_has_a_key_and_a_method(rt: HostRuntime) {
         "400",
         parameters,
     );
-    let method = "{\"error\":\"this path is only written\"}\n";
+    let method =
+        "{\"error\":\"write by PUT, remove by DELETE; a row is read at /v1/rows/OWNER/KEY\"}\n";
     case(&rt, alloc, "GET /v1/keys/k", "", "405", method);
     case(&rt, alloc, "POST /v1/keys", "", "405", method);
 }
