@@ -21,6 +21,7 @@ FIELDS = [("connection", "close"), ("cache-control", "no-store"), ("x-content-ty
 PARAMETERS = "the parameters are owner, prefix, after, wait and seen, or owner and key, or key for a write, each once"
 WAIT = "wait is 0s to 60s, as in wait=30s; seen is a mark of an answer, and goes with wait"
 VALUE = "a value is addr with 1 to 128 printing bytes, weight a whole number from 0 to 2^63 - 1 without quotes, flag true or false, or text of 1 to 512 UTF-8 bytes"
+KIND = "the kind is addr, weight, flag or text"
 SPENT = "as many polls or writes wait at this node as may; a write was not made; ask again in a second, or give polls a shorter wait"
 
 
@@ -209,9 +210,11 @@ def http_writes(check):
     form = 'the body is JSON of this form: {"kind":"weight","value":5}'
     for body in ("", "5", "{}", '{"kind":"weight"}', '{"kind":"weight","value":5,"x":1}', '{"kind":"weight","value":5', "\x01", 200 * "[", 900 * '{"value":'):
         refused(place, "/v1/keys/k", 400, form, None, "-X", "PUT", "-d", body)
-    for kind, word in (("x", 5), (5, 5), ("weight", "5"), ("weight", -1), ("weight", 2**63), ("weight", 1.5), ("flag", "true"), ("addr", "a b"), ("text", ""), ("text", 513 * "x"), ("text", None)):
+    for kind, word in (("weight", "5"), ("weight", -1), ("weight", 2**63), ("weight", 1.5), ("flag", "true"), ("addr", "a b"), ("text", ""), ("text", 513 * "x"), ("text", None)):
         status, found = put(place, "k", kind, word)
         want(f"the value {word!r} of {kind}", (status, found), (400, {"error": VALUE, "fault": 4}))
+    for kind in ("x", "adr", "Weight", "", 5):
+        want(f"the kind {kind!r}", put(place, "k", kind, 5), (400, {"error": KIND, "fault": 4}))
     want("the longest text", put(place, "k", "text", 512 * "x"), (200, {"version": 8}))
     head = b"PUT /v1/keys/k HTTP/1.1\r\nHost: x\r\n"
     want("a longer body", place.bytes(head + b"Content-Length: 8193\r\n\r\n" + 8193 * b" ")[0], 413)

@@ -5,7 +5,7 @@ use Rattle.http1.specs.Fields.{Header}
 use Rattle.http_server.specs.declared.response.Response.{Response}
 use Rattle.http_server.specs.Response.{IsResponse, fields_of}
 use Rattle.sb_types.specs.declared.fault.Fault.{Fault}
-use Rattle.sb_types.specs.declared.fault.Fault.TheVariants.{UnknownKind, TableFull, VersionsSpent, NothingThere, OwnerConflict}
+use Rattle.sb_types.specs.declared.fault.Fault.TheVariants.{BadValue, UnknownKind, TableFull, VersionsSpent, NothingThere, OwnerConflict}
 use Rattle.sb_types.specs.Faults.{number_of}
 use Rattle.sb_codec.specs.declared.message.Message.{Message}
 use Rattle.sb_codec.specs.declared.message.Message.TheVariants as kinds
@@ -21,7 +21,7 @@ use Rattle.sb_http.specs.declared.operation.Operation.{Operation}
 use Rattle.sb_http.specs.declared.operation.Operation.TheVariants.{Health, Metrics, Owners, Page, Rows, Row, Poll, Put}
 use Rattle.sb_http.specs.declared.operation.Door.{Door}
 use Rattle.sb_http.specs.declared.operation.Refusal.{Refusal}
-use Rattle.sb_http.specs.declared.operation.Refusal.TheVariants.{OtherHost, NotFound, NotAllowed, OnlyWritten, NotByPort, Bad, BadParameters, BadWait, BadBody, NoMemory}
+use Rattle.sb_http.specs.declared.operation.Refusal.TheVariants.{OtherHost, NotFound, NotAllowed, OnlyWritten, NotByPort, Bad, BadParameters, BadWait, BadBody, BadKind, NoMemory}
 use Rattle.sb_http.specs.declared.contents.Content as rust
 use Rattle.sb_http.specs.declared.page.TheConstants.{PAGE, POLICY}
 use Rattle.sb_http.specs.Acts.{Act, asks, puts, polls, lists, measures, fails}
@@ -48,6 +48,10 @@ fields_for kind =
 
 abbrev pub is_error : ℕ → List ℕ → Content
 is_error status text = (status, line_of (error_data text))
+
+-- the number of a fault, with this text
+abbrev pub is_fault : ℕ → Fault → List ℕ → Content
+is_fault status fault text = (status, line_of (fault_data text (number_of fault)))
 
 -- the number of a fault, with a text
 abbrev pub IsFault : ℕ → Fault → Content → Type 0
@@ -165,6 +169,7 @@ Refuses BadWait response =
     Has (fields_for json_kind) (is_error 400 (codes "wait is 0s to 60s, as in wait=30s; seen is a mark of an answer, and goes with wait")) response
 Refuses BadBody response =
     Has (fields_for json_kind) (is_error 400 (codes "the body is JSON of this form: {\"kind\":\"weight\",\"value\":5}")) response
+Refuses BadKind response = Has (fields_for json_kind) (is_fault 400 BadValue (codes "the kind is addr, weight, flag or text")) response
 Refuses NoMemory response = ⊥
 
 -- the response has the page for browsers, with its policy

@@ -225,6 +225,18 @@ fn fault_object(alloc: Global, text: &str, number: u8) -> Result<Value, AllocErr
     json!(in alloc; {"error": text, "fault": number})
 }
 
+/// The line of a fault with this text, and its number.
+pub(crate) fn named_fault_line(
+    alloc: Global,
+    fault: Fault,
+    text: &str,
+) -> Result<Vec<u8>, AllocError>
+    ensures { IfOk result (λ line. line.items ≡ line_of (spec.fault_data text.now (number_of fault))) }
+{
+    let object = fault_object(alloc, text, fault.number())?;
+    line_of_value(alloc, &object)
+}
+
 /// The text of a fault, as a response has it: what to write in JSON, where to look, and when to ask again.
 fn fault_text(alloc: Global, fault: Fault) -> Result<String, AllocError> {
     let text = match fault {

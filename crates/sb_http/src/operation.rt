@@ -73,6 +73,8 @@ pub enum Refusal {
     BadWait,
     /// The body of a PUT is not JSON, or not an object with a kind and a value.
     BadBody,
+    /// The kind in the body of a PUT is none.
+    BadKind,
     /// There was no memory to read the request.
     NoMemory,
 }
@@ -272,7 +274,7 @@ fn query_of(request: &Request<Bytes>) -> &str
 ///   key.
 /// - `NotByPort` if it would write, and came in at a port.
 /// - `Bad`, `BadParameters` and `BadWait` for the first part of the query, or of the path, that is not what it should be.
-/// - `BadBody`, and `Bad` with `BadValue`, for the body of a `PUT`.
+/// - `BadBody`, then `BadKind`, then `Bad` with `BadValue`, for the body of a `PUT`.
 ///
 /// `NoMemory` may come instead.
 pub fn asked_by(alloc: Global, door: Door, request: &Request<Bytes>) -> Result<Operation, Refusal>

@@ -1,10 +1,10 @@
 //! The service of a node.
 ghost use Rattle.std.specs.Prelude.{◌≡◌, ◌≢◌, ◌++◌, ◌∷◌, [], OnOk};
 ghost use Rattle.http_server.specs.Response.{IsBlank, IsResponse, fields_of};
-ghost use Rattle.sb_http.specs.Answers.{AnswersAsked, AnswersRequest, Refuses, Has, HasPage, FillsOrShortens, is_error, fields_for, json_kind, kind_of};
+ghost use Rattle.sb_http.specs.Answers.{AnswersAsked, AnswersRequest, Refuses, Has, HasPage, FillsOrShortens, is_error, is_fault, fields_for, json_kind, kind_of};
 
 use crate::backend::Backend;
-use crate::bodies::{error_line, fault_line};
+use crate::bodies::{error_line, fault_line, named_fault_line};
 use crate::contents::{Content, answer};
 use crate::operation::{Door, Operation, Refusal, asked_by};
 use crate::page::{PAGE, POLICY};
@@ -84,6 +84,30 @@ fn refuse_by(alloc: Global, response: &mut Response, fault: Fault) -> Result<(),
     fill(response, StatusCode::BAD_REQUEST, fault_line(alloc, fault)?)
 }
 
+/// Refuses a request with a fault and this text.
+fn refuse_named(
+    alloc: Global,
+    response: &mut Response,
+    fault: Fault,
+    text: &str,
+) -> Result<(), AllocError>
+    requires { IsBlank response.old }
+    ensures { OnOk result (Has (fields_for json_kind) (is_fault 400 fault text.now) response.new) }
+{
+    add_fields(response, json_type())?;
+    let body = named_fault_line(alloc, fault, text)?;
+    fill(response, StatusCode::BAD_REQUEST, body)
+}
+
+/// Refuses a kind, and names those that there are.
+fn refuse_kind(alloc: Global, response: &mut Response) -> Result<(), AllocError>
+    requires { IsBlank response.old }
+    ensures { OnOk result (Refuses Refusal.BadKind response.new) }
+{
+    let text = "the kind is addr, weight, flag or text";
+    refuse_named(alloc, response, Fault::BadValue, text)
+}
+
 /// Refuses a method, and names those that a path has that is only read.
 fn refuse_method(alloc: Global, response: &mut Response) -> Result<(), AllocError>
     requires { IsBlank response.old }
@@ -144,6 +168,7 @@ fn refuse(alloc: Global, response: &mut Response, why: &Refusal) -> Result<(), A
             let text = "the body is JSON of this form: {\"kind\":\"weight\",\"value\":5}";
             refuse_with(alloc, response, StatusCode::BAD_REQUEST, text)
         }
+        Refusal::BadKind => refuse_kind(alloc, response),
         Refusal::NoMemory => Err(AllocError),
     }
 }

@@ -95,8 +95,6 @@ fn a_body_that_is_no_value_is_refused(rt: HostRuntime) {
     let value =
         "{\"error\":\"a value is addr with 1 to 128 printing bytes, weight a whole number from 0 to 2^63 - 1 without quotes, flag true or false, or text of 1 to 512 UTF-8 bytes\",\"fault\":4}\n";
     for sent in [
-        "{\"kind\":\"x\",\"value\":5}",
-        "{\"kind\":5,\"value\":5}",
         "{\"kind\":\"weight\",\"value\":\"5\"}",
         "{\"kind\":\"weight\",\"value\":-1}",
         "{\"kind\":\"weight\",\"value\":5.5}",
@@ -108,6 +106,19 @@ fn a_body_that_is_no_value_is_refused(rt: HostRuntime) {
         "{\"kind\":\"text\",\"value\":null}",
     ] {
         case(&rt, alloc, "PUT /v1/keys/k", sent, "400", value);
+    }
+}
+
+#[test]
+fn a_kind_that_is_none_is_refused(rt: HostRuntime) {
+    let alloc = rt.alloc();
+    let kind = "{\"error\":\"the kind is addr, weight, flag or text\",\"fault\":4}\n";
+    for sent in [
+        "{\"kind\":\"x\",\"value\":5}",
+        "{\"kind\":\"adr\",\"value\":\"\"}",
+        "{\"kind\":5,\"value\":5}",
+    ] {
+        case(&rt, alloc, "PUT /v1/keys/k", sent, "400", kind);
     }
 }
 
