@@ -15,7 +15,7 @@ from contextlib import suppress
 from queue import Empty, Queue
 
 from check_asking import MadeUp, done, refused, rows, texts
-from check_http import VALUE, free_port, lacks_curl, node_at
+from check_http import KEY, VALUE, free_port, lacks_curl, node_at
 from check_scripts import tell
 from check_status import ASK_STATUS, NODE_STATUS
 from check_watch import VALUES, Watching
@@ -469,7 +469,7 @@ def http_client_faults(check):
     """The clients over HTTP end with status 3 if the node refuses, and if no node answers with that or with the status of curl."""
     if lacks_curl(check):
         return
-    folder, told = check.folder(), {**texts(), 4: VALUE}
+    folder, told = check.folder(), {**texts(), 3: KEY, 4: VALUE}
     node, port = node_at(check, "a", folder / "a.http", folder=folder)[0], f"127.0.0.1:{free_port()}"
     check.node("b", "--http", port, folder=folder).start()
     asked = lambda *words: by_http(folder / "a.http", *words)

@@ -20,6 +20,7 @@ FIELDS = [("connection", "close"), ("cache-control", "no-store"), ("x-content-ty
 
 PARAMETERS = "the parameters are owner, prefix, after, wait and seen, or owner and key, or key for a write, each once"
 WAIT = "wait is 0s to 60s, as in wait=30s; seen is a mark of an answer, and goes with wait"
+KEY = "a key is 1 to 64 of the bytes a-z, 0-9, '.', '_', '/' and -; a prefix may be empty; an escape is % and two hex digits, as %2F"
 VALUE = "a value is addr with 1 to 128 printing bytes, weight a whole number from 0 to 2^63 - 1 without quotes, flag true or false, or text of 1 to 512 UTF-8 bytes"
 KIND = "the kind is addr, weight, flag or text"
 SPENT = "as many polls or writes wait at this node as may; a write was not made; ask again in a second, or give polls a shorter wait"
@@ -223,9 +224,8 @@ def http_writes(check):
     want("half a body", place.bytes(head + b'Content-Length: 27\r\n\r\n{"kind":"weight"', ends=True)[0], 400)
     twice = b'{"kind":"flag","value":4,"kind":"weight","value":6}'
     want("members that come twice", place.bytes(head + b"Content-Length: 51\r\n\r\n" + twice)[::2], (200, b'{"version":10}\n'))
-    key = run(check.program, "get", "--control", str(node.control), "--prefix", "A")[2].splitlines()[1]
     for path in ("/v1/keys/K", "/v1/keys/", f"/v1/keys/{65 * 'k'}", "/v1/keys?key=K"):
-        refused(place, path, 400, key, 3, "-X", "DELETE")
+        refused(place, path, 400, KEY, 3, "-X", "DELETE")
     refused(place, "/v1/keys?key=k&owner=a", 400, PARAMETERS, None, "-X", "DELETE")
     many = [threading.Thread(target=lambda count=count: [put(place, f"many/{count}", "weight", it) for it in range(10)]) for count in range(7)]
     for it in many:
@@ -411,8 +411,7 @@ def http_refusals(check):
     folder = check.folder()
     node, place = node_at(check, "a", folder / "a.http", folder=folder)
     at_port = node_at(check, "b", free_port(), folder=folder)[1]
-    name, key = run(check.program, "get", "--control", str(node.control), "--owner", "A")[2], run(check.program, "get", "--control", str(node.control), "--prefix", "A")[2]
-    name, key = name.splitlines()[1], key.splitlines()[1]
+    name = run(check.program, "get", "--control", str(node.control), "--owner", "A")[2].splitlines()[1]
     for path in ("/v1", "/v1/row", "/v1/rows.json", "/healthz/", "/v1/key"):
         refused(place, path, 404, "there is no such path")
         refused(place, path, 404, "there is no such path", None, "-X", "PUT")
@@ -422,9 +421,9 @@ def http_refusals(check):
             want(f"{method} {path}", (status, dict(fields)["allow"], json.loads(body)), (405, "get, head", {"error": "this path is only read"}))
     for query in ("owner=A", "owner=", "owner=%61%20", "after=A/k", f"owner={33 * 'a'}"):
         refused(place, f"/v1/rows?{query}", 400, name, 2)
-    for query in ("prefix=A", "prefix=a+b", "after=a", "after=a/", "owner=a&key=", f"owner=a&key={65 * 'k'}"):
-        refused(place, f"/v1/rows?{query}", 400, key, 3)
-    for path, text, fault in (("/v1/rows/A/k", name, 2), ("/v1/rows/a", key, 3), ("/v1/rows/a/", key, 3), ("/v1/rows/a/K", key, 3)):
+    for query in ("prefix=A", "prefix=a+b", "prefix=%f", "after=a", "after=a/", "owner=a&key=", f"owner=a&key={65 * 'k'}"):
+        refused(place, f"/v1/rows?{query}", 400, KEY, 3)
+    for path, text, fault in (("/v1/rows/A/k", name, 2), ("/v1/rows/a", KEY, 3), ("/v1/rows/a/", KEY, 3), ("/v1/rows/a/K", KEY, 3)):
         refused(place, path, 400, text, fault)
     for query in ("wait=61s", "wait=1", "wait=500ms", "wait=1m", "wait=", "seen=x", "wait=1s&seen=A"):
         refused(place, f"/v1/rows?{query}", 400, WAIT)

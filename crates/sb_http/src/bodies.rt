@@ -237,9 +237,12 @@ pub(crate) fn named_fault_line(
     line_of_value(alloc, &object)
 }
 
-/// The text of a fault, as a response has it: what to write in JSON, where to look, and when to ask again.
+/// The text of a fault, as a response has it: how it is written in a target and in JSON, where to look, and when to ask again.
 fn fault_text(alloc: Global, fault: Fault) -> Result<String, AllocError> {
     let text = match fault {
+        Fault::BadKey => {
+            "a key is 1 to 64 of the bytes a-z, 0-9, '.', '_', '/' and -; a prefix may be empty; an escape is % and two hex digits, as %2F"
+        }
         Fault::BadValue => {
             "a value is addr with 1 to 128 printing bytes, weight a whole number from 0 to 2^63 - 1 without quotes, flag true or false, or text of 1 to 512 UTF-8 bytes"
         }

@@ -189,7 +189,7 @@ fn a_write_that_may_have_been_made_is_named(rt: HostRuntime) {
 fn a_write_has_a_key_and_a_method(rt: HostRuntime) {
     let alloc = rt.alloc();
     let key =
-        "{\"error\":\"a key is 1 to 64 of the bytes a-z, 0-9, '.', '_', '/' and -; a prefix may be empty\",\"fault\":3}\n";
+        "{\"error\":\"a key is 1 to 64 of the bytes a-z, 0-9, '.', '_', '/' and -; a prefix may be empty; an escape is % and two hex digits, as %2F\",\"fault\":3}\n";
     case(&rt, alloc, "PUT /v1/keys/K", "", "400", key);
     case(&rt, alloc, "DELETE /v1/keys/", "", "400", key);
     let parameters =
