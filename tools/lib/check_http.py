@@ -21,6 +21,7 @@ FIELDS = [("connection", "close"), ("cache-control", "no-store"), ("x-content-ty
 PARAMETERS = "the parameters are owner, prefix, after, wait and seen, or owner and key, or key for a write, each once"
 WAIT = "wait is 0s to 60s, as in wait=30s; seen is a mark of an answer, and goes with wait"
 KEY = "a key is 1 to 64 of the bytes a-z, 0-9, '.', '_', '/' and -; a prefix may be empty; an escape is % and two hex digits, as %2F"
+PLACE = "one row is at /v1/rows/OWNER/KEY, those of an owner at /v1/rows?owner=OWNER; after is OWNER/KEY"
 VALUE = "a value is addr with 1 to 128 printing bytes, weight a whole number from 0 to 2^63 - 1 without quotes, flag true or false, or text of 1 to 512 UTF-8 bytes"
 KIND = "the kind is addr, weight, flag or text"
 SPENT = "as many polls or writes wait at this node as may; a write was not made; ask again in a second, or give polls a shorter wait"
@@ -421,9 +422,9 @@ def http_refusals(check):
             want(f"{method} {path}", (status, dict(fields)["allow"], json.loads(body)), (405, "get, head", {"error": "this path is only read"}))
     for query in ("owner=A", "owner=", "owner=%61%20", "after=A/k", f"owner={33 * 'a'}"):
         refused(place, f"/v1/rows?{query}", 400, name, 2)
-    for query in ("prefix=A", "prefix=a+b", "prefix=%f", "after=a", "after=a/", "owner=a&key=", f"owner=a&key={65 * 'k'}"):
+    for query in ("prefix=A", "prefix=a+b", "prefix=%f", "after=a/", "owner=a&key=", f"owner=a&key={65 * 'k'}"):
         refused(place, f"/v1/rows?{query}", 400, KEY, 3)
-    for path, text, fault in (("/v1/rows/A/k", name, 2), ("/v1/rows/a", KEY, 3), ("/v1/rows/a/", KEY, 3), ("/v1/rows/a/K", KEY, 3)):
+    for path, text, fault in (("/v1/rows/A/k", name, 2), ("/v1/rows/a", PLACE, 3), ("/v1/rows/", PLACE, 3), ("/v1/rows?after=a", PLACE, 3), ("/v1/rows/a/", KEY, 3), ("/v1/rows/a/K", KEY, 3)):
         refused(place, path, 400, text, fault)
     for query in ("wait=61s", "wait=1", "wait=500ms", "wait=1m", "wait=", "seen=x", "wait=1s&seen=A"):
         refused(place, f"/v1/rows?{query}", 400, WAIT)

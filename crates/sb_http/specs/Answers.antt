@@ -5,7 +5,7 @@ use Rattle.http1.specs.Fields.{Header}
 use Rattle.http_server.specs.declared.response.Response.{Response}
 use Rattle.http_server.specs.Response.{IsResponse, fields_of}
 use Rattle.sb_types.specs.declared.fault.Fault.{Fault}
-use Rattle.sb_types.specs.declared.fault.Fault.TheVariants.{BadValue, UnknownKind, TableFull, VersionsSpent, NothingThere, OwnerConflict}
+use Rattle.sb_types.specs.declared.fault.Fault.TheVariants.{BadKey, BadValue, UnknownKind, TableFull, VersionsSpent, NothingThere, OwnerConflict}
 use Rattle.sb_types.specs.Faults.{number_of}
 use Rattle.sb_codec.specs.declared.message.Message.{Message}
 use Rattle.sb_codec.specs.declared.message.Message.TheVariants as kinds
@@ -21,7 +21,7 @@ use Rattle.sb_http.specs.declared.operation.Operation.{Operation}
 use Rattle.sb_http.specs.declared.operation.Operation.TheVariants.{Health, Metrics, Owners, Page, Rows, Row, Poll, Put}
 use Rattle.sb_http.specs.declared.operation.Door.{Door}
 use Rattle.sb_http.specs.declared.operation.Refusal.{Refusal}
-use Rattle.sb_http.specs.declared.operation.Refusal.TheVariants.{OtherHost, NotFound, NotAllowed, OnlyWritten, NotByPort, Bad, BadParameters, BadWait, BadBody, BadKind, NoMemory}
+use Rattle.sb_http.specs.declared.operation.Refusal.TheVariants.{OtherHost, NotFound, NotAllowed, OnlyWritten, NotByPort, Bad, BadPlace, BadParameters, BadWait, BadBody, BadKind, NoMemory}
 use Rattle.sb_http.specs.declared.contents.Content as rust
 use Rattle.sb_http.specs.declared.page.TheConstants.{PAGE, POLICY}
 use Rattle.sb_http.specs.Acts.{Act, asks, puts, polls, lists, measures, fails}
@@ -163,6 +163,8 @@ Refuses OnlyWritten response =
     Has (fields_for json_kind ++ (codes "allow", codes "PUT, DELETE") ∷ []) (is_error 405 (codes "write by PUT, remove by DELETE; a row is read at /v1/rows/OWNER/KEY")) response
 Refuses NotByPort response = Has (fields_for json_kind) (is_error 403 (codes "writes are taken at a Unix socket only")) response
 Refuses (Bad fault) response = (content : Content) × IsFault 400 fault content × Has (fields_for json_kind) content response
+Refuses BadPlace response =
+    Has (fields_for json_kind) (is_fault 400 BadKey (codes "one row is at /v1/rows/OWNER/KEY, those of an owner at /v1/rows?owner=OWNER; after is OWNER/KEY")) response
 Refuses BadParameters response =
     Has (fields_for json_kind) (is_error 400 (codes "the parameters are owner, prefix, after, wait and seen, or owner and key, or key for a write, each once")) response
 Refuses BadWait response =

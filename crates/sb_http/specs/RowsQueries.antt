@@ -9,7 +9,7 @@ use Rattle.sb_http.specs.declared.operation.Operation.{Operation}
 use Rattle.sb_codec.specs.declared.message.ask.Ask as asking
 use Rattle.sb_http.specs.declared.operation.Operation.TheVariants.{Rows, Row, Poll}
 use Rattle.sb_http.specs.declared.operation.Refusal.{Refusal}
-use Rattle.sb_http.specs.declared.operation.Refusal.TheVariants.{Bad, BadParameters, BadWait}
+use Rattle.sb_http.specs.declared.operation.Refusal.TheVariants.{Bad, BadPlace, BadParameters, BadWait}
 use Rattle.sb_http.specs.declared.rows_query.RowsQuery.{RowsQuery}
 use Rattle.sb_http.specs.Parts.{parted, all_parts}
 
@@ -29,7 +29,7 @@ prefix_in text = if is_prefix text then Ok text else Err (Bad BadKey)
 
 -- an owner, a slash, and a key
 abbrev pub place_of : Option (List ℕ × List ℕ) → Result (List ℕ × List ℕ) Refusal
-place_of None = Err (Bad BadKey)
+place_of None = Err BadPlace
 place_of (Some parts) = then_read (owner_in parts.0) (λ owner. then_read (key_in parts.1) (λ key. Ok (owner, key)))
 
 abbrev pub place_in : List ℕ → Result (List ℕ × List ℕ) Refusal

@@ -67,6 +67,8 @@ pub enum Refusal {
     NotByPort,
     /// A word is not an owner, not a key or not a value, as this fault says.
     Bad(Fault),
+    /// A place has no slash between an owner and a key.
+    BadPlace,
     /// A parameter is not one of those of its path, or they do not go together.
     BadParameters,
     /// A time to wait is not `0s` to `60s`, or a mark is none, or has no time to wait with it.
@@ -273,7 +275,7 @@ fn query_of(request: &Request<Bytes>) -> &str
 /// - `NotAllowed` for another method than `GET` and `HEAD`, and `OnlyWritten` for another than `PUT` and `DELETE` at the path of a
 ///   key.
 /// - `NotByPort` if it would write, and came in at a port.
-/// - `Bad`, `BadParameters` and `BadWait` for the first part of the query, or of the path, that is not what it should be.
+/// - `Bad`, `BadPlace`, `BadParameters` and `BadWait` for the first part of the query, or of the path, that is not what it should be.
 /// - `BadBody`, then `BadKind`, then `Bad` with `BadValue`, for the body of a `PUT`.
 ///
 /// `NoMemory` may come instead.

@@ -58,7 +58,7 @@ pub(crate) fn place_in(text: &[u8]) -> Result<(Name, Key), Refusal>
     ensures { result ≡ spec.place_in text.now }
 {
     let Some((owner, key)) = parted(text, b'/') else {
-        return Err(Refusal::Bad(Fault::BadKey));
+        return Err(Refusal::BadPlace);
     };
     match owner_in(owner) {
         Err(why) => Err(why),

@@ -99,6 +99,16 @@ fn refuse_named(
     fill(response, StatusCode::BAD_REQUEST, body)
 }
 
+/// Refuses a place, and says where rows are and how a place is written.
+fn refuse_place(alloc: Global, response: &mut Response) -> Result<(), AllocError>
+    requires { IsBlank response.old }
+    ensures { OnOk result (Refuses Refusal.BadPlace response.new) }
+{
+    let text =
+        "one row is at /v1/rows/OWNER/KEY, those of an owner at /v1/rows?owner=OWNER; after is OWNER/KEY";
+    refuse_named(alloc, response, Fault::BadKey, text)
+}
+
 /// Refuses a kind, and names those that there are.
 fn refuse_kind(alloc: Global, response: &mut Response) -> Result<(), AllocError>
     requires { IsBlank response.old }
@@ -154,6 +164,7 @@ fn refuse(alloc: Global, response: &mut Response, why: &Refusal) -> Result<(), A
             refuse_with(alloc, response, StatusCode::FORBIDDEN, text)
         }
         Refusal::Bad(fault) => refuse_by(alloc, response, *fault),
+        Refusal::BadPlace => refuse_place(alloc, response),
         Refusal::BadParameters => {
             let text =
                 "the parameters are owner, prefix, after, wait and seen, or owner and key, or key for a write, each once";

@@ -120,6 +120,15 @@ fn what_asks_for_nothing_is_refused(rt: HostRuntime) {
 }
 
 #[test]
+fn a_place_without_a_slash_is_refused(rt: HostRuntime) {
+    let place =
+        "{\"error\":\"one row is at /v1/rows/OWNER/KEY, those of an owner at /v1/rows?owner=OWNER; after is OWNER/KEY\",\"fault\":3}\n";
+    for target in ["/v1/rows/a", "/v1/rows/", "/v1/rows?after=a"] {
+        case(&rt, rt.alloc(), target, "400", place);
+    }
+}
+
+#[test]
 fn a_port_takes_local_hosts(rt: HostRuntime) {
     let ours = answer_at(
         &rt,
