@@ -18,7 +18,9 @@ from nodes import ROOT, SECONDS, Difference, connect, run, want
 FIELDS = [("connection", "close"), ("cache-control", "no-store"), ("x-content-type-options", "nosniff"), ("content-type", "application/json")]
 
 
-PARAMETERS = "the parameters are owner, prefix, after, wait and seen, or owner and key, or key for a write, each once"
+UNKNOWN = "there is no such parameter: rows take owner, prefix, after, wait and seen, or owner and key; a write takes key; each is NAME=VALUE"
+PARAMETERS = "each parameter comes once; key goes with owner alone, and in a write with no other"
+NO_KEY = "name the key: /v1/keys/KEY, or /v1/keys?key=KEY"
 WAIT = "wait is 0s to 60s, as in wait=30s; seen is a mark of an answer, and goes with wait"
 KEY = "a key is 1 to 64 of the bytes a-z, 0-9, '.', '_', '/' and -; a prefix may be empty; an escape is % and two hex digits, as %2F"
 PLACE = "one row is at /v1/rows/OWNER/KEY, those of an owner at /v1/rows?owner=OWNER; after is OWNER/KEY"
@@ -227,7 +229,8 @@ def http_writes(check):
     want("members that come twice", place.bytes(head + b"Content-Length: 51\r\n\r\n" + twice)[::2], (200, b'{"version":10}\n'))
     for path in ("/v1/keys/K", "/v1/keys/", f"/v1/keys/{65 * 'k'}", "/v1/keys?key=K"):
         refused(place, path, 400, KEY, 3, "-X", "DELETE")
-    refused(place, "/v1/keys?key=k&owner=a", 400, PARAMETERS, None, "-X", "DELETE")
+    for path, text in (("?key=k&owner=a", PARAMETERS), ("?key=k&key=k", PARAMETERS), ("", NO_KEY), ("?owner=a", NO_KEY), ("?ky=k", UNKNOWN), ("?key", UNKNOWN)):
+        refused(place, f"/v1/keys{path}", 400, text, None, "-X", "DELETE")
     many = [threading.Thread(target=lambda count=count: [put(place, f"many/{count}", "weight", it) for it in range(10)]) for count in range(7)]
     for it in many:
         it.start()
@@ -428,7 +431,9 @@ def http_refusals(check):
         refused(place, path, 400, text, fault)
     for query in ("wait=61s", "wait=1", "wait=500ms", "wait=1m", "wait=", "seen=x", "wait=1s&seen=A"):
         refused(place, f"/v1/rows?{query}", 400, WAIT)
-    for query in ("x=1", "owner", "wait=1s&wait=1s", "owner=a&owner=a", "prefix=&prefix=", "key=k", "owner=a&key=k&prefix=k", "owner=a&key=k&after=a/k", "Owner=a"):
+    for query in ("x=1", "owner", "prefx=web/", "Owner=a", "owner=a&x=1"):
+        refused(place, f"/v1/rows?{query}", 400, UNKNOWN)
+    for query in ("wait=1s&wait=1s", "owner=a&owner=a", "prefix=&prefix=", "key=k", "owner=a&key=k&prefix=k", "owner=a&key=k&after=a/k"):
         refused(place, f"/v1/rows?{query}", 400, PARAMETERS)
     for query in ("", "&", "owner=a&", "&&prefix="):
         want(f"rows by {query!r}", place.json(f"/v1/rows?{query}")[0], 200)

@@ -21,7 +21,7 @@ use Rattle.sb_http.specs.declared.operation.Operation.{Operation}
 use Rattle.sb_http.specs.declared.operation.Operation.TheVariants.{Health, Metrics, Owners, Page, Rows, Row, Poll, Put}
 use Rattle.sb_http.specs.declared.operation.Door.{Door}
 use Rattle.sb_http.specs.declared.operation.Refusal.{Refusal}
-use Rattle.sb_http.specs.declared.operation.Refusal.TheVariants.{OtherHost, NotFound, NotAllowed, OnlyWritten, NotByPort, Bad, BadPlace, BadParameters, BadWait, BadBody, BadKind, NoMemory}
+use Rattle.sb_http.specs.declared.operation.Refusal.TheVariants.{OtherHost, NotFound, NotAllowed, OnlyWritten, NotByPort, Bad, BadPlace, UnknownParameter, BadParameters, NoKey, BadWait, BadBody, BadKind, NoMemory}
 use Rattle.sb_http.specs.declared.contents.Content as rust
 use Rattle.sb_http.specs.declared.page.TheConstants.{PAGE, POLICY}
 use Rattle.sb_http.specs.Acts.{Act, asks, puts, polls, lists, measures, fails}
@@ -165,8 +165,11 @@ Refuses NotByPort response = Has (fields_for json_kind) (is_error 403 (codes "wr
 Refuses (Bad fault) response = (content : Content) × IsFault 400 fault content × Has (fields_for json_kind) content response
 Refuses BadPlace response =
     Has (fields_for json_kind) (is_fault 400 BadKey (codes "one row is at /v1/rows/OWNER/KEY, those of an owner at /v1/rows?owner=OWNER; after is OWNER/KEY")) response
+Refuses UnknownParameter response =
+    Has (fields_for json_kind) (is_error 400 (codes "there is no such parameter: rows take owner, prefix, after, wait and seen, or owner and key; a write takes key; each is NAME=VALUE")) response
 Refuses BadParameters response =
-    Has (fields_for json_kind) (is_error 400 (codes "the parameters are owner, prefix, after, wait and seen, or owner and key, or key for a write, each once")) response
+    Has (fields_for json_kind) (is_error 400 (codes "each parameter comes once; key goes with owner alone, and in a write with no other")) response
+Refuses NoKey response = Has (fields_for json_kind) (is_error 400 (codes "name the key: /v1/keys/KEY, or /v1/keys?key=KEY")) response
 Refuses BadWait response =
     Has (fields_for json_kind) (is_error 400 (codes "wait is 0s to 60s, as in wait=30s; seen is a mark of an answer, and goes with wait")) response
 Refuses BadBody response =

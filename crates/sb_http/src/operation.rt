@@ -69,8 +69,12 @@ pub enum Refusal {
     Bad(Fault),
     /// A place has no slash between an owner and a key.
     BadPlace,
-    /// A parameter is not one of those of its path, or they do not go together.
+    /// There is no parameter of this name, or it is not `NAME=VALUE`.
+    UnknownParameter,
+    /// A parameter comes twice, or they do not go together.
     BadParameters,
+    /// A write names no key.
+    NoKey,
     /// A time to wait is not `0s` to `60s`, or a mark is none, or has no time to wait with it.
     BadWait,
     /// The body of a PUT is not JSON, or not an object with a kind and a value.
@@ -275,7 +279,8 @@ fn query_of(request: &Request<Bytes>) -> &str
 /// - `NotAllowed` for another method than `GET` and `HEAD`, and `OnlyWritten` for another than `PUT` and `DELETE` at the path of a
 ///   key.
 /// - `NotByPort` if it would write, and came in at a port.
-/// - `Bad`, `BadPlace`, `BadParameters` and `BadWait` for the first part of the query, or of the path, that is not what it should be.
+/// - `Bad`, `BadPlace`, `UnknownParameter`, `BadParameters` and `BadWait` for the first part of the query, or of the path, that is
+///   not what it should be. Then `NoKey` for a write.
 /// - `BadBody`, then `BadKind`, then `Bad` with `BadValue`, for the body of a `PUT`.
 ///
 /// `NoMemory` may come instead.

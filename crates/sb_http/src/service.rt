@@ -109,6 +109,34 @@ fn refuse_place(alloc: Global, response: &mut Response) -> Result<(), AllocError
     refuse_named(alloc, response, Fault::BadKey, text)
 }
 
+/// Refuses parameters that come twice or do not go together.
+fn refuse_combination(alloc: Global, response: &mut Response) -> Result<(), AllocError>
+    requires { IsBlank response.old }
+    ensures { OnOk result (Refuses Refusal.BadParameters response.new) }
+{
+    let text = "each parameter comes once; key goes with owner alone, and in a write with no other";
+    refuse_with(alloc, response, StatusCode::BAD_REQUEST, text)
+}
+
+/// Refuses a parameter, and names those that there are.
+fn refuse_unknown(alloc: Global, response: &mut Response) -> Result<(), AllocError>
+    requires { IsBlank response.old }
+    ensures { OnOk result (Refuses Refusal.UnknownParameter response.new) }
+{
+    let text =
+        "there is no such parameter: rows take owner, prefix, after, wait and seen, or owner and key; a write takes key; each is NAME=VALUE";
+    refuse_with(alloc, response, StatusCode::BAD_REQUEST, text)
+}
+
+/// Refuses a write without a key, and says where a key goes.
+fn refuse_without_key(alloc: Global, response: &mut Response) -> Result<(), AllocError>
+    requires { IsBlank response.old }
+    ensures { OnOk result (Refuses Refusal.NoKey response.new) }
+{
+    let text = "name the key: /v1/keys/KEY, or /v1/keys?key=KEY";
+    refuse_with(alloc, response, StatusCode::BAD_REQUEST, text)
+}
+
 /// Refuses a kind, and names those that there are.
 fn refuse_kind(alloc: Global, response: &mut Response) -> Result<(), AllocError>
     requires { IsBlank response.old }
@@ -165,11 +193,9 @@ fn refuse(alloc: Global, response: &mut Response, why: &Refusal) -> Result<(), A
         }
         Refusal::Bad(fault) => refuse_by(alloc, response, *fault),
         Refusal::BadPlace => refuse_place(alloc, response),
-        Refusal::BadParameters => {
-            let text =
-                "the parameters are owner, prefix, after, wait and seen, or owner and key, or key for a write, each once";
-            refuse_with(alloc, response, StatusCode::BAD_REQUEST, text)
-        }
+        Refusal::UnknownParameter => refuse_unknown(alloc, response),
+        Refusal::BadParameters => refuse_combination(alloc, response),
+        Refusal::NoKey => refuse_without_key(alloc, response),
         Refusal::BadWait => {
             let text =
                 "wait is 0s to 60s, as in wait=30s; seen is a mark of an answer, and goes with wait";

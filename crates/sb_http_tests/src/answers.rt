@@ -78,7 +78,7 @@ fn polls_have_a_mark(rt: HostRuntime) {
         case(&rt, alloc, target, "400", wait);
     }
     let parameters =
-        "{\"error\":\"the parameters are owner, prefix, after, wait and seen, or owner and key, or key for a write, each once\"}\n";
+        "{\"error\":\"each parameter comes once; key goes with owner alone, and in a write with no other\"}\n";
     for target in ["/v1/rows?wait=1s&wait=1s", "/v1/rows?owner=a&key=k&wait=1s"] {
         case(&rt, alloc, target, "400", parameters);
     }
@@ -104,9 +104,11 @@ fn what_asks_for_nothing_is_refused(rt: HostRuntime) {
         "404",
         "{\"error\":\"there is no such path\"}\n",
     );
+    let unknown =
+        "{\"error\":\"there is no such parameter: rows take owner, prefix, after, wait and seen, or owner and key; a write takes key; each is NAME=VALUE\"}\n";
+    case(&rt, rt.alloc(), "/v1/rows?x=1", "400", unknown);
     let parameters =
-        "{\"error\":\"the parameters are owner, prefix, after, wait and seen, or owner and key, or key for a write, each once\"}\n";
-    case(&rt, rt.alloc(), "/v1/rows?x=1", "400", parameters);
+        "{\"error\":\"each parameter comes once; key goes with owner alone, and in a write with no other\"}\n";
     case(&rt, rt.alloc(), "/v1/rows?key=k", "400", parameters);
     case(
         &rt,

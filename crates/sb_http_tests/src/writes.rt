@@ -192,9 +192,10 @@ fn a_write_has_a_key_and_a_method(rt: HostRuntime) {
         "{\"error\":\"a key is 1 to 64 of the bytes a-z, 0-9, '.', '_', '/' and -; a prefix may be empty; an escape is % and two hex digits, as %2F\",\"fault\":3}\n";
     case(&rt, alloc, "PUT /v1/keys/K", "", "400", key);
     case(&rt, alloc, "DELETE /v1/keys/", "", "400", key);
+    let lack = "{\"error\":\"name the key: /v1/keys/KEY, or /v1/keys?key=KEY\"}\n";
+    case(&rt, alloc, "PUT /v1/keys", "", "400", lack);
     let parameters =
-        "{\"error\":\"the parameters are owner, prefix, after, wait and seen, or owner and key, or key for a write, each once\"}\n";
-    case(&rt, alloc, "PUT /v1/keys", "", "400", parameters);
+        "{\"error\":\"each parameter comes once; key goes with owner alone, and in a write with no other\"}\n";
     case(
         &rt,
         alloc,
