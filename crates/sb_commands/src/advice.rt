@@ -1,5 +1,5 @@
 //! What to do about a fault, in one line that comes after its place.
-use crate::failure::{FaultPlace, InputLine, Obstacle};
+use crate::failure::{FaultPlace, InputLine, LogObstacle, Obstacle};
 use sb_log::StoreCause;
 use sb_types::Fault;
 
@@ -108,6 +108,25 @@ move the file with -wal away, and give the command again"
     }
 }
 
+/// What to do about what keeps a file from being opened as a log.
+fn about_log_obstacle(obstacle: LogObstacle) -> &'static str {
+    match obstacle {
+        LogObstacle::NoFile => "give the path of a file: this is a folder, a socket or a device",
+        LogObstacle::SecondName => {
+            "remove its other name, a hard link: ls -i prints the same number for both names"
+        }
+        LogObstacle::ReadOnly => {
+            "run as the user that made the file, or give yourself write permission on it; its disk must not be read-only"
+        }
+        LogObstacle::Journal => {
+            "open the file once by sqlite3, which plays back the file of its name with -journal, and give the command again"
+        }
+        LogObstacle::Unmade => {
+            "see that you may write in its folder, where a file of its name with -wal is made; that the disk has room; and that the process may open more files (ulimit -n)"
+        }
+    }
+}
+
 fn about_store(place: FaultPlace<'_>) -> &'static str {
     match place {
         FaultPlace::NoLog(_) => {
@@ -119,6 +138,7 @@ fn about_store(place: FaultPlace<'_>) -> &'static str {
         FaultPlace::UnreadableLog(_) => {
             "see that you may read and write the file, as the user that made it may, and that the process may open more files (ulimit -n)"
         }
+        FaultPlace::UnopenedLog(_, obstacle) => about_log_obstacle(obstacle),
         FaultPlace::LockedLog(_) => {
             "end that process, which may be a node; to read the rows of a node that runs, use get at its control socket"
         }

@@ -47,6 +47,34 @@ impl Obstacle {
     }
 }
 
+/// What keeps a file from being opened as a log.
+#[derive(Clone, Copy)]
+pub enum LogObstacle {
+    /// Its path is that of a folder, a socket or a device.
+    NoFile,
+    /// The file has another name too.
+    SecondName,
+    /// The program is not permitted to write to the file.
+    ReadOnly,
+    /// The file of its name with `-journal` has something.
+    Journal,
+    /// The file, or the one of its name with `-wal`, is not there and could not be made.
+    Unmade,
+}
+
+impl LogObstacle {
+    /// The text of fault 18 with this obstacle.
+    fn text(self) -> &'static str {
+        match self {
+            LogObstacle::NoFile => "the path of the log is not that of a file",
+            LogObstacle::SecondName => "the file of the log has a second name",
+            LogObstacle::ReadOnly => "the file of the log cannot be written: not permitted",
+            LogObstacle::Journal => "beside the log is a journal of another program",
+            LogObstacle::Unmade => "a file of the log cannot be made",
+        }
+    }
+}
+
 /// What a line of standard input has, as far as the advice about it needs that.
 #[derive(Clone, Copy)]
 pub enum InputLine {
@@ -83,6 +111,8 @@ pub enum FaultPlace<'a> {
     NoLogFolder(&'a str),
     /// At the file of a log, which cannot be opened.
     UnreadableLog(&'a str),
+    /// At the file of a log, which cannot be opened because of this.
+    UnopenedLog(&'a str, LogObstacle),
     /// At the file of a log, which another process has open.
     LockedLog(&'a str),
     /// At the file of a log, which is a link.
@@ -181,6 +211,7 @@ impl<'a> Failure<'a> {
         let place = match self.place {
             FaultPlace::NoLogFolder(_) => FaultPlace::NoLogFolder(path),
             FaultPlace::LockedLog(_) => FaultPlace::LockedLog(path),
+            FaultPlace::UnopenedLog(_, obstacle) => FaultPlace::UnopenedLog(path, obstacle),
             _ => FaultPlace::Log(path),
         };
         Failure {
@@ -283,6 +314,7 @@ fn text_of_store(place: FaultPlace<'_>) -> Option<&'static str> {
         FaultPlace::NoLog(_) => "there is no such log",
         FaultPlace::NoLogFolder(_) => "there is no such log: its folder does not exist",
         FaultPlace::UnreadableLog(_) => "the log cannot be opened",
+        FaultPlace::UnopenedLog(_, obstacle) => obstacle.text(),
         FaultPlace::LockedLog(_) => "another process has the log open",
         FaultPlace::LinkedLog(_) => "the path of the log is a link",
         FaultPlace::BusyFolder(_) => "another process restores a log in its folder",
@@ -363,6 +395,7 @@ fn path_of<'a>(place: FaultPlace<'a>) -> Option<(&'static str, &'a str)> {
         | FaultPlace::NoLog(path)
         | FaultPlace::NoLogFolder(path)
         | FaultPlace::UnreadableLog(path)
+        | FaultPlace::UnopenedLog(path, _)
         | FaultPlace::LockedLog(path)
         | FaultPlace::LinkedLog(path)
         | FaultPlace::BusyFolder(path)

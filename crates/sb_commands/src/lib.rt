@@ -78,7 +78,7 @@ pub use beginning::{Start, begin_log};
 pub use care::Caution;
 pub use careful::{CarefulWatch, View};
 pub use change_source::WatchPace;
-pub use failure::{Failure, FaultPlace, InputLine, Obstacle};
+pub use failure::{Failure, FaultPlace, InputLine, LogObstacle, Obstacle};
 pub use log_file::{
     DroppedRemovals, FileLog, Floor, StartPurge, error_of, has_folder, open_log, print_log,
     purge_log, purge_removals,

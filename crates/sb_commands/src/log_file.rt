@@ -4,7 +4,7 @@ ghost use Rattle.sb_log.specs.Puts.{content_after_purge};
 ghost use Rattle.sb_commands.specs.LogFiles.{DropsWrites};
 ghost use Rattle.sb_commands.specs.Removals as spec;
 
-use crate::failure::{Failure, FaultPlace};
+use crate::failure::{Failure, FaultPlace, LogObstacle};
 use crate::words::name_of;
 use sb_lines::{log_run, purge_run};
 use sb_log::{LogError, SqlLog, StoreCause, WriteLog};
@@ -80,6 +80,58 @@ pub fn has_folder(rt: &HostRuntime, path: &str) -> bool {
     }
 }
 
+/// Whether the program is not permitted to write to a file.
+fn is_read_only(rt: &HostRuntime, path: &str) -> bool {
+    match fs::OpenOptions::new().write(true).open(rt, path) {
+        Ok(_) => false,
+        Err(error) => matches!(
+            error.kind(),
+            ErrorKind::PermissionDenied | ErrorKind::ReadOnlyFilesystem
+        ),
+    }
+}
+
+/// What keeps the file at a path from being opened as a log, as far as the files beside it show that.
+fn obstacle_beside(rt: &HostRuntime, path: &str) -> Option<LogObstacle> {
+    let Ok(real) = fs::canonicalize(rt, path) else {
+        return None;
+    };
+    let Ok(journal) = format!(in rt.alloc(); "{}-journal", real.as_str()) else {
+        return None;
+    };
+    if length_at(rt, journal.as_str()) > 0 {
+        return Some(LogObstacle::Journal);
+    }
+    let Ok(wal) = format!(in rt.alloc(); "{}-wal", real.as_str()) else {
+        return None;
+    };
+    match fs::symlink_metadata(rt, wal.as_str()) {
+        Err(error) if error.kind() == ErrorKind::NotFound => Some(LogObstacle::Unmade),
+        _ => None,
+    }
+}
+
+/// What keeps the file at a path from being opened as a log, as far as the files there show that. Of a link, it is the file to which
+/// the link leads.
+fn log_obstacle(rt: &HostRuntime, path: &str) -> Option<LogObstacle> {
+    match fs::metadata(rt, path) {
+        Ok(found) if !found.is_file() => Some(LogObstacle::NoFile),
+        Ok(found) if found.nlink() > 1 => Some(LogObstacle::SecondName),
+        Ok(_) if is_read_only(rt, path) => Some(LogObstacle::ReadOnly),
+        Ok(_) => obstacle_beside(rt, path),
+        Err(error) if error.kind() == ErrorKind::NotFound => Some(LogObstacle::Unmade),
+        Err(_) => None,
+    }
+}
+
+/// The failure of a file that the database could not open.
+fn unopened<'a>(rt: &HostRuntime, path: &'a str) -> Failure<'a> {
+    match log_obstacle(rt, path) {
+        Some(obstacle) => Failure::at(FaultPlace::UnopenedLog(path, obstacle), Fault::StoreFailed),
+        None => Failure::of_store(path, StoreCause::CannotOpen),
+    }
+}
+
 /// Why a file was not opened.
 fn failure_of<'a>(rt: &HostRuntime, path: &'a str, error: &Error) -> Failure<'a> {
     match StoreCause::of(error) {
@@ -90,6 +142,7 @@ fn failure_of<'a>(rt: &HostRuntime, path: &'a str, error: &Error) -> Failure<'a>
             FaultPlace::NoLogFolder(path),
             Fault::StoreFailed,
         ),
+        StoreCause::CannotOpen => unopened(rt, path),
         cause => Failure::of_store(path, cause),
     }
 }
