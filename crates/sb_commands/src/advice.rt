@@ -205,6 +205,10 @@ see RUNBOOK, A full disk, or A removed log"
     }
 }
 
+/// What a weight is.
+const WEIGHTS: &str =
+    "a weight is a whole number from 0 to 2^63 - 1, in digits alone and without a leading 0";
+
 /// What to do about a line of standard input that has no value after its key.
 fn about_input(line: InputLine) -> &'static str {
     match line {
@@ -212,8 +216,9 @@ fn about_input(line: InputLine) -> &'static str {
             "the line ends with a carriage return, \\0d: end each line with a newline alone"
         }
         InputLine::Text => {
-            "a text has 1 to 512 bytes; write a backslash as \\5c and a newline as \\0a"
+            "a text has 1 to 512 bytes of UTF-8; write a backslash as \\5c, a newline as \\0a and a tab as \\09"
         }
+        InputLine::Weight => WEIGHTS,
         InputLine::Other => {
             "give a kind and a word, for example addr 10.0.0.1:80, weight 5, flag true or text zone b"
         }
@@ -223,8 +228,12 @@ fn about_input(line: InputLine) -> &'static str {
 fn about_value(place: FaultPlace<'_>) -> &'static str {
     match place {
         FaultPlace::Value("text", _) => {
-            "a text has 1 to 512 bytes; write a backslash as \\5c and a newline as \\0a, or give --raw"
+            "a text has 1 to 512 bytes; write a backslash as \\5c, a newline as \\0a and a tab as \\09, or give --raw"
         }
+        FaultPlace::Value("weight", _) => WEIGHTS,
+        FaultPlace::Value("addr", _) => "an addr has 1 to 128 printing bytes, and no space",
+        FaultPlace::Value("flag", _) => "a flag is true or false",
+        FaultPlace::Value(..) => "the kind is addr, weight, flag or text",
         FaultPlace::Input(line) => about_input(line),
         _ =>
             "give a kind and a word, for example addr 10.0.0.1:80, weight 5, flag true or text 'zone b'",

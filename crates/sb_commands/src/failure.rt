@@ -82,6 +82,8 @@ pub enum InputLine {
     Return,
     /// The words of a text, and no carriage return at its end.
     Text,
+    /// The words of a weight, and no carriage return at its end.
+    Weight,
     /// Something else.
     Other,
 }
