@@ -237,7 +237,7 @@ pub(crate) fn named_fault_line(
     line_of_value(alloc, &object)
 }
 
-/// The text of a fault, as a response has it: how it is written in a target and in JSON, where to look, and when to ask again.
+/// The text of a fault, as a response has it. It says what to write in a target or in JSON, where to look, or when to ask again.
 fn fault_text(alloc: Global, fault: Fault) -> Result<String, AllocError> {
     let text = match fault {
         Fault::BadKey => {

@@ -79,7 +79,7 @@ pub enum Refusal {
     BadWait,
     /// The body of a PUT is not JSON, or not an object with a kind and a value.
     BadBody,
-    /// The kind in the body of a PUT is none.
+    /// The body of a PUT has an unknown kind.
     BadKind,
     /// There was no memory to read the request.
     NoMemory,
