@@ -422,7 +422,7 @@ def http_refusals(check):
     for path in ("/", "/v1/rows", "/v1/rows/a/k", "/v1/owners", "/healthz", "/metrics"):
         for method in ("PUT", "POST", "DELETE", "PATCH", "OPTIONS"):
             status, fields, body = place.curl(path, "-X", method)
-            want(f"{method} {path}", (status, dict(fields)["allow"], json.loads(body)), (405, "get, head", {"error": "this path is only read"}))
+            want(f"{method} {path}", (status, dict(fields)["allow"], json.loads(body)), (405, "get, head", {"error": "this path is only read; a key is written at /v1/keys/KEY"}))
     for query in ("owner=A", "owner=", "owner=%61%20", "after=A/k", f"owner={33 * 'a'}"):
         refused(place, f"/v1/rows?{query}", 400, name, 2)
     for query in ("prefix=A", "prefix=a+b", "prefix=%f", "after=a/", "owner=a&key=", f"owner=a&key={65 * 'k'}"):

@@ -158,7 +158,7 @@ abbrev pub Refuses : Refusal → Response → Type 0
 Refuses OtherHost response = Has (fields_for json_kind) (is_error 421 (codes "the host is not this machine")) response
 Refuses NotFound response = Has (fields_for json_kind) (is_error 404 (codes "there is no such path")) response
 Refuses NotAllowed response =
-    Has (fields_for json_kind ++ (codes "allow", codes "GET, HEAD") ∷ []) (is_error 405 (codes "this path is only read")) response
+    Has (fields_for json_kind ++ (codes "allow", codes "GET, HEAD") ∷ []) (is_error 405 (codes "this path is only read; a key is written at /v1/keys/KEY")) response
 Refuses OnlyWritten response =
     Has (fields_for json_kind ++ (codes "allow", codes "PUT, DELETE") ∷ []) (is_error 405 (codes "write by PUT, remove by DELETE; a row is read at /v1/rows/OWNER/KEY")) response
 Refuses NotByPort response = Has (fields_for json_kind) (is_error 403 (codes "writes are taken at a Unix socket only")) response

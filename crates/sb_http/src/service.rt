@@ -153,7 +153,10 @@ fn refuse_method(alloc: Global, response: &mut Response) -> Result<(), AllocErro
 {
     add_fields(response, json_type())?;
     response.add_header(header::ALLOW, HeaderValue::from_static("GET, HEAD"))?;
-    let body = error_line(alloc, "this path is only read")?;
+    let body = error_line(
+        alloc,
+        "this path is only read; a key is written at /v1/keys/KEY",
+    )?;
     fill(response, StatusCode::METHOD_NOT_ALLOWED, body)
 }
 
