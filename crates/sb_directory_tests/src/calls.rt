@@ -431,6 +431,22 @@ fn what_enters_nothing_is_no_news(rt: HostRuntime) {
     answers(&rt, rt.alloc(), &cases);
 }
 
+/// A purge makes no news. The next own write is news from the version before it.
+#[test]
+fn a_purge_is_no_news(rt: HostRuntime) {
+    let cases = [
+        (Call::Write(b"x"), Answer::Shown),
+        (Call::Write(b"y"), Answer::Shown),
+        (Call::Remove(b"x"), Answer::Shown),
+        (Call::News, news(Some(0), None, 1, 2)),
+        (Call::Purge(1), Answer::Purged(Some(3))),
+        (Call::News, news(None, None, 0, 0)),
+        (Call::Write(b"y"), Answer::Shown),
+        (Call::News, news(Some(3), None, 1, 1)),
+    ];
+    answers(&rt, rt.alloc(), &cases);
+}
+
 /// What goes to a stage is news once the stage replaces the table. It is left to rounds, since the floor is above the version
 /// that was held.
 #[test]
