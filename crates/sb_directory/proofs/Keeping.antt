@@ -79,6 +79,12 @@ pub noted : (opening : Node) (queued : List Event) (lacking more : LackingOwners
     → AreSince (node_after opening queued).held l.core.node.held more → IsViewedNode opening queued more l
 noted opening queued lacking more l is since = record { node = is.node; begins = is.begins; grown = is.grown; since = since; notes = is.notes; watches = is.watches }
 
+-- with other news
+pub news-locked : (opening : Node) (queued : List Event) (lacking : LackingOwners) (l : ViewedNode) (news : Backlog) → IsViewedNode opening queued lacking l
+    → IsViewedNode opening queued lacking (with_news l news)
+news-locked opening queued lacking l news is =
+    record { node = is.node; begins = is.begins; grown = is.grown; since = is.since; notes = is.notes; watches = is.watches }
+
 -- the version of an owner is read of the node, and the floor of what it holds
 pub since-read : (held lent : Held) (owner : List ℕ) (version floor : ℕ) → version ≡ (shown_of held owner).held → floor ≡ (shown_of lent owner).floor → lent ≡ held
     → (let since : ℕ × ℕ = (version, floor) in since) ≡ since_of held owner
@@ -151,11 +157,13 @@ module _ (opening : Node) (queued : List Event) (lacking : LackingOwners) (old :
         }
 
     -- so it is wherever the core and the history are these
-    pub purge-there : (core : Core) (history : List Event) (published : List Event) → core ≡ with_node old.core (node_after_event old.core.node (node_events.Purged floor))
+    pub purge-there : (core : Core) (history : List Event) (published : List Event) (news : Backlog) → core ≡ with_node old.core (node_after_event old.core.node (node_events.Purged floor))
         → history ≡ old.history ++ Purged floor ∷ []
-        → IsViewedNode opening queued lacking (record { core = core; hub = old.hub; watches = old.watches; history = history; published = published; news = old.news })
-    purge-there core history published purged longer =
-        subst (IsViewedNode opening queued lacking) (λ i. record { core = sym purged i; hub = old.hub; watches = old.watches; history = sym longer i; published = published; news = old.news }) (purge-locked published)
+        → IsViewedNode opening queued lacking (record { core = core; hub = old.hub; watches = old.watches; history = history; published = published; news = news })
+    purge-there core history published news purged longer =
+        let there : ViewedNode = record { core = core; hub = old.hub; watches = old.watches; history = history; published = published; news = old.news } in
+        news-locked opening queued lacking there news
+        (subst (IsViewedNode opening queued lacking) (λ i. record { core = sym purged i; hub = old.hub; watches = old.watches; history = sym longer i; published = published; news = old.news }) (purge-locked published))
 
   module _ (blocks : List Block) (ends : List BlockEnd) (delta : is_delta blocks ≡ true) (treats : Treats old.core.node blocks ends)
       (after : IsHoldings (replay_node old.core.node (took_each blocks ends)).held) (has : HasOwners lacking blocks) where
@@ -205,8 +213,3 @@ pub watches-locked : (opening : Node) (queued : List Event) (lacking : LackingOw
     → AllNotes (is_held l.core.node.held) hub → AllByRecursion (IsWatched opening l.history hub) watches → IsViewedNode opening queued lacking (with_watches l hub watches)
 watches-locked opening queued lacking l hub watches is notes all =
     record { node = is.node; begins = is.begins; grown = is.grown; since = is.since; notes = notes; watches = all }
-
-pub news-locked : (opening : Node) (queued : List Event) (lacking : LackingOwners) (l : ViewedNode) (news : Backlog) → IsViewedNode opening queued lacking l
-    → IsViewedNode opening queued lacking (with_news l news)
-news-locked opening queued lacking l news is =
-    record { node = is.node; begins = is.begins; grown = is.grown; since = is.since; notes = is.notes; watches = is.watches }

@@ -18,7 +18,7 @@ invariant_of-self-2 g c =
     let longer : c.add-2.new.self ≡ inside.history ++ Purged c.args.floor ∷ [] = c.add-2.ensures ∙ (λ i. c.call_at.ensures.history i ++ Purged c.args.floor ∷ []) in
     let noted = added-locked opening queued inside.lacking c.add.new.self old c.name.result.now _ is.0 c.in_ok-add.ensures.ok (since-read _ _ _ _ _ c.upto-upto.ensures.version c.floor-lowest.ensures.floor c.holdings.ensures.held) in
     let has = added-there inside.lacking c.add.new.self c.name.result.now node.held.me _ c.in_ok-add.ensures.ok c.name.ensures.name in (
-      purge-there opening queued c.add.new.self old noted c.name.ensures.holdings c.args.floor has c.purge.new.self c.add-2.new.self inside.views.published purged longer,
+      purge-there opening queued c.add.new.self old noted c.name.ensures.holdings c.args.floor has c.purge.new.self c.add-2.new.self inside.views.published _ purged longer,
       omega (arith, c.count.ensures.total, is.1, ap (λ (l : List Event). length l) longer, length-append inside.history (Purged c.args.floor ∷ [])),
       ap (λ (k : Core). k.settings) purged ∙ is.2,
       is.3,
