@@ -1,5 +1,6 @@
 //! Opening a log's tables, and making those that are missing.
-ghost use Rattle.std.specs.Prelude.{◌≡◌, ◌≤◌, ◌⊎◌, ℕ, List, Ok, Err, Some, IfSome, pos, [], map, length, IfErr, IfOk, IsTrue, OnOk, IsOkAnd, false};
+ghost use Rattle.std.specs.Prelude.{◌≡◌, ◌≢◌, ◌≤◌, ◌⊎◌, ℕ, List, Ok, Err, Some, IfSome, pos, [], map, length, MatchResult, IfErr, IfOk, IsTrue, OnOk, IsOkAnd, true, false};
+ghost use Rattle.sqlite.specs.Held.{state};
 ghost use Rattle.sqlite_value.specs.declared.value.Value.TheVariants.{Int, Text};
 ghost use Rattle.sqlite_value.specs.Order.{column};
 ghost use Rattle.sqlite_catalog.specs.Listing.{IsSound};
@@ -179,6 +180,8 @@ fn accept_from<S: Alter>(
         → OnOk result (IsNamedIn newest_form owner cluster last floor (new.now.trees 0))) }
     ensures crash { AfterReady S.Store conn.old conn.new (λ old new. IsForm form → (last : ℕ) (owner cluster : List ℕ) → IsNamedIn form owner cluster last floor (old.now.trees 0)
         → Leaves old new (IsAccepted owner cluster (old.now.trees 0) (old.now.trees 1))) }
+    // Where nothing is left to do, no statement runs.
+    ensures still { has_dead ≡ false → form ≢ 1 → conn.new ≡ conn.old }
     ensures clean { KeepsDoubt S.Store conn.old conn.new }
 {
     raise_from(conn, form)?;
@@ -198,6 +201,7 @@ fn raise_from<S: Alter>(conn: &mut Connection<S>, form: u64) -> Result<(), Store
         → OnOk result (IsNamedIn newest_form owner cluster last floor (new.now.trees 0))) }
     ensures crash { AfterReady S.Store conn.old conn.new (λ old new. (last floor : ℕ) (owner cluster : List ℕ) → IsNamedIn form owner cluster last floor (old.now.trees 0)
         → Leaves old new (λ db. (form ≡ 1) × IsSound log_schema db × (db 1 ≡ old.now.trees 1) × IsNamedIn newest_form owner cluster last floor (db 0))) }
+    ensures still { form ≢ 1 → conn.new ≡ conn.old }
     ensures clean { KeepsDoubt S.Store conn.old conn.new }
 {
     if form == 1 {
@@ -218,6 +222,8 @@ fn make_tables<S: Alter>(conn: &mut Connection<S>) -> Result<(), LogError>
     ensures crash { AfterAny S.Store conn.old conn.new (λ old new. Leaves old new (Grows old.now)) }
     ensures whole { AfterAny S.Store conn.old conn.new (λ old _. (made : Made) → old.now.schema ≡ schema_with made
         → (made ≡ Made.Meta → meta_found made old.now.trees ≡ []) → IfErr result IsStoreError) }
+    // Inside a transaction nothing else is looked at.
+    ensures busy { (state S.Store conn.old).in_transaction ≡ true → MatchResult result (λ _. ⊥) IsStoreError }
     ensures clean { KeepsDoubt S.Store conn.old conn.new }
     ensures fault { IfErr result IsMakingFault }
 {
