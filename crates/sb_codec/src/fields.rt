@@ -254,7 +254,10 @@ impl<'a> Fields<'a> {
         ensures { Reads (λ x. x) (entry_field self.old) result self.new }
     {
         let entry = self.entry(alloc)?;
-        Ok(SharedEntry::new(alloc, entry)?)
+        match SharedEntry::new(alloc, entry) {
+            Ok(shared) => Ok(shared),
+            Err(_) => Err(Refusal::Memory),
+        }
     }
 
     #[tactic(auto, unfolding(crate::specs::Reading::block_field))]
