@@ -10,7 +10,7 @@ ghost use Rattle.sb_audit.specs.Search.{own_beside, reason_beside, reason_by_key
 
 use crate::same::{entry_at, entry_of, is_same_slot};
 use sb_table::Table;
-use sb_types::{Block, Entry, Slot};
+use sb_types::{Block, Entry, SharedEntry, Slot};
 
 /// Why the log of a node never gave an entry that a block of the node's own name has. The node's own table shows it. If
 /// several reasons fit, it is the first of them.
@@ -61,13 +61,18 @@ pub fn find_own<'a>(table: &'a Table, entry: &Entry) -> Option<&'a Entry>
 }
 
 /// Returns the first of these entries that has a reason, with that reason.
-fn first_foreign<'a>(table: &Table, upto: u64, entries: &'a [Entry]) -> Option<Foreign<'a>>
+fn first_foreign<'a>(
+    table: &Table,
+    upto: u64,
+    entries: &'a [SharedEntry],
+) -> Option<Foreign<'a>>
     ensures first { option_map (λ foreign. (foreign.entry.now, foreign.reason)) result ≡ first_foreign table.now upto entries.now }
     ensures table { IsKeptTable table.now }
 {
     // Proof only: the call shows that the table keeps its limits.
     let _ = table.upto();
-    for entry in entries {
+    for shared in entries {
+        let entry = shared.entry();
         if let Some(reason) = reason_of(table, upto, entry) {
             return Some(Foreign { entry, reason });
         }
