@@ -161,9 +161,10 @@ fn up_to_its_floor(rt: &impl Abort, alloc: Global) -> Message {
 
 /// A block of a, with floor 5 and up to 3: it has the weights 2 and 3 under y and z.
 fn below_its_floor(rt: &impl Abort, alloc: Global) -> Message {
-    let [y, z] = [weighing(rt, b"y", 2, 2), weighing(rt, b"z", 3, 3)];
-    let mut entries = one(rt, alloc, shared(rt, alloc, y));
-    push(rt, &mut entries, shared(rt, alloc, z));
+    let first = shared(rt, alloc, weighing(rt, b"y", 2, 2));
+    let mut entries = one(rt, alloc, first);
+    let last = shared(rt, alloc, weighing(rt, b"z", 3, 3));
+    push(rt, &mut entries, last);
     let block = got(rt, Block::new(name(rt, b"a"), 5, 0, 3, entries));
     delta(rt, one(rt, alloc, block))
 }

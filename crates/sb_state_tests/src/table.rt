@@ -653,7 +653,7 @@ fn a_floor_makes_room(rt: HostRuntime) {
 }
 
 /// Enters a write of a later version than the progress. Refuses all others as `OutOfTurn`.
-pub fn enter_staged(stage: &mut Stage, entry: Entry) -> Result<(), Fault> {
+fn enter_staged(stage: &mut Stage, entry: Entry) -> Result<(), Fault> {
     let version = entry.version();
     if version <= stage.progress() {
         return Err(Fault::OutOfTurn(version));
