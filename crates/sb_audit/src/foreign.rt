@@ -61,11 +61,7 @@ pub fn find_own<'a>(table: &'a Table, entry: &Entry) -> Option<&'a Entry>
 }
 
 /// Returns the first of these entries that has a reason, with that reason.
-fn first_foreign<'a>(
-    table: &Table,
-    upto: u64,
-    entries: &'a [SharedEntry],
-) -> Option<Foreign<'a>>
+fn first_foreign<'a>(table: &Table, upto: u64, entries: &'a [SharedEntry]) -> Option<Foreign<'a>>
     ensures first { option_map (λ foreign. (foreign.entry.now, foreign.reason)) result ≡ first_foreign table.now upto entries.now }
     ensures table { IsKeptTable table.now }
 {

@@ -144,11 +144,7 @@ fn length_of(entry: &Option<SharedEntry>) -> u64
 }
 
 /// Returns how many bytes an item adds to a delta, by whether its owner's entries are already there.
-pub(crate) fn cost(
-    head: &Head,
-    entry: &Option<SharedEntry>,
-    place: Result<usize, usize>,
-) -> u64
+pub(crate) fn cost(head: &Head, entry: &Option<SharedEntry>, place: Result<usize, usize>) -> u64
     ensures cost { result ≡ cost_of (item_at head.now entry.now) place }
     ensures owner { is_name head.now.owner ≡ true }
     ensures most { result ≤ BLOCK_HEAD_MOST + ENTRY_LENGTH_MOST }

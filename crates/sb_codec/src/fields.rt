@@ -24,8 +24,8 @@ use sb_digest::{Digest, Pair};
 use sb_types::{
     Block, ContentRef, Delta, Entry, Form, KIND_AGES, KIND_ASK, KIND_ASK_AGES, KIND_ASK_CHANGE,
     KIND_ASK_STATUS, KIND_BYE, KIND_DELTA, KIND_DIGEST, KIND_DONE, KIND_HELLO, KIND_NODE_STATUS,
-    KIND_NOTICE, KIND_PUT, KIND_REFUSED, KIND_ROWS, Key, Kind, Name, Prefix, SharedEntry, ShortText,
-    Slot, TAG_REMOVED, Value, Write,
+    KIND_NOTICE, KIND_PUT, KIND_REFUSED, KIND_ROWS, Key, Kind, Name, Prefix, SharedEntry,
+    ShortText, Slot, TAG_REMOVED, Value, Write,
 };
 use std::alloc::Global;
 use std::marker::Model;

@@ -81,12 +81,7 @@ fn entry_behind(rt: &impl Abort, version: u64, text: &[u8]) -> Entry {
 }
 
 /// What an owner wrote under these letters, from the version after `after` on.
-fn entries_behind(
-    rt: &impl Abort,
-    alloc: Global,
-    after: u64,
-    letters: &[u8],
-) -> Vec<SharedEntry> {
+fn entries_behind(rt: &impl Abort, alloc: Global, after: u64, letters: &[u8]) -> Vec<SharedEntry> {
     let mut entries = Vec::new(alloc);
     let mut version = after;
     for letter in letters {

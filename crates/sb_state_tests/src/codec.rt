@@ -113,17 +113,15 @@ fn delta(rt: &impl Abort, blocks: Vec<Block>) -> Message {
     Message::Delta(got(rt, Delta::new(blocks)))
 }
 
-fn push_entry(
-    rt: &impl Abort,
-    entries: &mut Vec<SharedEntry>,
-    key: &[u8],
-    version: u64,
-    slot: Slot,
-)
+fn push_entry(rt: &impl Abort, entries: &mut Vec<SharedEntry>, key: &[u8], version: u64, slot: Slot)
     requires { 1 ≤ version }
 {
     let alloc = *entries.allocator();
-    push(rt, entries, shared(rt, alloc, entry(rt, key, version, slot)));
+    push(
+        rt,
+        entries,
+        shared(rt, alloc, entry(rt, key, version, slot)),
+    );
 }
 
 /// Five entries: one for each kind of slot.

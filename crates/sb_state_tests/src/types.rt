@@ -347,7 +347,12 @@ fn copies_are_equal(rt: HostRuntime) {
 /// Returns the parts that a shared entry has of its own accord, and whether it is a removal.
 fn shared_parts(shared: &SharedEntry) -> (Key, u64, bool, u64) {
     let is_removal = matches!(shared.slot(), Slot::Removed);
-    (*shared.key(), shared.version(), is_removal, shared.encoded_length())
+    (
+        *shared.key(),
+        shared.version(),
+        is_removal,
+        shared.encoded_length(),
+    )
 }
 
 #[test]

@@ -11,9 +11,7 @@
 pub mod streams;
 pub mod wire;
 
-use sb_types::{
-    BUDGET_LEAST, Block, Delta, Entry, Fault, Name, Order, RawSettings, SharedEntry,
-};
+use sb_types::{BUDGET_LEAST, Block, Delta, Entry, Fault, Name, Order, RawSettings, SharedEntry};
 use std::alloc::Global;
 
 /// Settings within their limits: a node of the cluster c1, with the least budget, two seats and a worker.

@@ -120,7 +120,13 @@ impl Block {
 
     /// Makes a block of these parts without a test. The caller has to show that `new` would accept them. It takes no
     /// memory.
-    pub fn from_parts(owner: Name, floor: u64, after: u64, upto: u64, entries: Vec<SharedEntry>) -> Block
+    pub fn from_parts(
+        owner: Name,
+        floor: u64,
+        after: u64,
+        upto: u64,
+        entries: Vec<SharedEntry>,
+    ) -> Block
         requires { are_block_parts after upto entries.items ≡ true }
         ensures { result ≡ block_of_parts owner floor after upto entries.items }
     {
