@@ -417,17 +417,18 @@ fn address(rt: &impl Abort, alloc: Global, text: &[u8], version: u64) -> Result<
     Ok(Entry::new(key(rt, text), version, slot))
 }
 
-/// Three entries of a new owner, unless there is no memory.
-fn three_addresses(rt: &impl Abort, alloc: Global) -> Result<Vec<SharedEntry>, Fault> {
+/// Nine entries of a new owner, unless there is no memory. So many that the lists of a table grow on the way.
+fn nine_addresses(rt: &impl Abort, alloc: Global) -> Result<Vec<SharedEntry>, Fault> {
     let mut entries = Vec::new(alloc);
-    entries.push(SharedEntry::new(alloc, address(rt, alloc, b"x", 1)?)?)?;
-    entries.push(SharedEntry::new(alloc, address(rt, alloc, b"y", 2)?)?)?;
-    entries.push(SharedEntry::new(alloc, address(rt, alloc, b"z", 3)?)?)?;
+    for number in 1..10 {
+        let entry = address(rt, alloc, &letters_of(number), number)?;
+        entries.push(SharedEntry::new(alloc, entry)?)?;
+    }
     Ok(entries)
 }
 
-fn three_writes(rt: &impl Abort, alloc: Global) -> Result<Block, Fault> {
-    Block::new(name(rt, b"a"), 0, 0, 3, three_addresses(rt, alloc)?)
+fn nine_writes(rt: &impl Abort, alloc: Global) -> Result<Block, Fault> {
+    Block::new(name(rt, b"a"), 0, 0, 9, nine_addresses(rt, alloc)?)
 }
 
 /// Returns how a block ends and how far its owner is then held, and the same for the second time.
@@ -438,24 +439,24 @@ fn taken_twice(holdings: &mut Holdings, block: &Block) -> (BlockEnd, u64, BlockE
     (end, held, again, holdings.upto(block.owner()))
 }
 
-/// Returns the same for three entries of a new owner, unless there is no memory before they come.
-fn three_taken(rt: &impl Abort, alloc: Global) -> Result<(BlockEnd, u64, BlockEnd, u64), Fault> {
+/// Returns the same for nine entries of a new owner, unless there is no memory before they come.
+fn nine_taken(rt: &impl Abort, alloc: Global) -> Result<(BlockEnd, u64, BlockEnd, u64), Fault> {
     let mut holdings = Holdings::new(alloc, name(rt, b"b"), Table::new(alloc))?;
-    Ok(taken_twice(&mut holdings, &three_writes(rt, alloc)?))
+    Ok(taken_twice(&mut holdings, &nine_writes(rt, alloc)?))
 }
 
 /// Whichever allocation is refused, the first entries are kept, and the rest is taken the next time.
 #[test]
 fn a_front_stays_where_memory_runs_out(rt: HostRuntime) {
-    match three_taken(&rt, rt.alloc()) {
+    match nine_taken(&rt, rt.alloc()) {
         Ok((end, held, again, upto)) => {
-            let rest = 3_u64.saturating_sub(held);
+            let rest = 9_u64.saturating_sub(held);
             let ends = if rest == 0 {
-                (BlockEnd::Taken(3), BlockEnd::Stale)
+                (BlockEnd::Taken(9), BlockEnd::Stale)
             } else {
                 (BlockEnd::NoMemory(held), BlockEnd::Taken(rest))
             };
-            same(&rt, &(end, again, upto), &(ends.0, ends.1, 3));
+            same(&rt, &(end, again, upto), &(ends.0, ends.1, 9));
         }
         Err(fault) => same(&rt, &fault, &Fault::NoMemory),
     }
