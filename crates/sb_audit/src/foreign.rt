@@ -67,9 +67,9 @@ fn first_foreign<'a>(table: &Table, upto: u64, entries: &'a [SharedEntry]) -> Op
 {
     // Proof only: the call shows that the table keeps its limits.
     let _ = table.upto();
-    for shared in entries {
-        let entry = shared.entry();
+    for entry in entries {
         if let Some(reason) = reason_of(table, upto, entry) {
+            let entry = entry.entry();
             return Some(Foreign { entry, reason });
         }
     }
@@ -77,7 +77,7 @@ fn first_foreign<'a>(table: &Table, upto: u64, entries: &'a [SharedEntry]) -> Op
 }
 
 /// Returns why the log never gave an entry of a block that reaches up to `upto`.
-fn reason_of(table: &Table, upto: u64, entry: &Entry) -> Option<Reason>
+fn reason_of(table: &Table, upto: u64, entry: &SharedEntry) -> Option<Reason>
     ensures { result ≡ reason_of table.now upto entry.now }
 {
     if entry.version() > table.upto() {
@@ -90,7 +90,7 @@ fn reason_of(table: &Table, upto: u64, entry: &Entry) -> Option<Reason>
 }
 
 /// Returns the reason, if the table has the first entry of the same version.
-fn reason_beside(own: &Entry, entry: &Entry) -> Option<Reason>
+fn reason_beside(own: &Entry, entry: &SharedEntry) -> Option<Reason>
     ensures { result ≡ reason_beside own.now entry.now }
 {
     if own.key() != entry.key() {
@@ -103,7 +103,7 @@ fn reason_beside(own: &Entry, entry: &Entry) -> Option<Reason>
 }
 
 /// Returns the reason, if the table has no entry of the same version.
-fn reason_by_key(table: &Table, upto: u64, entry: &Entry) -> Option<Reason>
+fn reason_by_key(table: &Table, upto: u64, entry: &SharedEntry) -> Option<Reason>
     ensures { result ≡ reason_by_key table.now.floor upto entry.now (entry_at entry.now.key table.now.entries) }
 {
     let Some((last, _)) = table.get(entry.key()) else {
@@ -119,7 +119,7 @@ fn reason_by_key(table: &Table, upto: u64, entry: &Entry) -> Option<Reason>
 }
 
 /// Returns the reason, if the table of this floor does not have the key.
-fn reason_without_key(floor: u64, upto: u64, entry: &Entry) -> Option<Reason>
+fn reason_without_key(floor: u64, upto: u64, entry: &SharedEntry) -> Option<Reason>
     ensures { result ≡ reason_by_key floor upto entry.now None }
 {
     if entry.version() > floor || matches!(entry.slot(), Slot::Set(_)) && floor <= upto {

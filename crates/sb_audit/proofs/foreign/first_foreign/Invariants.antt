@@ -3,5 +3,5 @@ use Rattle.sb_audit.specs.Search.{first_foreign}
 use Rattle.sb_audit.proofs.foreign.first_foreign.Given as goal
 
 -- none of the entries so far has a reason
-abbrev pub invariant-loop-shared : goal.invariant-loop-shared
-invariant-loop-shared l = first_foreign l.table l.upto (drop l.shared-index l.entries) ≡ first_foreign l.table l.upto l.entries
+abbrev pub invariant-loop-entry : goal.invariant-loop-entry
+invariant-loop-entry l = first_foreign l.table l.upto (drop l.entry-index l.entries) ≡ first_foreign l.table l.upto l.entries
