@@ -1,4 +1,0 @@
-use Rattle.attrdir.proofs.asking.answer_of.Given as goal
-
-abbrev pub ghosts-request_answer : goal.ghosts-request_answer
-ghosts-request_answer a = record { name = a.blank.name; parts = a.blank.parts }

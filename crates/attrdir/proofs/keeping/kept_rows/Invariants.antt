@@ -1,6 +1,0 @@
-use Rattle.std.proofs.Common.{◌≡◌, ◌++◌, drop}
-use Rattle.attrdir.specs.Keeping.{kept}
-use Rattle.attrdir.proofs.keeping.kept_rows.Given as goal
-
-abbrev pub invariant-loop-row : goal.invariant-loop-row
-invariant-loop-row l = l.kept.items ++ kept l.shown l.rest (drop l.row-index l.found) ≡ kept l.shown l.fn.held l.found

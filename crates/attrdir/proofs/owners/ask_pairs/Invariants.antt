@@ -1,4 +1,0 @@
-use Rattle.attrdir.proofs.owners.ask_pairs.Given as goal
-
-abbrev pub ghosts-hear_from : goal.ghosts-hear_from
-ghosts-hear_from a = record { name = a.blank.name; parts = a.blank.parts }

@@ -1,6 +1,0 @@
-use Rattle.std.proofs.Common.{◌≡◌, max, drop}
-use Rattle.attrdir.specs.Owners.{greatest_version}
-use Rattle.attrdir.proofs.owners.greatest_version.Given as goal
-
-abbrev pub invariant-loop-pair : goal.invariant-loop-pair
-invariant-loop-pair l = max l.greatest (greatest_version l.owner (drop l.pair-index l.pairs)) ≡ greatest_version l.owner l.pairs

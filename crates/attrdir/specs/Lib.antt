@@ -1,6 +1,0 @@
-pub mod Keeping
-pub mod Lines
-pub mod Beginning
-pub mod Owners
-pub mod Removals
-pub mod Rows

@@ -1,9 +1,0 @@
-pub mod Loop
-pub mod Taken
-pub mod Again
-pub mod Parts
-pub mod Bodies
-pub mod Values
-pub mod Sizes
-pub mod Laws
-pub mod Standings

@@ -1,8 +1,0 @@
-use Rattle.sb_digest.proofs.Telling.{number-held, number-above}
-use Rattle.sb_digest.proofs.laws.digests_are_true.Goals as goal
-
-pub returns-clause-held : goal.returns-clause-held
-returns-clause-held c = number-held
-
-pub returns-clause-number : goal.returns-clause-number
-returns-clause-number c held budget want from d owner floor longest covered = number-above held budget want from d owner longest covered floor

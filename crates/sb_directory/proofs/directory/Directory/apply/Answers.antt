@@ -1,7 +1,0 @@
-use Rattle.sb_directory.proofs.Entering.{delta-event}
-use Rattle.sb_directory.proofs.directory.Directory.apply.Goals as goal
-
-pub returns-clause-event : goal.returns-clause-event
-returns-clause-event g c =
-    let is = c.apply.ensures in
-    delta-event g.S.NodeTag.opening c.args.delta.now _ c.args.seat.now c.apply.new.seat c.apply.result is.begins is.due is.last_call is.ends

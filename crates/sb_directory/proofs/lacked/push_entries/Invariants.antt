@@ -1,6 +1,0 @@
-use Rattle.sb_types.specs.Runs.{above}
-use Rattle.sb_directory.proofs.Batches.{IsPushing}
-use Rattle.sb_directory.proofs.lacked.push_entries.Given as goal
-
-abbrev pub invariant-loop-entry : goal.invariant-loop-entry
-invariant-loop-entry l = IsPushing l.owner l.initial.batch l.version (above l.version l.table.entries) l.batch l.last l.entry-iterator

@@ -1,7 +1,0 @@
-pub mod Lacking
-pub mod Notes
-pub mod ViewedNodes
-pub mod Seats
-pub mod Serving
-pub mod Handling
-pub mod Risen

@@ -1,3 +1,0 @@
-pub mod Changes
-pub mod Printed
-pub mod Json

@@ -1,9 +1,0 @@
-pub mod Records
-pub mod Cause
-pub mod Puts
-pub mod Form
-pub mod Rows
-pub mod Standing
-pub mod Statements
-pub mod Sql
-pub mod Opening

@@ -1,8 +1,0 @@
-pub mod Turns
-pub mod Honesty
-pub mod Truth
-pub mod Own
-pub mod Sessions
-pub mod Told
-pub mod PushTruth
-pub mod Listed

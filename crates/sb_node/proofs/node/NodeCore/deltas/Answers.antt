@@ -1,1 +1,0 @@
-use Rattle.sb_node.proofs.node.NodeCore.deltas.Goals as goal

@@ -1,4 +1,0 @@
-use Rattle.sb_node_tests.proofs.sessions.talk.Given as goal
-
-abbrev pub ghosts-talk_on : goal.ghosts-talk_on
-ghosts-talk_on g a = record { name = a.blank.name; parts = a.blank.parts }

@@ -1,4 +1,0 @@
-pub mod Following
-pub mod Fronts
-pub mod Listing
-pub mod Ordered

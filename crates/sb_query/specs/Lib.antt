@@ -1,4 +1,0 @@
-pub mod Answers
-pub mod Pages
-pub mod Paging
-pub mod Printed

@@ -1,5 +1,0 @@
-use Rattle.std.proofs.Common.{inr}
-use Rattle.sb_run.proofs.context.NodeContext.answer_one.Goals as goal
-
-pub returns-clause-answers : goal.returns-clause-answers
-returns-clause-answers g c = let answered = c.answer_request-seat.ensures.answers in inr (answered.0, answered.1)

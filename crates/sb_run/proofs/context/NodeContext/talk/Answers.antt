@@ -1,5 +1,0 @@
-use Rattle.sb_run.proofs.Hellos.{talks_greet}
-use Rattle.sb_run.proofs.context.NodeContext.talk.Goals as goal
-
-pub returns-clause-greets : goal.returns-clause-greets
-returns-clause-greets g c = talks_greet _ _ _ _ _ _ _ _ _ _ c.session_of-session.ensures c.dial-ended.ensures.talks

@@ -1,4 +1,0 @@
-use Rattle.sb_run.proofs.serving.Serving.serve_taken.Given as goal
-
-abbrev pub ghosts-serve_counted : goal.ghosts-serve_counted
-ghosts-serve_counted g a = record { name = a.blank.name; parts = a.blank.parts }

@@ -1,6 +1,0 @@
-use Rattle.sb_run.specs.Gates.{AreShut}
-use Rattle.sb_run.specs.Pools.{IsKept}
-use Rattle.sb_run.proofs.serving.Serving.work.Given as goal
-
-abbrev pub invariant-loop : goal.invariant-loop
-invariant-loop g l = IsKept (AreShut (g.G.Gate.lets l.gate) × (g.X.Source.asks l.source → ⊥)) l.fn.seat l.current

@@ -1,9 +1,0 @@
-use Rattle.std.proofs.Common.{sym, ◌∙◌}
-use Rattle.sb_run.proofs.Arriving.{has_waited, has_missed}
-use Rattle.sb_run.proofs.waiting.read_piece.Goals as goal
-
-pub returns-in-Err-TurnsSpent-clause-reads : goal.returns-in-Err-TurnsSpent-clause-reads
-returns-in-Err-TurnsSpent-clause-reads g c = has_waited c.faults_are_of_the_bytes.ensures.kind _ _ _ _ _ _ _ c.in-Err-TurnsSpent.field-0-is c.in-Err-TurnsSpent.ensures.1
-
-pub returns-in-Err-clause-reads : goal.returns-in-Err-clause-reads
-returns-in-Err-clause-reads g c = λ is. has_missed c.faults_are_of_the_bytes.ensures.kind c.in-Err.fault _ _ _ _ _ _ c.in-Err.ensures.1 (sym c.in-Err.fault-is ∙ is)

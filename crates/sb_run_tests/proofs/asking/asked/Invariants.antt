@@ -1,4 +1,0 @@
-use Rattle.sb_run_tests.proofs.asking.asked.Given as goal
-
-abbrev pub ghosts-ask_on : goal.ghosts-ask_on
-ghosts-ask_on g a = record { name = a.blank.name; parts = a.blank.parts }

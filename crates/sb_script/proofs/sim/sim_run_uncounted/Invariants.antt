@@ -1,4 +1,0 @@
-use Rattle.sb_script.proofs.sim.sim_run_uncounted.Given as goal
-
-abbrev pub ghosts-run_on : goal.ghosts-run_on
-ghosts-run_on g a = record { name = a.blank.name; parts = a.blank.parts }

@@ -1,3 +1,0 @@
-pub mod Saying
-pub mod Talking
-pub mod PushEnds

@@ -1,6 +1,0 @@
-pub mod Handlers
-pub mod Sessions
-pub mod Taking
-pub mod Telling
-pub mod Talks
-pub mod Pushes

@@ -1,6 +1,0 @@
-use Rattle.sb_types.specs.Runs.{above}
-use Rattle.sb_views.proofs.Beginning.{IsEntering}
-use Rattle.sb_views.proofs.opening.enter_all.Given as goal
-
-abbrev pub invariant-loop-entry : goal.invariant-loop-entry
-invariant-loop-entry l = IsEntering l.owner l.initial.view (above 0 l.table.entries) l.view l.last l.entry-iterator

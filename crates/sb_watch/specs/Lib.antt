@@ -1,5 +1,0 @@
-pub mod Records
-pub mod Watches
-pub mod Hubs
-pub mod Owed
-pub mod Calls

@@ -1,4 +1,0 @@
-CREATE TABLE meta (id INTEGER PRIMARY KEY CHECK (id = 1), form INTEGER NOT NULL, owner TEXT NOT NULL, cluster TEXT NOT NULL, last INTEGER NOT NULL, floor INTEGER NOT NULL) STRICT;
-CREATE TABLE writes (k TEXT PRIMARY KEY NOT NULL, version INTEGER NOT NULL UNIQUE, tag INTEGER NOT NULL, num INTEGER, txt TEXT) STRICT;
-INSERT INTO meta VALUES (1, 2, 'a', 'c', 0, 0);
-INSERT INTO writes VALUES ('w', 1, 2, 5, NULL), ('up', 3, 3, 1, NULL), ('addr', 4, 1, NULL, '10.0.0.1:80'), ('x', 6, 0, NULL, NULL), ('note', 7, 4, NULL, 'zone b');
