@@ -4,8 +4,8 @@ use sb_log::PlainLog;
 use sb_node::NodeCore;
 use sb_table::Table;
 use sb_types::{
-    BUDGET_MOST, Block, Delta, Entry, Fault, Key, Name, Order, RawSettings, Settings, Slot,
-    VERSION_MOST, Value,
+    BUDGET_MOST, Block, Delta, Entry, Fault, Key, Name, Order, RawSettings, Settings, SharedEntry,
+    Slot, VERSION_MOST, Value,
 };
 use std::alloc::Global;
 
@@ -95,13 +95,14 @@ fn entries_of(
     after: u64,
     keys: u64,
     kinds: Kinds,
-) -> Result<Vec<Entry>, Fault> {
+) -> Result<Vec<SharedEntry>, Fault> {
     let mut entries = Vec::new(alloc);
     for turn in 0..keys {
         let key = key_at(alloc, scattered(owner, turn, keys))?;
         let value = value_at(alloc, kinds, turn.wrapping_mul(31).wrapping_add(owner))?;
         let version = after.saturating_add(turn + 1);
-        entries.push(Entry::new(key, version, Slot::Set(value)))?;
+        let entry = Entry::new(key, version, Slot::Set(value));
+        entries.push(SharedEntry::new(alloc, entry)?)?;
     }
     Ok(entries)
 }
@@ -112,7 +113,7 @@ pub(crate) fn later_entries(
     owner: u64,
     after: u64,
     keys: u64,
-) -> Result<Vec<Entry>, Fault> {
+) -> Result<Vec<SharedEntry>, Fault> {
     entries_of(alloc, owner, after, keys, Kinds::Short)
 }
 
@@ -163,16 +164,21 @@ pub(crate) fn new_node(alloc: Global, name: &[u8]) -> Result<NodeCore, Fault> {
     NodeCore::open(alloc, settings, Name::read(name)?, Table::new(alloc))
 }
 
-fn delta_of(alloc: Global, owner: Name, after: u64, entries: &[Entry]) -> Result<Delta, Fault> {
+fn delta_of(
+    alloc: Global,
+    owner: Name,
+    after: u64,
+    entries: &[SharedEntry],
+) -> Result<Delta, Fault> {
     let upto = match entries {
         [.., last] => last.version(),
         [] => after,
     };
-    let mut copies = Vec::with_capacity(alloc, entries.len())?;
+    let mut same = Vec::with_capacity(alloc, entries.len())?;
     for entry in entries {
-        copies.push(entry.copy(alloc)?)?;
+        same.push(entry.share()?)?;
     }
-    Delta::new(vec![in alloc; Block::new(owner, 0, after, upto, copies)?]?)
+    Delta::new(vec![in alloc; Block::new(owner, 0, after, upto, same)?]?)
 }
 
 /// Makes a node hear a block, in deltas of a limited length.

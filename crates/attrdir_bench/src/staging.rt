@@ -6,7 +6,7 @@ use crate::problem::Problem;
 use crate::report::{Measured, spent_since, tell};
 use crate::sample::{Kinds, blocks, holdings_of, later_entries, owner_at};
 use sb_holdings::Holdings;
-use sb_types::{Block, Entry, Fault};
+use sb_types::{Block, Fault, SharedEntry};
 use std::alloc::Global;
 use std::time::CpuClock;
 
@@ -21,7 +21,10 @@ struct Later {
 }
 
 /// The last of the entries, and the others.
-fn parted(alloc: Global, entries: Vec<Entry>) -> Result<(Vec<Entry>, Vec<Entry>), Fault> {
+fn parted(
+    alloc: Global,
+    entries: Vec<SharedEntry>,
+) -> Result<(Vec<SharedEntry>, Vec<SharedEntry>), Fault> {
     let mut first = entries;
     let mut last = Vec::new(alloc);
     if let Some(entry) = first.pop() {

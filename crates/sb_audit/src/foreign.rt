@@ -10,7 +10,7 @@ ghost use Rattle.sb_audit.specs.Search.{own_beside, reason_beside, reason_by_key
 
 use crate::same::{entry_at, entry_of, is_same_slot};
 use sb_table::Table;
-use sb_types::{Block, Entry, Slot};
+use sb_types::{Block, Entry, SharedEntry, Slot};
 
 /// Why the log of a node never gave an entry that a block of the node's own name has. The node's own table shows it. If
 /// several reasons fit, it is the first of them.
@@ -61,7 +61,7 @@ pub fn find_own<'a>(table: &'a Table, entry: &Entry) -> Option<&'a Entry>
 }
 
 /// Returns the first of these entries that has a reason, with that reason.
-fn first_foreign<'a>(table: &Table, upto: u64, entries: &'a [Entry]) -> Option<Foreign<'a>>
+fn first_foreign<'a>(table: &Table, upto: u64, entries: &'a [SharedEntry]) -> Option<Foreign<'a>>
     ensures first { option_map (λ foreign. (foreign.entry.now, foreign.reason)) result ≡ first_foreign table.now upto entries.now }
     ensures table { IsKeptTable table.now }
 {
@@ -69,6 +69,7 @@ fn first_foreign<'a>(table: &Table, upto: u64, entries: &'a [Entry]) -> Option<F
     let _ = table.upto();
     for entry in entries {
         if let Some(reason) = reason_of(table, upto, entry) {
+            let entry = entry.entry();
             return Some(Foreign { entry, reason });
         }
     }
@@ -76,7 +77,7 @@ fn first_foreign<'a>(table: &Table, upto: u64, entries: &'a [Entry]) -> Option<F
 }
 
 /// Returns why the log never gave an entry of a block that reaches up to `upto`.
-fn reason_of(table: &Table, upto: u64, entry: &Entry) -> Option<Reason>
+fn reason_of(table: &Table, upto: u64, entry: &SharedEntry) -> Option<Reason>
     ensures { result ≡ reason_of table.now upto entry.now }
 {
     if entry.version() > table.upto() {
@@ -89,7 +90,7 @@ fn reason_of(table: &Table, upto: u64, entry: &Entry) -> Option<Reason>
 }
 
 /// Returns the reason, if the table has the first entry of the same version.
-fn reason_beside(own: &Entry, entry: &Entry) -> Option<Reason>
+fn reason_beside(own: &Entry, entry: &SharedEntry) -> Option<Reason>
     ensures { result ≡ reason_beside own.now entry.now }
 {
     if own.key() != entry.key() {
@@ -102,7 +103,7 @@ fn reason_beside(own: &Entry, entry: &Entry) -> Option<Reason>
 }
 
 /// Returns the reason, if the table has no entry of the same version.
-fn reason_by_key(table: &Table, upto: u64, entry: &Entry) -> Option<Reason>
+fn reason_by_key(table: &Table, upto: u64, entry: &SharedEntry) -> Option<Reason>
     ensures { result ≡ reason_by_key table.now.floor upto entry.now (entry_at entry.now.key table.now.entries) }
 {
     let Some((last, _)) = table.get(entry.key()) else {
@@ -118,7 +119,7 @@ fn reason_by_key(table: &Table, upto: u64, entry: &Entry) -> Option<Reason>
 }
 
 /// Returns the reason, if the table of this floor does not have the key.
-fn reason_without_key(floor: u64, upto: u64, entry: &Entry) -> Option<Reason>
+fn reason_without_key(floor: u64, upto: u64, entry: &SharedEntry) -> Option<Reason>
     ensures { result ≡ reason_by_key floor upto entry.now None }
 {
     if entry.version() > floor || matches!(entry.slot(), Slot::Set(_)) && floor <= upto {

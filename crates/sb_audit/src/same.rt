@@ -6,7 +6,7 @@ ghost use Rattle.sb_types.specs.Runs.{are_ascending, entry_at};
 ghost use Rattle.sb_audit.specs.Search.{entry_of, is_same_slot};
 
 use sb_table::{Table, entries_above};
-use sb_types::{Entry, Key, Slot};
+use sb_types::{Entry, Key, SharedEntry, Slot};
 
 /// Returns whether two slots are equal.
 pub(crate) fn is_same_slot(slot: &Slot, other: &Slot) -> bool
@@ -34,7 +34,7 @@ pub(crate) fn entry_of(table: &Table, version: u64) -> Option<&Entry>
 /// Returns the entry of a version in a list, by a search of the half in which it is. The versions have to ascend, and
 /// the version has to be at least 1.
 #[tactic(auto, using(crate::proofs::Versions::entry_above, crate::proofs::Versions::front_none, crate::proofs::Versions::front_same, crate::proofs::Versions::front_apart))]
-pub(crate) fn entry_among(entries: &[Entry], version: u64) -> Option<&Entry>
+pub(crate) fn entry_among(entries: &[SharedEntry], version: u64) -> Option<&SharedEntry>
     requires version { 1 ≤ version }
     requires ascending { are_ascending 0 entries.now ≡ true }
     ensures { option_copied result ≡ entry_of version entries.now }

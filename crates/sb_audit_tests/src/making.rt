@@ -2,7 +2,7 @@
 
 use sb_audit::{Reason, find_foreign, find_missing};
 use sb_table::Table;
-use sb_types::{Block, Entry, Fault, Key, Name, Slot, Value};
+use sb_types::{Block, Entry, Fault, Key, Name, SharedEntry, Slot, Value};
 use std::alloc::Global;
 use std::fmt::Debug;
 use std::process::Abort;
@@ -33,6 +33,13 @@ pub(crate) fn setting(rt: &impl Abort, key: &[u8], version: u64, weight: u64) ->
 pub(crate) fn removing(rt: &impl Abort, key: &[u8], version: u64) -> Entry {
     let key = got(rt, Key::read(key));
     Entry::new(key, version.max(1), Slot::Removed)
+}
+
+/// Puts an entry at the end of a list, for a block or a table.
+pub(crate) fn add(rt: &impl Abort, entries: &mut Vec<SharedEntry>, entry: Entry) {
+    let alloc = *entries.allocator();
+    let shared = got(rt, SharedEntry::new(alloc, entry));
+    got(rt, entries.push(shared));
 }
 
 /// Enters a write of a later version than all that the table has. Refuses all others as `OutOfTurn`.
@@ -76,9 +83,9 @@ pub(crate) fn purge(table: &mut Table, floor: u64) {
 /// The block of the entries above a version, as whoever holds the table sends it.
 pub(crate) fn block_above(rt: &impl Abort, alloc: Global, table: &Table, after: u64) -> Block {
     let mut entries = Vec::new(alloc);
-    for entry in table.after(after) {
-        let copy = got(rt, entry.copy(alloc));
-        got(rt, entries.push(copy));
+    for entry in table.shared_after(after) {
+        let same = got(rt, entry.share());
+        got(rt, entries.push(same));
     }
     let name = got(rt, Name::read(b"a"));
     got(

@@ -1,9 +1,9 @@
 //! Each reason for which an entry is foreign, and each own entry that a block may lack, one at a time.
 
-use crate::making::{got, removing, same_at, setting};
+use crate::making::{add, got, removing, same_at, setting};
 use sb_audit::{Reason, find_foreign, find_missing};
 use sb_table::Table;
-use sb_types::{Block, Entry, Name};
+use sb_types::{Block, Entry, Name, SharedEntry};
 use std::alloc::Global;
 use std::process::Abort;
 
@@ -11,17 +11,17 @@ use std::process::Abort;
 /// 4 and 7 were of keys that were written again.
 fn own_table(rt: &impl Abort, alloc: Global) -> Table {
     let mut entries = Vec::new(alloc);
-    got(rt, entries.push(setting(rt, b"b", 3, 3)));
-    got(rt, entries.push(removing(rt, b"c", 5)));
-    got(rt, entries.push(setting(rt, b"a", 6, 6)));
-    got(rt, entries.push(setting(rt, b"d", 8, 8)));
+    add(rt, &mut entries, setting(rt, b"b", 3, 3));
+    add(rt, &mut entries, removing(rt, b"c", 5));
+    add(rt, &mut entries, setting(rt, b"a", 6, 6));
+    add(rt, &mut entries, setting(rt, b"d", 8, 8));
     got(rt, Table::restored(alloc, 8, 2, entries))
 }
 
 /// A floor, the version after which a block begins, and the one up to which it reaches.
 type Bounds = (u64, u64, u64);
 
-fn block_of(rt: &impl Abort, entries: Vec<Entry>, bounds: Bounds) -> Block {
+fn block_of(rt: &impl Abort, entries: Vec<SharedEntry>, bounds: Bounds) -> Block {
     let (floor, after, upto) = bounds;
     let name = got(rt, Name::read(b"a"));
     got(rt, Block::new(name, floor, after, upto, entries))
@@ -31,7 +31,7 @@ fn block_of(rt: &impl Abort, entries: Vec<Entry>, bounds: Bounds) -> Block {
 fn assert_reason(rt: &impl Abort, alloc: Global, entry: Entry, upto: u64, wanted: Option<Reason>) {
     let version = entry.version();
     let mut entries = Vec::new(alloc);
-    got(rt, entries.push(entry));
+    add(rt, &mut entries, entry);
     let block = block_of(rt, entries, (0, 0, upto));
     let table = own_table(rt, alloc);
     let reason = match find_foreign(&table, &block) {
@@ -106,10 +106,10 @@ fn assert_missing(
     let is_between = more.version() < 6;
     let a = setting(rt, b"a", 6, 6);
     let mut entries = Vec::new(alloc);
-    got(rt, entries.push(setting(rt, b"b", 3, weight)));
+    add(rt, &mut entries, setting(rt, b"b", 3, weight));
     let (first, second) = if is_between { (more, a) } else { (a, more) };
-    got(rt, entries.push(first));
-    got(rt, entries.push(second));
+    add(rt, &mut entries, first);
+    add(rt, &mut entries, second);
     let block = block_of(rt, entries, bounds);
     let table = own_table(rt, alloc);
     let missing = match find_missing(&table, &block) {

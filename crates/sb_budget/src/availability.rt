@@ -14,7 +14,6 @@ use std::alloc::Global;
 
 /// Adds what the table has above a version.
 fn offer(
-    alloc: Global,
     offered: &mut Vec<Offered>,
     owner: Name,
     table: &OfferedTable<'_>,
@@ -25,13 +24,12 @@ fn offer(
 {
     match table.count_after(number) {
         0 => offer_news(offered, owner, table, number),
-        count => offer_entries(alloc, offered, owner, table, number, count),
+        count => offer_entries(offered, owner, table, number, count),
     }
 }
 
 /// Adds each entry that the table has above a version. `count` is how many these are.
 fn offer_entries(
-    alloc: Global,
     offered: &mut Vec<Offered>,
     owner: Name,
     table: &OfferedTable<'_>,
@@ -45,7 +43,7 @@ fn offer_entries(
     let (floor, upto) = (table.floor(), table.upto());
     let mut rank = 0;
     for entry in table.after(number) {
-        let entry = entry.copy(alloc)?;
+        let entry = entry.share()?;
         offered.push(Offered {
             owner,
             floor,
@@ -104,7 +102,7 @@ pub fn available(alloc: Global, holdings: &Holdings, digest: &Digest) -> Result<
         if digest.covers(owner) {
             let (table, number, next) = OfferedTable::for_peer(digest, owner, table, place);
             place = next;
-            offer(alloc, &mut offered, *owner, &table, number)?;
+            offer(&mut offered, *owner, &table, number)?;
         }
     }
     Ok(offered)

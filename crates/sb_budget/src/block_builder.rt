@@ -11,8 +11,8 @@ ghost use Rattle.sb_budget.specs.BlocksByOwner.{item_at, block_with_entry, block
 
 use crate::head::Head;
 use sb_types::{
-    BLOCK_HEAD_MOST, BYTE_LENGTH, Block, COUNT_LENGTH, ENTRY_LENGTH_MOST, Entry, Fault,
-    NUMBER_LENGTH, Name,
+    BLOCK_HEAD_MOST, BYTE_LENGTH, Block, COUNT_LENGTH, ENTRY_LENGTH_MOST, Fault, NUMBER_LENGTH,
+    Name, SharedEntry,
 };
 use std::alloc::Global;
 use std::marker::Model;
@@ -24,7 +24,7 @@ const BLOCK_START: u64 = BYTE_LENGTH + 3 * NUMBER_LENGTH + COUNT_LENGTH;
 #[derive(Drop)]
 pub(crate) struct BlockBuilder {
     head: Head,
-    entries: Vec<Entry>,
+    entries: Vec<SharedEntry>,
 }
 
 impl Model for BlockBuilder {
@@ -39,7 +39,7 @@ impl Model for BlockBuilder {
 
 impl BlockBuilder {
     /// Makes the block of an owner's first item. The only fault is `NoMemory`.
-    fn new(alloc: Global, head: Head, entry: Option<Entry>) -> Result<BlockBuilder, Fault>
+    fn new(alloc: Global, head: Head, entry: Option<SharedEntry>) -> Result<BlockBuilder, Fault>
         ensures begun { IfOk result (λ g. g ≡ block_of_item (item_at head entry)) }
         ensures memory { IfErr result (λ fault. fault ≡ Fault.NoMemory) }
     {
@@ -56,7 +56,7 @@ impl BlockBuilder {
         &self.head.owner
     }
 
-    fn push(&mut self, entry: Option<Entry>) -> Result<(), Fault>
+    fn push(&mut self, entry: Option<SharedEntry>) -> Result<(), Fault>
         ensures grown { OnOk result (self.new ≡ block_with_entry self.old entry) }
         ensures left { OnErr result (self.new ≡ self.old) }
         ensures memory { IfErr result (λ fault. fault ≡ Fault.NoMemory) }
@@ -85,7 +85,7 @@ impl BlockBuilder {
 }
 
 /// Returns the version of the last entry, or the one before if there is no entry.
-fn last_of(before: u64, entries: &[Entry]) -> u64
+fn last_of(before: u64, entries: &[SharedEntry]) -> u64
     ensures { result ≡ last_version before entries.now }
 {
     match entries {
@@ -133,7 +133,7 @@ fn is_at(gathered: &[BlockBuilder], owner: &Name, place: usize) -> bool
 }
 
 /// Returns how many bytes an entry takes, or 0 if there is no entry.
-fn length_of(entry: &Option<Entry>) -> u64
+fn length_of(entry: &Option<SharedEntry>) -> u64
     ensures length { result ≡ option_map_or (λ e. entry_length e) entry.now 0 }
     ensures most { result ≤ ENTRY_LENGTH_MOST }
 {
@@ -144,7 +144,7 @@ fn length_of(entry: &Option<Entry>) -> u64
 }
 
 /// Returns how many bytes an item adds to a delta, by whether its owner's entries are already there.
-pub(crate) fn cost(head: &Head, entry: &Option<Entry>, place: Result<usize, usize>) -> u64
+pub(crate) fn cost(head: &Head, entry: &Option<SharedEntry>, place: Result<usize, usize>) -> u64
     ensures cost { result ≡ cost_of (item_at head.now entry.now) place }
     ensures owner { is_name head.now.owner ≡ true }
     ensures most { result ≤ BLOCK_HEAD_MOST + ENTRY_LENGTH_MOST }
@@ -163,7 +163,7 @@ pub(crate) fn put(
     gathered: &mut Vec<BlockBuilder>,
     place: Result<usize, usize>,
     head: Head,
-    entry: Option<Entry>,
+    entry: Option<SharedEntry>,
 ) -> Result<(), Fault>
     requires { IsSearchInRange place (length gathered.old.items) }
     ensures placed { OnOk result (gathered.new.items ≡ blocks_with_item place (item_at head entry) gathered.old.items) }

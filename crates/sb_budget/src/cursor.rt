@@ -11,7 +11,7 @@ use crate::head::Head;
 use crate::offered_table::{LiveEntries, OfferedTable};
 use sb_digest::Digest;
 use sb_holdings::Holdings;
-use sb_types::{Entry, Fault, Name};
+use sb_types::{Fault, Name, SharedEntry};
 use std::alloc::Global;
 use std::marker::Model;
 
@@ -20,7 +20,7 @@ use std::marker::Model;
 struct Place<'a> {
     /// How many of the owner's offered entries come before this one.
     rank: u64,
-    entry: &'a Entry,
+    entry: &'a SharedEntry,
     later: LiveEntries<'a>,
 }
 
@@ -110,7 +110,7 @@ impl<'a> Cursor<'a> {
     }
 
     /// Returns the next item's entry, if it has one, and the cursor of the items after it, if there are any.
-    pub fn split_first(self) -> (Option<&'a Entry>, Option<Cursor<'a>>)
+    pub fn split_first(self) -> (Option<&'a SharedEntry>, Option<Cursor<'a>>)
         ensures entry { option_copied result.0 ≡ self.entry.next.entry }
         ensures later { result.1 ≡ part_of self.entry.later }
     {

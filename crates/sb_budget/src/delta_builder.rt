@@ -8,8 +8,8 @@ ghost use Rattle.sb_budget.specs.Making.{IsFrontOf, AfterNext, left_by};
 use crate::block_builder::{BlockBuilder, cost, place_near, place_of, put};
 use crate::head::Head;
 use sb_types::{
-    BUDGET_LEAST, BUDGET_MOST, BYTE_LENGTH, Block, COUNT_LENGTH, Delta, Entry, Fault,
-    HEADER_LENGTH, Name,
+    BUDGET_LEAST, BUDGET_MOST, BYTE_LENGTH, Block, COUNT_LENGTH, Delta, Fault, HEADER_LENGTH, Name,
+    SharedEntry,
 };
 use std::alloc::Global;
 use std::marker::Model;
@@ -57,7 +57,7 @@ impl DeltaBuilder {
     /// Takes the next item if the frame has room for it, and returns whether it had. The first item of all always has
     /// room. The block of an owner has the head of the owner's first item. The only fault is `NoMemory`. An item that
     /// is not taken is dropped, and the delta stays as it was.
-    pub fn push(&mut self, head: Head, entry: Option<Entry>) -> Result<bool, Fault>
+    pub fn push(&mut self, head: Head, entry: Option<SharedEntry>) -> Result<bool, Fault>
         ensures next { IfOk result (λ taken. (budget : ℕ) (front : List Item) → IsFrontOf budget front self.old → AfterNext budget front (item_at head entry) taken self.new) }
         ensures left { IfOk result (λ taken. taken ≡ false → self.new ≡ self.old) }
         ensures err { OnErr result (self.new ≡ self.old) }

@@ -4,7 +4,7 @@ ghost use Rattle.sb_budget.specs.Making.{head_of};
 ghost use Rattle.sb_budget.specs.Orders.{version_of};
 
 use crate::head::Head;
-use sb_types::{Entry, Name};
+use sb_types::{Name, SharedEntry};
 
 /// An item that a peer lacks, with what an order and a cut have to know of it. The item is an entry, or only the news
 /// of how far the sender holds an owner.
@@ -25,7 +25,7 @@ pub struct Offered {
     pub count: u64,
     /// The write. It is `None` if the sender has no entry above `after`, but holds the owner further. Then this is the
     /// owner's only item.
-    pub entry: Option<Entry>,
+    pub entry: Option<SharedEntry>,
 }
 
 impl Offered {

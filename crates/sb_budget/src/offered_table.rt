@@ -6,13 +6,13 @@ ghost use Rattle.sb_table.specs.Floors.{IsKeptTable, table_at_floor};
 ghost use Rattle.sb_budget.specs.Available.{number_for, offered_table};
 
 use sb_digest::Digest;
-use sb_table::{After, Table};
-use sb_types::{Entry, Name, Slot};
+use sb_table::{SharedAfter, Table};
+use sb_types::{Name, SharedEntry, Slot};
 use std::iter::FusedIterator;
 use std::marker::Model;
 
 /// Returns whether an entry is still there under a purge floor: it is a value, or its version is above the floor.
-fn is_live(entry: &Entry, floor: u64) -> bool
+fn is_live(entry: &SharedEntry, floor: u64) -> bool
     ensures { result ≡ (is_set entry.now.slot || nat_lt floor entry.now.version) }
 {
     match entry.slot() {
@@ -24,7 +24,7 @@ fn is_live(entry: &Entry, floor: u64) -> bool
 /// Iterates over entries in ascending version, without the tombstones (markers of removed keys) up to a floor.
 #[derive(Drop)]
 pub(crate) struct LiveEntries<'a> {
-    entries: After<'a>,
+    entries: SharedAfter<'a>,
     floor: u64,
 }
 
@@ -41,7 +41,7 @@ impl<'a> Model for LiveEntries<'a> {
 }
 
 impl<'a> LiveEntries<'a> {
-    fn new(entries: After<'a>, floor: u64) -> LiveEntries<'a>
+    fn new(entries: SharedAfter<'a>, floor: u64) -> LiveEntries<'a>
         requires { length (live_entries floor entries) < 2 ^ 63 }
         ensures { result ≡ live_entries floor entries.entry }
     {
@@ -51,7 +51,7 @@ impl<'a> LiveEntries<'a> {
 
 /// Takes the entries up to the first one that is live, and returns that one.
 #[tactic(auto, using(crate::proofs::OfferedLemmas::first_gone, crate::proofs::OfferedLemmas::first_stays))]
-fn next_live<'a>(entries: &mut After<'a>, floor: u64) -> Option<&'a Entry>
+fn next_live<'a>(entries: &mut SharedAfter<'a>, floor: u64) -> Option<&'a SharedEntry>
     ensures { MatchOption result ((live_entries floor entries.old ≡ []) × (live_entries floor entries.new ≡ [])) (λ entry. live_entries floor entries.old ≡ entry.now ∷ live_entries floor entries.new) }
 {
     while let Some(entry) = entries.next() {
@@ -63,13 +63,13 @@ fn next_live<'a>(entries: &mut After<'a>, floor: u64) -> Option<&'a Entry>
 }
 
 impl<'a> Iterator for LiveEntries<'a> {
-    type Item = &'a Entry;
+    type Item = &'a SharedEntry;
 
     ghost next_gives = { YieldsFirstRef (λ it. it) };
 
     ghost remaining = { item_count (λ it. it) };
 
-    fn next(&mut self) -> Option<&'a Entry> {
+    fn next(&mut self) -> Option<&'a SharedEntry> {
         next_live(&mut self.entries, self.floor)
     }
 }
@@ -143,11 +143,11 @@ impl<'a> OfferedTable<'a> {
         self.table.upto()
     }
 
-    /// Returns the entries above a version, in ascending version. It takes no memory.
+    /// Returns the entries above a version, in ascending version, to be shared with a delta. It takes no memory.
     pub(crate) fn after(&self, version: u64) -> LiveEntries<'a>
         ensures entries { result ≡ newer_entries version self.now.entries }
     {
-        LiveEntries::new(self.table.after(version), self.floor)
+        LiveEntries::new(self.table.shared_after(version), self.floor)
     }
 
     /// Returns how many entries there are above a version. It takes one step for each, except above version 0 of a table

@@ -8,7 +8,7 @@ ghost use Rattle.sb_budget.specs.Turns.{in_turns};
 
 use crate::cursor::Cursor;
 use crate::delta_builder::DeltaBuilder;
-use sb_types::{BUDGET_LEAST, BUDGET_MOST, Delta, Entry, Fault};
+use sb_types::{BUDGET_LEAST, BUDGET_MOST, Delta, Fault, SharedEntry};
 use std::alloc::Global;
 use std::collections::VecDeque;
 
@@ -21,13 +21,13 @@ pub enum Turns {
     Last,
 }
 
-/// Returns a copy of the entry, if there is one. The only fault is `NoMemory`.
-fn copied(alloc: Global, entry: Option<&Entry>) -> Result<Option<Entry>, Fault>
-    ensures copied { IfOk result (λ copy. copy ≡ option_copied entry.entry) }
+/// Returns the same entry once more, if there is one. The only fault is `NoMemory`.
+fn share_entry(entry: Option<&SharedEntry>) -> Result<Option<SharedEntry>, Fault>
+    ensures same { IfOk result (λ same. same ≡ option_copied entry.entry) }
     ensures memory { IfErr result (λ fault. fault ≡ Fault.NoMemory) }
 {
     match entry {
-        Some(entry) => Ok(Some(entry.copy(alloc)?)),
+        Some(entry) => Ok(Some(entry.share()?)),
         None => Ok(None),
     }
 }
@@ -65,7 +65,7 @@ pub fn cut_in_turns(
     while let Some(cursor) = queue.pop_front() {
         let (owner, head) = (cursor.owner(), cursor.head());
         let (first, later) = cursor.split_first();
-        let entry = copied(alloc, first)?;
+        let entry = share_entry(first)?;
         if !making.push(head, entry)? {
             making.leave(owner);
             leave_all(&mut making, queue);

@@ -24,8 +24,8 @@ use sb_digest::{Digest, Pair};
 use sb_types::{
     Block, ContentRef, Delta, Entry, Form, KIND_AGES, KIND_ASK, KIND_ASK_AGES, KIND_ASK_CHANGE,
     KIND_ASK_STATUS, KIND_BYE, KIND_DELTA, KIND_DIGEST, KIND_DONE, KIND_HELLO, KIND_NODE_STATUS,
-    KIND_NOTICE, KIND_PUT, KIND_REFUSED, KIND_ROWS, Key, Kind, Name, Prefix, ShortText, Slot,
-    TAG_REMOVED, Value, Write,
+    KIND_NOTICE, KIND_PUT, KIND_REFUSED, KIND_ROWS, Key, Kind, Name, Prefix, SharedEntry,
+    ShortText, Slot, TAG_REMOVED, Value, Write,
 };
 use std::alloc::Global;
 use std::marker::Model;
@@ -237,7 +237,7 @@ impl<'a> Fields<'a> {
     }
 
     #[tactic(auto, unfolding(crate::specs::Reading::entry_field))]
-    pub(crate) fn entry(&mut self, alloc: Global) -> Result<Entry, Refusal>
+    fn entry(&mut self, alloc: Global) -> Result<Entry, Refusal>
         ensures { Reads (λ x. x) (entry_field self.old) result self.new }
     {
         let key = self.key()?;
@@ -247,6 +247,17 @@ impl<'a> Fields<'a> {
         }
         let slot = self.slot(alloc)?;
         Ok(Entry::new(key, version, slot))
+    }
+
+    /// Reads an entry, and puts it on the heap.
+    pub(crate) fn shared_entry(&mut self, alloc: Global) -> Result<SharedEntry, Refusal>
+        ensures { Reads (λ x. x) (entry_field self.old) result self.new }
+    {
+        let entry = self.entry(alloc)?;
+        match SharedEntry::new(alloc, entry) {
+            Ok(shared) => Ok(shared),
+            Err(_) => Err(Refusal::Memory),
+        }
     }
 
     #[tactic(auto, unfolding(crate::specs::Reading::block_field))]

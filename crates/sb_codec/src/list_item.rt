@@ -7,7 +7,7 @@ use crate::writing::{
     write_age, write_block, write_entry, write_figure, write_pair, write_peer, write_row,
 };
 use sb_digest::Pair;
-use sb_types::{Block, Entry};
+use sb_types::{Block, SharedEntry};
 use std::alloc::{AllocError, Global};
 
 /// An item of a counted list.
@@ -41,7 +41,7 @@ pub(crate) trait ListItem: Drop {
     ghost reached: { (item : Self) × (field (spelling item) ≡ Some (item, [])) × (length (spelling item) ≡ LEAST) };
 }
 
-impl ListItem for Entry {
+impl ListItem for SharedEntry {
     ghost use Rattle.std.specs.Prelude.{◌<◌};
     ghost use Rattle.std.proofs.Common.{lit<};
     ghost use Rattle.sb_codec.specs.Spelling.{entry};
@@ -61,8 +61,8 @@ impl ListItem for Entry {
 
     ghost reached = { entry_reached };
 
-    fn read(alloc: Global, fields: &mut Fields<'_>) -> Result<Entry, Refusal> {
-        fields.entry(alloc)
+    fn read(alloc: Global, fields: &mut Fields<'_>) -> Result<SharedEntry, Refusal> {
+        fields.shared_entry(alloc)
     }
 
     fn write(&self, out: &mut Vec<u8>) -> Result<(), AllocError> {

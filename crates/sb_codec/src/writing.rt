@@ -13,7 +13,7 @@ ghost use Rattle.sb_codec.specs.Spelling.{number, text, long_text, list, flag, c
 use crate::list_item::ListItem;
 use crate::message::{Figure, NodeIdentity, OwnerAge, PeerStatus, Row};
 use sb_digest::Pair;
-use sb_types::{Block, ContentRef, Entry, Key, Name, Slot, TAG_REMOVED, Value};
+use sb_types::{Block, ContentRef, Key, Name, SharedEntry, Slot, TAG_REMOVED, Value};
 use std::alloc::AllocError;
 
 /// Writes a byte after what is in `out`. Like all functions that write here, it keeps what was there before, even if it
@@ -117,7 +117,7 @@ pub(crate) fn write_slot(out: &mut Vec<u8>, value: &Slot) -> Result<(), AllocErr
 }
 
 #[tactic(auto, using(crate::proofs::Standings::stands_on), unfolding(crate::specs::Spelling::entry))]
-pub(crate) fn write_entry(out: &mut Vec<u8>, written: &Entry) -> Result<(), AllocError>
+pub(crate) fn write_entry(out: &mut Vec<u8>, written: &SharedEntry) -> Result<(), AllocError>
     ensures written { OnOk result (out.new.items ≡ out.old.items ++ entry written.now) }
     ensures stands { StandsFirst out.old.items out.new.items }
 {

@@ -5,7 +5,7 @@ ghost use Rattle.sb_handlers.specs.Forgetting as spec;
 use sb_digest::Digest;
 use sb_holdings::{BlockEnd, Report};
 use sb_session::{Handler, ReceivedDelta};
-use sb_types::{Block, Delta, Entry, Fault, Name};
+use sb_types::{Block, Delta, Fault, Name, SharedEntry};
 use std::alloc::Global;
 use std::sync::atomic::{AtomicBool, Ordering};
 
@@ -107,26 +107,26 @@ fn has_forgotten(names: &[Name], blocks: &[Block]) -> bool
         .any(|block| is_forgotten(names, block.owner()))
 }
 
-/// Copies entries. `NoMemory`.
-fn copy_entries(alloc: Global, entries: &[Entry]) -> Result<Vec<Entry>, Fault>
-    ensures equal { IfOk result (λ copies. copies.items ≡ entries.now) }
+/// The same entries once more. `NoMemory`.
+fn share_entries(alloc: Global, entries: &[SharedEntry]) -> Result<Vec<SharedEntry>, Fault>
+    ensures equal { IfOk result (λ same. same.items ≡ entries.now) }
     ensures memory { IfErr result (λ fault. fault ≡ Fault.NoMemory) }
 {
-    let mut copies = Vec::with_capacity(alloc, entries.len())?;
+    let mut same = Vec::with_capacity(alloc, entries.len())?;
     for entry in entries {
-        copies.push(entry.copy(alloc)?)?;
+        same.push(entry.share()?)?;
     }
-    Ok(copies)
+    Ok(same)
 }
 
-/// Copies a block. `NoMemory`.
+/// Copies a block, whose entries both share. `NoMemory`.
 fn copy_block(alloc: Global, block: &Block) -> Result<Block, Fault>
     ensures equal { IfOk result (λ copy. copy ≡ block.now) }
     ensures memory { IfErr result (λ fault. fault ≡ Fault.NoMemory) }
 {
     let (owner, floor) = (*block.owner(), block.floor());
     let (after, upto) = (block.after(), block.upto());
-    let entries = copy_entries(alloc, block.entries())?;
+    let entries = share_entries(alloc, block.entries())?;
     match Block::new(owner, floor, after, upto, entries) {
         Ok(copy) => Ok(copy),
         // Never: the parts are those of a block.

@@ -14,7 +14,7 @@ ghost use Rattle.sb_holdings.specs.Holders.{unnamed_block, FitsHolder, FitsStage
 
 use crate::ends::BlockEnd;
 use sb_table::{Stage, Table, entries_above};
-use sb_types::{Entry, Fault};
+use sb_types::{Entry, Fault, SharedEntry};
 use std::alloc::Global;
 use std::marker::Model;
 
@@ -122,7 +122,7 @@ impl Holder {
         floor: u64,
         after: u64,
         upto: u64,
-        entries: &[Entry],
+        entries: &[SharedEntry],
     ) -> BlockEnd
         requires run { IsRun after upto entries.now }
         requires order { after < upto }
@@ -140,18 +140,18 @@ impl Holder {
         if after > held {
             return BlockEnd::Gap;
         }
-        self.take_shown(alloc, floor, upto, entries_above(entries, held))
+        self.take_shown(floor, upto, entries_above(entries, held))
     }
 
     /// Takes later entries into the shown table. First the table's floor rises.
-    fn take_shown(&mut self, alloc: Global, floor: u64, upto: u64, new: &[Entry]) -> BlockEnd
+    fn take_shown(&mut self, floor: u64, upto: u64, new: &[SharedEntry]) -> BlockEnd
         requires run { IsRun self.old.shown.held upto new.now }
         requires floor { floor ≤ self.old.shown.held }
         ensures end { Enters (live_entries (max self.old.shown.floor floor) self.old.shown.entries) new.now result }
         ensures effect { self.new ≡ shown_taken self.old floor upto new.now result }
         ensures kept { IsKeptHolder self.new }
     {
-        let end = join(alloc, &mut self.shown, floor, upto, new);
+        let end = join(&mut self.shown, floor, upto, new);
         drop_reached(&mut self.stage, self.shown.upto());
         end
     }
@@ -163,7 +163,7 @@ impl Holder {
         floor: u64,
         after: u64,
         upto: u64,
-        entries: &[Entry],
+        entries: &[SharedEntry],
     ) -> BlockEnd
         requires run { IsRun after upto entries.now }
         requires order { after < upto }
@@ -182,7 +182,7 @@ impl Holder {
     }
 
     /// Takes those of these entries that the stage lacks into the stage.
-    fn go_on(&mut self, alloc: Global, upto: u64, entries: &[Entry]) -> BlockEnd
+    fn go_on(&mut self, alloc: Global, upto: u64, entries: &[SharedEntry]) -> BlockEnd
         requires stage { IsSomeAnd self.old.stage (λ s. GoesOn s upto entries.now) }
         ensures effect { self.new ≡ staged_by self.old (unnamed_block 0 0 upto entries.now) self.old.stage result }
         ensures end { IfSome self.old.stage (λ s. FillsStage s upto entries.now result) }
@@ -191,7 +191,7 @@ impl Holder {
         match self.stage.take() {
             Some(mut stage) => {
                 let new = entries_above(entries, stage.progress());
-                let end = fill(alloc, &mut stage, upto, new);
+                let end = fill(&mut stage, upto, new);
                 self.settle(alloc, stage, end)
             }
             None => BlockEnd::Gap,
@@ -200,7 +200,7 @@ impl Holder {
 
     /// Begins a stage with these entries, in place of the old stage if there is one. If nothing can be entered, nothing
     /// changes.
-    fn begin(&mut self, alloc: Global, floor: u64, upto: u64, entries: &[Entry]) -> BlockEnd
+    fn begin(&mut self, alloc: Global, floor: u64, upto: u64, entries: &[SharedEntry]) -> BlockEnd
         requires run { IsRun 0 upto entries.now }
         requires more { 0 < upto }
         requires beyond { self.old.shown.held < floor }
@@ -210,7 +210,7 @@ impl Holder {
     {
         let _ = &self.shown;
         let mut stage = Stage::new(alloc, floor);
-        let end = fill(alloc, &mut stage, upto, entries);
+        let end = fill(&mut stage, upto, entries);
         if stage.progress() == 0 {
             return end;
         }
@@ -291,7 +291,7 @@ fn drop_reached(stage: &mut Option<Stage>, held: u64)
 }
 
 /// Raises the table's floor, and enters later entries. If all were entered, the held version rises to `upto`.
-fn join(alloc: Global, shown: &mut Table, floor: u64, upto: u64, new: &[Entry]) -> BlockEnd
+fn join(shown: &mut Table, floor: u64, upto: u64, new: &[SharedEntry]) -> BlockEnd
     requires run { IsRun shown.old.held upto new.now }
     requires floor { floor ≤ shown.old.held }
     ensures end { Enters (live_entries (max shown.old.floor floor) shown.old.entries) new.now result }
@@ -301,7 +301,7 @@ fn join(alloc: Global, shown: &mut Table, floor: u64, upto: u64, new: &[Entry]) 
     let held = shown.upto();
     let floor = shown.floor().max(floor);
     shown.raise(held, floor);
-    match enter_shown(alloc, shown, new) {
+    match enter_shown(shown, new) {
         BlockEnd::Taken(count) => {
             shown.raise(upto, floor);
             BlockEnd::Taken(count)
@@ -311,14 +311,14 @@ fn join(alloc: Global, shown: &mut Table, floor: u64, upto: u64, new: &[Entry]) 
 }
 
 /// Enters later entries. If all were entered, the stage's progress rises to `upto`.
-fn fill(alloc: Global, stage: &mut Stage, upto: u64, new: &[Entry]) -> BlockEnd
+fn fill(stage: &mut Stage, upto: u64, new: &[SharedEntry]) -> BlockEnd
     requires stage { IsKeptStage stage.old }
     requires run { IsRun stage.old.progress upto new.now }
     ensures end { Enters stage.old.entries new.now result }
     ensures effect { stage.new ≡ stage_after_end stage.old upto new.now result }
     ensures stage { IsKeptStage stage.new }
 {
-    match enter_staged(alloc, stage, new) {
+    match enter_staged(stage, new) {
         BlockEnd::Taken(count) => {
             stage.raise(upto);
             BlockEnd::Taken(count)
@@ -327,9 +327,8 @@ fn fill(alloc: Global, stage: &mut Stage, upto: u64, new: &[Entry]) -> BlockEnd
     }
 }
 
-/// Enters a copy of a later entry, for which there is room. The only fault is `NoMemory`, which leaves the table as it
-/// was.
-fn push_shown(alloc: Global, shown: &mut Table, entry: &Entry) -> Result<(), Fault>
+/// Enters the same later entry, for which there is room. The only fault is `NoMemory`, which leaves the table as it was.
+fn push_shown(shown: &mut Table, entry: &SharedEntry) -> Result<(), Fault>
     requires later { shown.old.held < entry.now.version }
     requires room { is_full_for entry.now.key shown.old.entries ≡ false }
     ensures ok { OnOk result (shown.new ≡ with_entry shown.old entry.now) }
@@ -337,11 +336,11 @@ fn push_shown(alloc: Global, shown: &mut Table, entry: &Entry) -> Result<(), Fau
     ensures fault { IfErr result (λ fault. fault ≡ Fault.NoMemory) }
     ensures table { OnOk result (IsKeptTable shown.new) }
 {
-    shown.push(entry.copy(alloc)?)
+    shown.push_shared(entry)
 }
 
-/// Enters copies of later entries one by one, until there is no room for the next one.
-fn enter_shown(alloc: Global, shown: &mut Table, entries: &[Entry]) -> BlockEnd
+/// Enters the same later entries one by one, until there is no room for the next one.
+fn enter_shown(shown: &mut Table, entries: &[SharedEntry]) -> BlockEnd
     requires table { IsKeptTable shown.old }
     requires later { are_ascending shown.old.held entries.now ≡ true }
     requires distinct { are_distinct entries.now ≡ true }
@@ -353,16 +352,15 @@ fn enter_shown(alloc: Global, shown: &mut Table, entries: &[Entry]) -> BlockEnd
         if shown.is_full_for(entry.key()) {
             return BlockEnd::TooManyKeys(count as u64);
         }
-        if push_shown(alloc, shown, entry).is_err() {
+        if push_shown(shown, entry).is_err() {
             return BlockEnd::NoMemory(count as u64);
         }
     }
     BlockEnd::Taken(entries.len() as u64)
 }
 
-/// Enters a copy of a later entry, for which there is room. The only fault is `NoMemory`, which leaves the stage as it
-/// was.
-fn push_staged(alloc: Global, stage: &mut Stage, entry: &Entry) -> Result<(), Fault>
+/// Enters the same later entry, for which there is room. The only fault is `NoMemory`, which leaves the stage as it was.
+fn push_staged(stage: &mut Stage, entry: &SharedEntry) -> Result<(), Fault>
     requires later { stage.old.progress < entry.now.version }
     requires room { is_full_for entry.now.key stage.old.entries ≡ false }
     ensures ok { OnOk result (stage.new ≡ stage_with_entry stage.old entry.now) }
@@ -370,11 +368,11 @@ fn push_staged(alloc: Global, stage: &mut Stage, entry: &Entry) -> Result<(), Fa
     ensures fault { IfErr result (λ fault. fault ≡ Fault.NoMemory) }
     ensures stage { OnOk result (IsKeptStage stage.new) }
 {
-    stage.push(entry.copy(alloc)?)
+    stage.push_shared(entry)
 }
 
-/// Enters copies of later entries one by one, until there is no room for the next one.
-fn enter_staged(alloc: Global, stage: &mut Stage, entries: &[Entry]) -> BlockEnd
+/// Enters the same later entries one by one, until there is no room for the next one.
+fn enter_staged(stage: &mut Stage, entries: &[SharedEntry]) -> BlockEnd
     requires stage { IsKeptStage stage.old }
     requires later { are_ascending stage.old.progress entries.now ≡ true }
     requires distinct { are_distinct entries.now ≡ true }
@@ -386,7 +384,7 @@ fn enter_staged(alloc: Global, stage: &mut Stage, entries: &[Entry]) -> BlockEnd
         if stage.is_full_for(entry.key()) {
             return BlockEnd::TooManyKeys(number as u64);
         }
-        if push_staged(alloc, stage, entry).is_err() {
+        if push_staged(stage, entry).is_err() {
             return BlockEnd::NoMemory(number as u64);
         }
     }

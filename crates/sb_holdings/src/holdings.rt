@@ -21,7 +21,7 @@ use crate::ends::BlockEnd;
 use crate::holder::Holder;
 use crate::owners::{Holders, Owners, Tables};
 use sb_table::Table;
-use sb_types::{Block, Entry, Fault, Key, Name, OWNERS_MOST};
+use sb_types::{Block, Entry, Fault, Key, Name, OWNERS_MOST, SharedEntry};
 use std::alloc::Global;
 use std::collections::BTreeMap;
 use std::marker::Model;
@@ -35,6 +35,7 @@ use std::ops::Bound;
 /// let a = Name::read(b"a")?;
 /// let mut holdings = Holdings::new(alloc, Name::read(b"b")?, Table::new(alloc))?;
 /// let entry = Entry::new(Key::read(b"up")?, 1, Slot::Set(Value::flag(true)));
+/// let entry = SharedEntry::new(alloc, entry)?;
 /// let block = Block::new(a, 0, 0, 1, vec![in alloc; entry]?)?;
 /// assert_eq!(rt; holdings.apply_block(&block), BlockEnd::Taken(1));
 /// assert_eq!(rt; holdings.apply_block(&block), BlockEnd::Stale);
@@ -202,7 +203,7 @@ impl Holdings {
         self.holders.get_mut(&self.me).unwrap().purge(floor);
     }
 
-    /// Takes a block of another owner, and returns how it ended. It copies the entries one by one.
+    /// Takes a block of another owner, and returns how it ended. It shares the entries one by one, and copies none.
     ///
     /// If the block's floor is at or below the held version, the owner's table takes the block. The table's floor rises
     /// to the block's, the tombstones up to that go, and the entries above the held version are entered.
@@ -235,7 +236,7 @@ impl Holdings {
         floor: u64,
         after: u64,
         upto: u64,
-        entries: &[Entry],
+        entries: &[SharedEntry],
     ) -> BlockEnd
         requires run { IsRun after upto entries.now }
         requires order { after < upto }
@@ -300,7 +301,7 @@ impl Holdings {
         floor: u64,
         after: u64,
         upto: u64,
-        entries: &[Entry],
+        entries: &[SharedEntry],
     ) -> BlockEnd
         requires other { pointwise nat_eq owner.now self.old.me ≡ false }
         requires known { contains_key self.old.owners owner.now ≡ true }
@@ -319,7 +320,7 @@ impl Holdings {
     }
 
     /// Takes a block of a new owner. If nothing of it can be entered, the owner stays unknown.
-    fn add(&mut self, owner: &Name, floor: u64, upto: u64, entries: &[Entry]) -> BlockEnd
+    fn add(&mut self, owner: &Name, floor: u64, upto: u64, entries: &[SharedEntry]) -> BlockEnd
         requires other { pointwise nat_eq owner.now self.old.me ≡ false }
         requires unknown { get self.old.owners owner.now ≡ None }
         requires place { len self.old.owners < OWNERS_MOST }

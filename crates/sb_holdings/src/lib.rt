@@ -10,6 +10,7 @@
 //! fn apply_twice(alloc: Global) -> Result<[BlockEnd; 2], Fault> {
 //!     let mut holdings = Holdings::new(alloc, Name::read(b"b")?, Table::new(alloc))?;
 //!     let entry = Entry::new(Key::read(b"web/up")?, 1, Slot::Set(Value::flag(true)));
+//!     let entry = SharedEntry::new(alloc, entry)?;
 //!     let block = Block::new(Name::read(b"a")?, 0, 0, 1, vec![in alloc; entry]?)?;
 //!     Ok([holdings.apply_block(&block), holdings.apply_block(&block)])
 //! }

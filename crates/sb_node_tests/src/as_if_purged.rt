@@ -2,33 +2,36 @@
 ghost use Rattle.std.specs.Prelude.{◌≤◌, ◌<◌, ◌+◌};
 
 use crate::making::apply;
-use crate::{got, key, name, push, same, there};
+use crate::{got, key, name, push, push_entry, same, there};
 use sb_breadth::Breadth;
 use sb_budget::{DeltaOrder, available};
 use sb_depth::Depth;
 use sb_digest::{Digest, Pair, build};
 use sb_holdings::{BlockEnd, Holdings};
 use sb_table::Table;
-use sb_types::{BUDGET_LEAST, BUDGET_MOST, Block, Entry, Key, Slot, Value};
+use sb_types::{BUDGET_LEAST, BUDGET_MOST, Block, Entry, Key, SharedEntry, Slot, Value};
 use std::alloc::Global;
 use std::process::Abort;
 
 /// Texts of 200 bytes under these letters, in these versions. A frame of 1,024 bytes has room for four of them.
-fn texts(rt: &impl Abort, alloc: Global, writes: &[(u8, u64)]) -> Vec<Entry> {
+fn texts(rt: &impl Abort, alloc: Global, writes: &[(u8, u64)]) -> Vec<SharedEntry> {
     let mut entries = Vec::new(alloc);
     for (letter, version) in writes {
         let slot = Slot::Set(got(rt, Value::text(alloc, &[b'p'; 200])));
-        push(
-            rt,
-            &mut entries,
-            Entry::new(key(rt, &[*letter]), (*version).max(1), slot),
-        );
+        let entry = Entry::new(key(rt, &[*letter]), (*version).max(1), slot);
+        push_entry(rt, &mut entries, entry);
     }
     entries
 }
 
 /// The node a, which holds its own table of these entries.
-fn owner(rt: &impl Abort, alloc: Global, upto: u64, floor: u64, entries: Vec<Entry>) -> Holdings {
+fn owner(
+    rt: &impl Abort,
+    alloc: Global,
+    upto: u64,
+    floor: u64,
+    entries: Vec<SharedEntry>,
+) -> Holdings {
     let table = got(rt, Table::restored(alloc, upto, floor, entries));
     got(rt, Holdings::new(alloc, name(rt, b"a"), table))
 }
@@ -189,7 +192,14 @@ fn numbered(rt: &impl Abort, number: u64) -> Key {
 }
 
 /// Adds a flag, or a removal, under each of so many keys from a number on, in versions from `version` on.
-fn add(rt: &impl Abort, entries: &mut Vec<Entry>, from: u64, count: u64, version: u64, set: bool)
+fn add(
+    rt: &impl Abort,
+    entries: &mut Vec<SharedEntry>,
+    from: u64,
+    count: u64,
+    version: u64,
+    set: bool,
+)
     requires keys { from + count < 10_000 }
     requires first { 1 ≤ version }
     requires last { version < 10_000 }
@@ -200,11 +210,8 @@ fn add(rt: &impl Abort, entries: &mut Vec<Entry>, from: u64, count: u64, version
         } else {
             Slot::Removed
         };
-        push(
-            rt,
-            entries,
-            Entry::new(numbered(rt, from + at), version + at, slot),
-        );
+        let entry = Entry::new(numbered(rt, from + at), version + at, slot);
+        push_entry(rt, entries, entry);
     }
 }
 
@@ -249,11 +256,8 @@ fn held_to(rt: &impl Abort, alloc: Global, upto: u64) -> Digest {
 /// The node a, which wrote x, y and z, removed y and z, and purged up to the removal of y.
 fn half_purged(rt: &impl Abort, alloc: Global) -> Holdings {
     let mut entries = texts(rt, alloc, &[(b'x', 1)]);
-    push(
-        rt,
-        &mut entries,
-        Entry::new(key(rt, b"z"), 5, Slot::Removed),
-    );
+    let removal = Entry::new(key(rt, b"z"), 5, Slot::Removed);
+    push_entry(rt, &mut entries, removal);
     owner(rt, alloc, 5, 4, entries)
 }
 

@@ -3,7 +3,7 @@
 ghost use Rattle.std.specs.Prelude.{◌≤◌, ◌<◌};
 
 use crate::making::{address, apply, arranged, entries_in, items, longest};
-use crate::{got, key, name, push, same_at};
+use crate::{got, key, name, push, push_entry, same_at};
 use rand_core::utils::NextWord;
 use rand_pcg::Pcg32;
 use sb_breadth::Breadth;
@@ -61,11 +61,8 @@ fn round_of(
     for number in 0..=last {
         let version = round * 8 + number + 1;
         let key = key_of(rt, first + number);
-        push(
-            rt,
-            &mut entries,
-            Entry::new(key, version, slot_of(rt, alloc, random)),
-        );
+        let entry = Entry::new(key, version, slot_of(rt, alloc, random));
+        push_entry(rt, &mut entries, entry);
     }
     got(
         rt,

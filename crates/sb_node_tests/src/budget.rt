@@ -2,14 +2,15 @@
 ghost use Rattle.std.specs.Prelude.{◌≡◌, ◌≤◌, ◌<◌, IfOk, OnOk};
 
 use crate::making::{apply, items, longest, nothing, tells};
-use crate::{got, key, name, one, push, same, same_at, there};
+use crate::{got, key, name, push, same, same_at, there};
 use sb_budget::{Offered, available, cut};
 use sb_digest::{Digest, Pair};
 use sb_holdings::{BlockEnd, Holdings};
 use sb_table::Table;
 use sb_testing::{LONGEST_KEY, LONGEST_NAME, letters_of};
 use sb_types::{
-    BUDGET_LEAST, BUDGET_MOST, Block, Delta, Entry, Fault, HEADER_LENGTH, Key, Name, Slot, Value,
+    BUDGET_LEAST, BUDGET_MOST, Block, Delta, Entry, Fault, HEADER_LENGTH, Key, Name, SharedEntry,
+    Slot, Value,
 };
 use std::alloc::Global;
 use std::process::Abort;
@@ -70,7 +71,8 @@ fn three_keys(alloc: Global, owner: Name) -> Result<Holdings, Fault> {
 fn one_key(alloc: Global, owner: Name) -> Result<Block, Fault> {
     let value = Value::text(alloc, &[b'p'; 512])?;
     let entry = Entry::new(Key::read(&[b'x'; 64])?, 1, Slot::Set(value));
-    Block::new(owner, 0, 0, 1, vec![in alloc; entry]?)
+    let shared = SharedEntry::new(alloc, entry)?;
+    Block::new(owner, 0, 0, 1, vec![in alloc; shared]?)
 }
 
 /// The owner a, which wrote three keys, and the owner b, which wrote one: entries of 588 bytes.

@@ -26,7 +26,7 @@ mod purging;
 mod sessions;
 
 #[cfg(test)]
-use sb_types::{Fault, Key, Name};
+use sb_types::{Entry, Fault, Key, Name, SharedEntry};
 #[cfg(test)]
 use std::alloc::Global;
 #[cfg(test)]
@@ -85,12 +85,12 @@ fn key(rt: &impl Abort, text: &[u8]) -> Key {
     got(rt, Key::read(text))
 }
 
-/// A vector of one item.
+/// Puts an entry on the heap, and adds it to the vector.
 #[cfg(test)]
-fn one<T: Drop>(rt: &impl Abort, alloc: Global, item: T) -> Vec<T> {
-    let mut items = Vec::new(alloc);
-    push(rt, &mut items, item);
-    items
+fn push_entry(rt: &impl Abort, entries: &mut Vec<SharedEntry>, entry: Entry) {
+    let alloc = *entries.allocator();
+    let shared = got(rt, SharedEntry::new(alloc, entry));
+    push(rt, entries, shared);
 }
 
 /// Adds an item to the vector.

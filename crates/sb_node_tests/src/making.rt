@@ -2,7 +2,7 @@
 ghost use Rattle.std.specs.Prelude.{◌≡◌, IfOk};
 ghost use Rattle.sb_budget.specs.Cut.{CanCut};
 
-use crate::{got, key, push};
+use crate::{got, key, push_entry};
 use sb_budget::{DeltaOrder, Offered, available, orders_keep_owners};
 use sb_digest::Digest;
 use sb_holdings::{BlockEnd, Holdings};
@@ -16,7 +16,7 @@ pub(crate) fn block_of(rt: &impl Abort, alloc: Global, owner: Name, letters: &[u
     for (index, letter) in letters.iter().enumerate() {
         let slot = Slot::Set(Value::flag(true));
         let entry = Entry::new(key(rt, &[*letter]), index as u64 + 1, slot);
-        push(rt, &mut entries, entry);
+        push_entry(rt, &mut entries, entry);
     }
     got(rt, Block::new(owner, 0, 0, letters.len() as u64, entries))
 }

@@ -1,7 +1,7 @@
 //! News: what a peer lacks of the owners in its backlog.
 use crate::making::{apply, block_of, longest, tells};
 use crate::node::{applied, node};
-use crate::{got, key, name, push, same, same_at};
+use crate::{got, key, name, push, push_entry, same, same_at};
 use sb_budget::{Backlog, cursors_since};
 use sb_digest::{Digest, Pair};
 use sb_holdings::{BlockEnd, Holdings};
@@ -133,11 +133,8 @@ fn long_block(rt: &impl Abort, alloc: Global, owner: Name, letters: &[u8]) -> Bl
     let mut entries = Vec::new(alloc);
     for (index, letter) in letters.iter().enumerate() {
         let slot = longest(rt, alloc);
-        push(
-            rt,
-            &mut entries,
-            Entry::new(key(rt, &[*letter]), index as u64 + 1, slot),
-        );
+        let entry = Entry::new(key(rt, &[*letter]), index as u64 + 1, slot);
+        push_entry(rt, &mut entries, entry);
     }
     got(rt, Block::new(owner, 0, 0, letters.len() as u64, entries))
 }
@@ -165,7 +162,7 @@ fn news_goes_in_the_order_of_the_settings(rt: HostRuntime) {
 fn fourth(rt: &impl Abort, alloc: Global, owner: Name) -> Block {
     let mut entries = Vec::new(alloc);
     let slot = Slot::Set(Value::flag(true));
-    push(rt, &mut entries, Entry::new(key(rt, b"w"), 4, slot));
+    push_entry(rt, &mut entries, Entry::new(key(rt, b"w"), 4, slot));
     got(rt, Block::new(owner, 3, 3, 4, entries))
 }
 

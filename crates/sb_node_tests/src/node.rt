@@ -2,7 +2,7 @@
 ghost use Rattle.std.specs.Prelude.{◌≤◌};
 
 use crate::making::{longest, nothing};
-use crate::{got, holds, key, name, push, same, same_at, settled};
+use crate::{got, holds, key, name, push, push_entry, same, same_at, settled};
 use sb_holdings::{BlockEnd, Report};
 use sb_log::{Committed, PlainLog, WriteLog};
 use sb_node::NodeCore;
@@ -110,7 +110,7 @@ fn block(rt: &impl Abort, alloc: Global, owner: Name, after: u64, letters: &[u8]
     for (index, letter) in letters.iter().enumerate() {
         let version = after + index as u64 + 1;
         let entry = Entry::new(key(rt, &[*letter]), version, weight(rt, version));
-        push(rt, &mut entries, entry);
+        push_entry(rt, &mut entries, entry);
     }
     let upto = after + letters.len() as u64;
     got(rt, Block::new(owner, 0, after, upto, entries))

@@ -3,7 +3,7 @@ ghost use Rattle.std.specs.Prelude.{◌≤◌};
 ghost use Rattle.sb_budget.specs.Cut.{CanCut};
 
 use crate::making::{apply, arranged, block_of, entries_in, items, longest, nothing, tells};
-use crate::{got, key, name, push, same, same_at};
+use crate::{got, key, name, push_entry, same, same_at};
 use sb_breadth::Breadth;
 use sb_budget::{DeltaOrder, Offered, cut};
 use sb_depth::Depth;
@@ -21,7 +21,7 @@ fn long_block(rt: &impl Abort, alloc: Global, owner: Name, letters: &[u8]) -> Bl
     for (index, letter) in letters.iter().enumerate() {
         let key = key(rt, &[*letter; 64]);
         let entry = Entry::new(key, index as u64 + 1, longest(rt, alloc));
-        push(rt, &mut entries, entry);
+        push_entry(rt, &mut entries, entry);
     }
     got(rt, Block::new(owner, 0, 0, letters.len() as u64, entries))
 }

@@ -2,7 +2,7 @@
 ghost use Rattle.std.specs.Prelude.{◌≡◌, ◌<◌};
 
 use crate::node::{applied, log_of, node, write};
-use crate::{got, key, name, one, push, same, same_at, settled, there};
+use crate::{got, key, name, push, push_entry, same, same_at, settled, there};
 use sb_codec::Message;
 use sb_frames::{Connection, Steps};
 use sb_node::NodeCore;
@@ -219,11 +219,10 @@ fn faulty_frames_enter_nothing(rt: HostRuntime) {
 
 /// The flag true under k, the first write of an owner.
 fn write_of(rt: &impl Abort, alloc: Global, owner: &[u8]) -> Block {
+    let mut entries = Vec::new(alloc);
     let entry = Entry::new(key(rt, b"k"), 1, Slot::Set(Value::flag(true)));
-    got(
-        rt,
-        Block::new(name(rt, owner), 0, 0, 1, one(rt, alloc, entry)),
-    )
+    push_entry(rt, &mut entries, entry);
+    got(rt, Block::new(name(rt, owner), 0, 0, 1, entries))
 }
 
 /// One write of each of this many owners, in the order of their names.

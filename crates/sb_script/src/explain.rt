@@ -60,7 +60,7 @@ fn add_block(words: &mut String, block: &Block) -> Result<(), Fault> {
         ),
     )?;
     for entry in entries {
-        add_entry(words, block.owner(), entry)?;
+        add_entry(words, block.owner(), entry.entry())?;
     }
     Ok(())
 }

@@ -5,7 +5,7 @@ use crate::{got, name, same, same_at};
 use sb_codec::{Bye, Hello, Message};
 use sb_frames::{Frames, send, send_telling};
 use sb_testing::wire::{BYE, DELTA_A, DELTA_DESCENDING, DIGEST_A, HELLO_A};
-use sb_types::{Block, Delta, Entry, Fault, Key, Slot, Value};
+use sb_types::{Block, Delta, Entry, Fault, Key, SharedEntry, Slot, Value};
 use std::alloc::Global;
 use std::io::{self, ErrorKind, Write};
 use std::process::Abort;
@@ -133,7 +133,8 @@ fn goes_out_as(rt: &impl Abort, alloc: Global, message: &Message, frame: &[u8]) 
 fn block(rt: &impl Abort, alloc: Global) -> Block {
     let (key, weight) = (got(rt, Key::read(b"w")), got(rt, Value::weight(5)));
     let entry = Entry::new(key, 1, Slot::Set(weight));
-    let entries = got(rt, vec![in alloc; entry]);
+    let shared = got(rt, SharedEntry::new(alloc, entry));
+    let entries = got(rt, vec![in alloc; shared]);
     got(rt, Block::new(name(rt, b"a"), 0, 0, 1, entries))
 }
 

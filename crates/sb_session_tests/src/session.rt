@@ -34,8 +34,8 @@ pub(crate) struct Node {
 /// A block of an owner's table above a version, up to what is held.
 fn block_above(alloc: Global, owner: Name, table: &Table, after: u64) -> Result<Block, Fault> {
     let mut entries = Vec::new(alloc);
-    for entry in table.after(after) {
-        entries.push(entry.copy(alloc)?)?;
+    for entry in table.shared_after(after) {
+        entries.push(entry.share()?)?;
     }
     Block::new(owner, table.floor(), after, table.upto(), entries)
 }

@@ -10,14 +10,18 @@ use crate::words::{
     NO_AGES, NO_BLOCK, NO_ENTRY, NODE_STATUS, NOTICE, ONE_ENTRY, ONE_TEXT, PUT, PUT_OF_A_REMOVAL,
     REFUSED, ROWS, UP_TO_ITS_FLOOR, WRONG,
 };
-use crate::{entry, got, holds, key, name, one, push, refusal, same, same_at, weighing, weight};
+use crate::{
+    entry, got, holds, key, name, one, push, refusal, same, same_at, shared, weighing, weight,
+};
 use bytes::Bytes;
 use sb_codec::{
     Ask, Bye, Done, Hello, Message, Notice, Refused, Row, Rows, append_payload, decode_payload,
     decode_shared, encode_payload, length,
 };
 use sb_digest::{Digest, Pair};
-use sb_types::{Block, Delta, Entry, Fault, KIND_DELTA, Key, Name, Prefix, Slot, Value, Write};
+use sb_types::{
+    Block, Delta, Fault, KIND_DELTA, Key, Name, Prefix, SharedEntry, Slot, Value, Write,
+};
 use std::alloc::{AllocError, Global};
 use std::process::Abort;
 
@@ -94,7 +98,8 @@ fn assert_payload(rt: &impl Abort, alloc: Global, message: Message, words: &str)
 }
 
 fn one_block(rt: &impl Abort, alloc: Global) -> Result<Block, Fault> {
-    let entries = vec![in alloc; weighing(rt, b"w", 1, 5)]?;
+    let entry = SharedEntry::new(alloc, weighing(rt, b"w", 1, 5))?;
+    let entries = vec![in alloc; entry]?;
     Block::new(name(rt, b"a"), 0, 0, 1, entries)
 }
 
@@ -108,14 +113,19 @@ fn delta(rt: &impl Abort, blocks: Vec<Block>) -> Message {
     Message::Delta(got(rt, Delta::new(blocks)))
 }
 
-fn push_entry(rt: &impl Abort, entries: &mut Vec<Entry>, key: &[u8], version: u64, slot: Slot)
+fn push_entry(rt: &impl Abort, entries: &mut Vec<SharedEntry>, key: &[u8], version: u64, slot: Slot)
     requires { 1 ≤ version }
 {
-    push(rt, entries, entry(rt, key, version, slot));
+    let alloc = *entries.allocator();
+    push(
+        rt,
+        entries,
+        shared(rt, alloc, entry(rt, key, version, slot)),
+    );
 }
 
 /// Five entries: one for each kind of slot.
-fn five_entries(rt: &impl Abort, alloc: Global) -> Vec<Entry> {
+fn five_entries(rt: &impl Abort, alloc: Global) -> Vec<SharedEntry> {
     let mut entries = Vec::new(alloc);
     let address = got(rt, Value::addr(alloc, b"h:1"));
     push_entry(rt, &mut entries, b"a", 1, Slot::Removed);
@@ -141,15 +151,18 @@ fn no_entry(rt: &impl Abort, alloc: Global, floor: u64, after: u64, upto: u64) -
 
 /// A block of a, with floor 3 and up to 3: it has the weight 2 under y as version 2.
 fn up_to_its_floor(rt: &impl Abort, alloc: Global) -> Message {
-    let entries = one(rt, alloc, weighing(rt, b"y", 2, 2));
+    let entry = shared(rt, alloc, weighing(rt, b"y", 2, 2));
+    let entries = one(rt, alloc, entry);
     let block = got(rt, Block::new(name(rt, b"a"), 3, 0, 3, entries));
     delta(rt, one(rt, alloc, block))
 }
 
 /// A block of a, with floor 5 and up to 3: it has the weights 2 and 3 under y and z.
 fn below_its_floor(rt: &impl Abort, alloc: Global) -> Message {
-    let mut entries = one(rt, alloc, weighing(rt, b"y", 2, 2));
-    push(rt, &mut entries, weighing(rt, b"z", 3, 3));
+    let first = shared(rt, alloc, weighing(rt, b"y", 2, 2));
+    let mut entries = one(rt, alloc, first);
+    let last = shared(rt, alloc, weighing(rt, b"z", 3, 3));
+    push(rt, &mut entries, last);
     let block = got(rt, Block::new(name(rt, b"a"), 5, 0, 3, entries));
     delta(rt, one(rt, alloc, block))
 }
@@ -613,7 +626,7 @@ fn payloads_of_unknown_kinds(rt: HostRuntime) {
 }
 
 /// The bytes that hexadecimal words stand for, in a shared buffer.
-fn shared(rt: &impl Abort, alloc: Global, words: &str) -> Bytes {
+fn shared_payload(rt: &impl Abort, alloc: Global, words: &str) -> Bytes {
     let payload = bytes(rt, alloc, words);
     got(rt, Bytes::copy_from_slice(alloc, &payload))
 }
@@ -628,7 +641,7 @@ fn shared_length(alloc: Global, payload: Bytes) -> Result<u32, Fault> {
 
 /// Asserts that the words in shared bytes are read as a message with a frame of this length, or have this fault.
 fn assert_shared(rt: &impl Abort, alloc: Global, words: &str, wanted: Result<u32, Fault>) {
-    let found = shared_length(alloc, shared(rt, alloc, words));
+    let found = shared_length(alloc, shared_payload(rt, alloc, words));
     same_at(rt, &words, &found, &wanted);
 }
 

@@ -1,11 +1,11 @@
 //! Digests that are made, refused, read and built, also of as many owners as a node may hold.
 ghost use Rattle.std.specs.Prelude.{◌≤◌};
 
-use crate::{entry, got, name, one, same, same_at};
+use crate::{entry, got, name, one, same, same_at, shared};
 use sb_digest::{Digest, Pair, build};
 use sb_holdings::Holdings;
 use sb_table::Table;
-use sb_types::{BUDGET_LEAST, BUDGET_MOST, Block, Entry, Fault, Name, Slot, Value};
+use sb_types::{BUDGET_LEAST, BUDGET_MOST, Block, Entry, Fault, Name, SharedEntry, Slot, Value};
 use std::alloc::{AllocError, Global};
 use std::process::Abort;
 
@@ -336,7 +336,8 @@ fn hold_once(rt: &impl Abort, alloc: Global, holdings: &mut Holdings, owner: &Na
 fn write(rt: &impl Abort, alloc: Global, owner: &Name, version: u64) -> Result<Block, Fault>
     requires { 1 ≤ version }
 {
-    let entries = vec![in alloc; flag(rt, version)]?;
+    let entry = SharedEntry::new(alloc, flag(rt, version))?;
+    let entries = vec![in alloc; entry]?;
     Block::new(*owner, 0, version - 1, version, entries)
 }
 
@@ -396,7 +397,8 @@ fn a_node_with_a_write_answers(rt: HostRuntime) {
 /// b holds the first part of a stage of a: floor 5, with version 2, up to 3.
 fn with_a_stage(rt: &impl Abort, alloc: Global, a: Name, b: Name) -> Holdings {
     let mut holdings = alone(rt, alloc, b);
-    let block = got(rt, Block::new(a, 5, 0, 3, one(rt, alloc, flag(rt, 2))));
+    let entry = shared(rt, alloc, flag(rt, 2));
+    let block = got(rt, Block::new(a, 5, 0, 3, one(rt, alloc, entry)));
     holdings.apply_block(&block);
     // Once more, so that it is held even if memory was refused. Otherwise this is a gap.
     holdings.apply_block(&block);

@@ -4,7 +4,9 @@ use sb_codec::{Bye, Message, decode_payload, encode_payload};
 use sb_digest::build;
 use sb_holdings::{BlockEnd, Holdings};
 use sb_table::Table;
-use sb_types::{BUDGET_LEAST, Block, Entry, Fault, Key, Name, REASON_ROUNDS_DONE, Slot, Value};
+use sb_types::{
+    BUDGET_LEAST, Block, Entry, Fault, Key, Name, REASON_ROUNDS_DONE, SharedEntry, Slot, Value,
+};
 use std::alloc::Global;
 
 /// What an owner wrote under a key, with the version of the write.
@@ -58,6 +60,7 @@ fn example_of_sb_table(rt: HostRuntime) {
 fn apply_twice(alloc: Global) -> Result<[BlockEnd; 2], Fault> {
     let mut holdings = Holdings::new(alloc, Name::read(b"b")?, Table::new(alloc))?;
     let entry = Entry::new(Key::read(b"web/up")?, 1, Slot::Set(Value::flag(true)));
+    let entry = SharedEntry::new(alloc, entry)?;
     let block = Block::new(Name::read(b"a")?, 0, 0, 1, vec![in alloc; entry]?)?;
     Ok([holdings.apply_block(&block), holdings.apply_block(&block)])
 }

@@ -1,11 +1,11 @@
 //! Holdings: what they take of blocks and of own writes, case by case, also at the greatest sizes.
 ghost use Rattle.std.specs.Prelude.{◌≤◌};
 
-use crate::{entry, got, holds, key, name, one, push, same, same_at, settled, weighing};
+use crate::{entry, got, holds, key, name, one, push, same, same_at, settled, shared, weighing};
 use sb_holdings::{BlockEnd, Holdings, Report};
 use sb_table::Table;
 use sb_testing::letters_of;
-use sb_types::{Block, Entry, Fault, Name, Slot, Value};
+use sb_types::{Block, Entry, Fault, Name, SharedEntry, Slot, Value};
 use std::alloc::Global;
 use std::process::Abort;
 
@@ -35,13 +35,13 @@ fn numbered(rt: &impl Abort, version: u64, key: u64) -> Entry {
 /// differ.
 type Run = (u64, u32, u32, u32);
 
-fn entries(rt: &impl Abort, alloc: Global, run: Run) -> Vec<Entry> {
+fn entries(rt: &impl Abort, alloc: Global, run: Run) -> Vec<SharedEntry> {
     let (_, first, count, key) = run;
     let mut entries = Vec::new(alloc);
     for index in 0..count {
         let place = u64::from(index);
         let entry = numbered(rt, u64::from(first) + place, u64::from(key) + place);
-        push(rt, &mut entries, entry);
+        push(rt, &mut entries, shared(rt, alloc, entry));
     }
     entries
 }
@@ -100,6 +100,7 @@ fn assert_takes(
 /// A block of a's first write, a flag.
 fn first_flag(rt: &impl Abort, alloc: Global) -> Block {
     let flag = entry(rt, b"up", 1, Slot::Set(Value::flag(true)));
+    let flag = shared(rt, alloc, flag);
     got(
         rt,
         Block::new(name(rt, b"a"), 0, 0, 1, one(rt, alloc, flag)),
@@ -165,7 +166,8 @@ fn assert_shown(
 ) {
     let (owner, key, after, is_set) = write;
     let version = if after == 0 { 2 } else { 3 };
-    let entries = one(rt, alloc, self::write(rt, key, version, is_set));
+    let entry = shared(rt, alloc, self::write(rt, key, version, is_set));
+    let entries = one(rt, alloc, entry);
     let block = got(rt, Block::new(name(rt, owner), 0, after, version, entries));
     same(rt, &take_entry(rt, holdings, &block), &wanted);
 }
@@ -415,17 +417,18 @@ fn address(rt: &impl Abort, alloc: Global, text: &[u8], version: u64) -> Result<
     Ok(Entry::new(key(rt, text), version, slot))
 }
 
-/// Three entries of a new owner, unless there is no memory.
-fn three_addresses(rt: &impl Abort, alloc: Global) -> Result<Vec<Entry>, Fault> {
+/// Nine entries of a new owner, unless there is no memory. So many that the lists of a table grow on the way.
+fn nine_addresses(rt: &impl Abort, alloc: Global) -> Result<Vec<SharedEntry>, Fault> {
     let mut entries = Vec::new(alloc);
-    entries.push(address(rt, alloc, b"x", 1)?)?;
-    entries.push(address(rt, alloc, b"y", 2)?)?;
-    entries.push(address(rt, alloc, b"z", 3)?)?;
+    for number in 1..10 {
+        let entry = address(rt, alloc, &letters_of(number), number)?;
+        entries.push(SharedEntry::new(alloc, entry)?)?;
+    }
     Ok(entries)
 }
 
-fn three_writes(rt: &impl Abort, alloc: Global) -> Result<Block, Fault> {
-    Block::new(name(rt, b"a"), 0, 0, 3, three_addresses(rt, alloc)?)
+fn nine_writes(rt: &impl Abort, alloc: Global) -> Result<Block, Fault> {
+    Block::new(name(rt, b"a"), 0, 0, 9, nine_addresses(rt, alloc)?)
 }
 
 /// Returns how a block ends and how far its owner is then held, and the same for the second time.
@@ -436,24 +439,24 @@ fn taken_twice(holdings: &mut Holdings, block: &Block) -> (BlockEnd, u64, BlockE
     (end, held, again, holdings.upto(block.owner()))
 }
 
-/// Returns the same for three entries of a new owner, unless there is no memory before they come.
-fn three_taken(rt: &impl Abort, alloc: Global) -> Result<(BlockEnd, u64, BlockEnd, u64), Fault> {
+/// Returns the same for nine entries of a new owner, unless there is no memory before they come.
+fn nine_taken(rt: &impl Abort, alloc: Global) -> Result<(BlockEnd, u64, BlockEnd, u64), Fault> {
     let mut holdings = Holdings::new(alloc, name(rt, b"b"), Table::new(alloc))?;
-    Ok(taken_twice(&mut holdings, &three_writes(rt, alloc)?))
+    Ok(taken_twice(&mut holdings, &nine_writes(rt, alloc)?))
 }
 
 /// Whichever allocation is refused, the first entries are kept, and the rest is taken the next time.
 #[test]
 fn a_front_stays_where_memory_runs_out(rt: HostRuntime) {
-    match three_taken(&rt, rt.alloc()) {
+    match nine_taken(&rt, rt.alloc()) {
         Ok((end, held, again, upto)) => {
-            let rest = 3_u64.saturating_sub(held);
+            let rest = 9_u64.saturating_sub(held);
             let ends = if rest == 0 {
-                (BlockEnd::Taken(3), BlockEnd::Stale)
+                (BlockEnd::Taken(9), BlockEnd::Stale)
             } else {
                 (BlockEnd::NoMemory(held), BlockEnd::Taken(rest))
             };
-            same(&rt, &(end, again, upto), &(ends.0, ends.1, 3));
+            same(&rt, &(end, again, upto), &(ends.0, ends.1, 9));
         }
         Err(fault) => same(&rt, &fault, &Fault::NoMemory),
     }

@@ -32,7 +32,7 @@ mod types;
 mod words;
 
 #[cfg(test)]
-use sb_types::{Entry, Fault, Key, Name, Slot, Value};
+use sb_types::{Entry, Fault, Key, Name, SharedEntry, Slot, Value};
 #[cfg(test)]
 use std::alloc::Global;
 #[cfg(test)]
@@ -111,6 +111,12 @@ fn weighing(rt: &impl Abort, text: &[u8], version: u64, number: u64) -> Entry
     requires { 1 ≤ version }
 {
     entry(rt, text, version, Slot::Set(weight(rt, number)))
+}
+
+/// Puts an entry on the heap, for blocks and tables. Ends the test if there is no memory.
+#[cfg(test)]
+fn shared(rt: &impl Abort, alloc: Global, entry: Entry) -> SharedEntry {
+    got(rt, SharedEntry::new(alloc, entry))
 }
 
 /// A vector of one item.

@@ -1,10 +1,10 @@
 //! Stages of 4,096 keys that take the place of a table of 4,096 keys: as many entries together as there can be.
-use crate::table::{enter_staged, shown, swapped};
-use crate::{got, name, push, same, same_at, weighing};
+use crate::table::{share_staged, shown, swapped};
+use crate::{got, name, push, same, same_at, shared, weighing};
 use sb_holdings::{BlockEnd, Holdings};
 use sb_table::{Stage, Table};
 use sb_testing::letters_of;
-use sb_types::{Block, Entry};
+use sb_types::{Block, SharedEntry};
 use std::alloc::Global;
 use std::process::Abort;
 
@@ -15,13 +15,13 @@ type Numbers = (u64, u64, u64);
 /// All keys that are held at first, at the versions from 1 to 4,096.
 const HELD: Numbers = (1, 4_096, 0);
 
-fn entries(rt: &impl Abort, alloc: Global, numbers: Numbers) -> Vec<Entry> {
+fn entries(rt: &impl Abort, alloc: Global, numbers: Numbers) -> Vec<SharedEntry> {
     let (first, last, later) = numbers;
     let mut entries = Vec::new(alloc);
     for number in first..=last {
         let version = number.saturating_add(later).max(1);
         let entry = weighing(rt, &letters_of(number), version, version);
-        push(rt, &mut entries, entry);
+        push(rt, &mut entries, shared(rt, alloc, entry));
     }
     entries
 }
@@ -50,7 +50,7 @@ fn assert_has(rt: &impl Abort, table: &Table, numbers: Numbers) {
 fn staged(rt: &impl Abort, alloc: Global, numbers: Numbers) -> Stage {
     let mut stage = Stage::new(alloc, 5_000);
     for entry in entries(rt, alloc, numbers) {
-        got(rt, enter_staged(&mut stage, entry));
+        got(rt, share_staged(&mut stage, &entry));
     }
     stage
 }

@@ -3,9 +3,9 @@ ghost use Rattle.std.specs.Prelude.{◌≡◌, IfOk, map};
 ghost use Rattle.sb_types.specs.Runs.{newer_entries};
 ghost use Rattle.sb_table.specs.Order.{by_key, entries_with_prefix};
 
-use crate::{entry, got, key, push, refusal, same, same_at, settled, weighing, weight};
+use crate::{entry, got, key, push, refusal, same, same_at, settled, shared, weighing, weight};
 use sb_table::{Stage, Table};
-use sb_types::{Entry, Fault, KEYS_MOST, Key, Prefix, Slot};
+use sb_types::{Entry, Fault, KEYS_MOST, Key, Prefix, SharedEntry, Slot};
 use std::alloc::{AllocError, Global};
 use std::process::Abort;
 
@@ -407,25 +407,29 @@ fn listed(rt: &impl Abort, write: Listed) -> Entry {
     entry(rt, &[letter], version.max(1), slot)
 }
 
-pub fn all_listed(rt: &impl Abort, alloc: Global, writes: &[Listed]) -> Vec<Entry> {
+pub fn all_listed(rt: &impl Abort, alloc: Global, writes: &[Listed]) -> Vec<SharedEntry> {
     let mut entries = Vec::new(alloc);
     for write in writes {
-        push(rt, &mut entries, listed(rt, *write));
+        push(rt, &mut entries, shared(rt, alloc, listed(rt, *write)));
     }
     entries
 }
 
-fn listing(alloc: Global, shown: &Table) -> Result<Vec<Listed>, AllocError> {
+fn listed_of(entry: &Entry) -> Listed {
+    let letter = entry.key().bytes().first().copied().unwrap_or(0);
+    let number = match entry.slot() {
+        Slot::Set(value) => value.as_weight(),
+        Slot::Removed => None,
+    };
+    (letter, entry.version(), number)
+}
+
+fn listing(rt: &impl Abort, alloc: Global, shown: &Table) -> Vec<Listed> {
     let mut writes = Vec::new(alloc);
     for entry in shown.after(0) {
-        let letter = entry.key().bytes().first().copied().unwrap_or(0);
-        let number = match entry.slot() {
-            Slot::Set(value) => value.as_weight(),
-            Slot::Removed => None,
-        };
-        writes.push((letter, entry.version(), number))?;
+        push(rt, &mut writes, listed_of(entry));
     }
-    Ok(writes)
+    writes
 }
 
 /// Returns how many entries the table has by key.
@@ -449,7 +453,7 @@ fn assert_holds(
     let counts = (shown.len(), count_by_key(rt, shown));
     let wanted = (upto, floor, (writes.len(), writes.len()));
     same(rt, &(shown.upto(), shown.floor(), counts), &wanted);
-    let found = got(rt, listing(alloc, shown));
+    let found = listing(rt, alloc, shown);
     same_at(rt, &(upto, floor), &found.as_slice(), &writes);
 }
 
@@ -551,17 +555,22 @@ fn numbered(rt: &impl Abort, alloc: Global, number: u64, version: u64) -> Entry 
 }
 
 /// The keys from k0001 on, each at the version of its number.
-fn many_numbered(rt: &impl Abort, alloc: Global, count: u64) -> Vec<Entry> {
+fn many_numbered(rt: &impl Abort, alloc: Global, count: u64) -> Vec<SharedEntry> {
     let mut entries = Vec::new(alloc);
     for place in 0..count {
         let number = place.saturating_add(1);
-        push(rt, &mut entries, numbered(rt, alloc, number, number));
+        let entry = numbered(rt, alloc, number, number);
+        push(rt, &mut entries, shared(rt, alloc, entry));
     }
     entries
 }
 
 /// Returns how many keys are restored from these entries, up to version 9,999, or the fault.
-fn restored_count(rt: &impl Abort, alloc: Global, entries: Vec<Entry>) -> Result<usize, Fault> {
+fn restored_count(
+    rt: &impl Abort,
+    alloc: Global,
+    entries: Vec<SharedEntry>,
+) -> Result<usize, Fault> {
     match Table::restored(alloc, 9_999, 0, entries) {
         Ok(shown) => Ok(shown.len()),
         Err(Fault::NoMemory) => panic!(rt; "error: NoMemory"),
@@ -573,7 +582,8 @@ fn restored_count(rt: &impl Abort, alloc: Global, entries: Vec<Entry>) -> Result
 fn more_than_4096_keys_are_not_restored(rt: HostRuntime) {
     let alloc = rt.alloc();
     let mut twice = many_numbered(&rt, alloc, 4096);
-    push(&rt, &mut twice, numbered(&rt, alloc, 1, 4097));
+    let again = shared(&rt, alloc, numbered(&rt, alloc, 1, 4097));
+    push(&rt, &mut twice, again);
     let found = [
         restored_count(&rt, alloc, many_numbered(&rt, alloc, 4096)),
         restored_count(&rt, alloc, many_numbered(&rt, alloc, 4097)),
@@ -581,6 +591,51 @@ fn more_than_4096_keys_are_not_restored(rt: HostRuntime) {
     ];
     let wanted = [Ok(4096), Err(Fault::TableFull), Err(Fault::LogDamaged)];
     same(&rt, &found, &wanted);
+}
+
+/// Enters a shared write of a later version than all that the table has. Refuses all others as `OutOfTurn`.
+fn share(table: &mut Table, entry: &SharedEntry) -> Result<(), Fault> {
+    let version = entry.version();
+    if version <= table.upto() {
+        return Err(Fault::OutOfTurn(version));
+    }
+    table.push_shared(entry)
+}
+
+/// The table of these writes, all of them shared.
+fn shared_table(rt: &impl Abort, alloc: Global, writes: &[Listed]) -> Table {
+    let mut table = Table::new(alloc);
+    for entry in all_listed(rt, alloc, writes) {
+        got(rt, share(&mut table, &entry));
+    }
+    table
+}
+
+#[test]
+fn shared_writes_are_entered(rt: HostRuntime) {
+    let alloc = rt.alloc();
+    let again = [(b'a', 1, Some(1)), (b'b', 2, None), (b'a', 3, Some(2))];
+    let table = shared_table(&rt, alloc, &again);
+    let left = [(b'b', 2, None), (b'a', 3, Some(2))];
+    assert_holds(&rt, alloc, &table, 3, 0, &left);
+}
+
+/// Returns how many of these shared writes a table takes until one is refused, and how that is refused.
+fn shared_until(rt: &impl Abort, alloc: Global, count: u64) -> (usize, Result<(), Fault>) {
+    let mut table = Table::new(alloc);
+    for entry in many_numbered(rt, alloc, count) {
+        let answer = settled(rt, share(&mut table, &entry));
+        if answer.is_err() {
+            return (table.len(), answer);
+        }
+    }
+    (table.len(), Ok(()))
+}
+
+#[test]
+fn a_table_shares_4096_keys(rt: HostRuntime) {
+    let found = shared_until(&rt, rt.alloc(), 4097);
+    same(&rt, &found, &(4096, Err(Fault::TableFull)));
 }
 
 /// Returns how a write of a new key at 4,098 is answered, and how many keys there are then, up to which version.
@@ -602,12 +657,21 @@ fn a_floor_makes_room(rt: HostRuntime) {
 }
 
 /// Enters a write of a later version than the progress. Refuses all others as `OutOfTurn`.
-pub fn enter_staged(stage: &mut Stage, entry: Entry) -> Result<(), Fault> {
+fn enter_staged(stage: &mut Stage, entry: Entry) -> Result<(), Fault> {
     let version = entry.version();
     if version <= stage.progress() {
         return Err(Fault::OutOfTurn(version));
     }
     stage.push(entry)
+}
+
+/// Enters a shared write of a later version than the progress. Refuses all others as `OutOfTurn`.
+pub fn share_staged(stage: &mut Stage, entry: &SharedEntry) -> Result<(), Fault> {
+    let version = entry.version();
+    if version <= stage.progress() {
+        return Err(Fault::OutOfTurn(version));
+    }
+    stage.push_shared(entry)
 }
 
 /// A stage of these entries. Its progress is this version, or that of the last entry.

@@ -1,11 +1,13 @@
 //! Values, blocks, deltas and settings: what no clause states, and each limit at its full size.
 ghost use Rattle.std.specs.Prelude.{◌≤◌};
 
-use crate::{entry, got, holds, key, name, one, push, refusal, same, same_at, settled, weighing};
+use crate::{
+    entry, got, holds, key, name, one, push, refusal, same, same_at, settled, shared, weighing,
+};
 use sb_testing::{LONGEST_KEY, LONGEST_NAME, delta_of_block};
 use sb_types::{
-    Block, Delta, Entry, Fault, Key, Name, Order, Prefix, RawSettings, Settings, Slot, Value,
-    ValueRef,
+    Block, Delta, Entry, Fault, Key, Name, Order, Prefix, RawSettings, Settings, SharedEntry, Slot,
+    Value, ValueRef,
 };
 use std::alloc::Global;
 use std::process::Abort;
@@ -342,12 +344,34 @@ fn copies_are_equal(rt: HostRuntime) {
     holds(&rt, "a removal is copied", matches!(removal, Slot::Removed));
 }
 
+/// Returns the parts that a shared entry has of its own accord, and whether it is a removal.
+fn shared_parts(shared: &SharedEntry) -> (Key, u64, bool, u64) {
+    let is_removal = matches!(shared.slot(), Slot::Removed);
+    (
+        *shared.key(),
+        shared.version(),
+        is_removal,
+        shared.encoded_length(),
+    )
+}
+
+#[test]
+fn shared_entries_are_equal(rt: HostRuntime) {
+    let whole = shared(&rt, rt.alloc(), copied(&rt, rt.alloc()));
+    let again = got(&rt, whole.share());
+    drop(whole);
+    let wanted = (key(&rt, b"net/a"), 7, true, 10 + 5 + 7);
+    same(&rt, &entry_parts(again.entry()), &wanted);
+    let wanted = (key(&rt, b"net/a"), 7, false, 10 + 5 + 7);
+    same(&rt, &shared_parts(&again), &wanted);
+}
+
 /// Weights of 5 under these keys, at these versions.
-fn entries(rt: &impl Abort, alloc: Global, writes: &[(&str, u64)]) -> Vec<Entry> {
+fn entries(rt: &impl Abort, alloc: Global, writes: &[(&str, u64)]) -> Vec<SharedEntry> {
     let mut entries = Vec::new(alloc);
     for (key, version) in writes {
         let entry = weighing(rt, key.as_bytes(), (*version).max(1), 5);
-        push(rt, &mut entries, entry);
+        push(rt, &mut entries, shared(rt, alloc, entry));
     }
     entries
 }
@@ -435,11 +459,11 @@ fn hexadecimal(rt: &impl Abort, alloc: Global, version: u64) -> Entry
     weighing(rt, key.as_bytes(), version, 5)
 }
 
-fn long_entries(rt: &impl Abort, alloc: Global, count: u32) -> Vec<Entry> {
+fn long_entries(rt: &impl Abort, alloc: Global, count: u32) -> Vec<SharedEntry> {
     let mut entries = Vec::new(alloc);
     for place in 0..count {
         let entry = hexadecimal(rt, alloc, u64::from(place) + 1);
-        push(rt, &mut entries, entry);
+        push(rt, &mut entries, shared(rt, alloc, entry));
     }
     entries
 }
@@ -462,7 +486,8 @@ fn the_longest_block(rt: HostRuntime) {
 
 /// The weight 5 under w, the first write of this owner.
 fn first_block(rt: &impl Abort, alloc: Global, owner: &str) -> Block {
-    let entries = one(rt, alloc, weighing(rt, b"w", 1, 5));
+    let entry = shared(rt, alloc, weighing(rt, b"w", 1, 5));
+    let entries = one(rt, alloc, entry);
     got(rt, Block::new(name(rt, owner.as_bytes()), 0, 0, 1, entries))
 }
 
@@ -515,7 +540,7 @@ fn addressed(rt: &impl Abort, alloc: Global, version: u16, length: usize) -> Ent
 }
 
 /// 1,000 entries of 65 bytes, three of 143, and one of 15 and the last length.
-fn addresses(rt: &impl Abort, alloc: Global, last: usize) -> Vec<Entry> {
+fn addresses(rt: &impl Abort, alloc: Global, last: usize) -> Vec<SharedEntry> {
     let mut entries = Vec::new(alloc);
     for version in 1..1_005u16 {
         let length = match version {
@@ -523,7 +548,8 @@ fn addresses(rt: &impl Abort, alloc: Global, last: usize) -> Vec<Entry> {
             1_004 => last,
             _ => 128,
         };
-        push(rt, &mut entries, addressed(rt, alloc, version, length));
+        let entry = addressed(rt, alloc, version, length);
+        push(rt, &mut entries, shared(rt, alloc, entry));
     }
     entries
 }

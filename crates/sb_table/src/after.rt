@@ -2,8 +2,7 @@
 ghost use Rattle.std.specs.Prelude.{◌≡◌, ◌<◌, ◌^◌, length};
 ghost use Rattle.std.specs.Iterator.{YieldsFirstRef, item_count};
 
-use crate::shared::SharedEntry;
-use sb_types::Entry;
+use sb_types::{Entry, SharedEntry};
 use std::iter::FusedIterator;
 use std::marker::Model;
 

@@ -1,6 +1,6 @@
 //! The entries of one owner, by version and by key, and those of a list above a version.
 
-ghost use Rattle.std.specs.Prelude.{◌≡◌, ◌<◌, ◌≤◌, ◌==◌, ◌^◌, ℕ, true, [], if◌then◌else◌, Ok, Err, OnOk, OnErr, ◌∷◌, length, drop};
+ghost use Rattle.std.specs.Prelude.{◌≡◌, ◌<◌, ◌≤◌, ◌==◌, ◌^◌, ℕ, true, [], if◌then◌else◌, Ok, Err, OnOk, OnErr, ◌∷◌, length};
 ghost use Rattle.std.specs.Option.{option_map};
 ghost use Rattle.sb_types.specs.Faults.{Gives};
 ghost use Rattle.sb_types.specs.Runs.{newer_entries, entries_up_to, live_entries, has_key, are_ascending, entries_after, entry_at};
@@ -12,8 +12,7 @@ use crate::after::{After, SharedAfter};
 use crate::places::{first_above_in, keep_live, last_version_of, place_of, under};
 use crate::prefixed::Prefixed;
 use crate::replacing::enter;
-use crate::shared::SharedEntry;
-use sb_types::{Entry, Fault, KEYS_MOST, Key, Prefix, Slot};
+use sb_types::{Entry, Fault, KEYS_MOST, Key, Prefix, SharedEntry, Slot};
 use std::alloc::Global;
 use std::marker::Model;
 
@@ -71,7 +70,7 @@ impl Entries {
         enter(&mut self.entries, &mut self.keys, entry)
     }
 
-    /// Enters the same write as another table has. It faults as `push` does.
+    /// Enters the same write as another table or a block has. It faults as `push` does.
     pub(crate) fn push_shared(&mut self, entry: &SharedEntry) -> Result<(), Fault>
         requires { self.old.held < entry.now.version }
         ensures answer { Gives result (if is_full_for entry.now.key self.old.entries then Err Fault.TableFull else Ok tt) }
@@ -228,6 +227,25 @@ pub(crate) fn push_later(
     Ok(())
 }
 
+/// Enters the same later write as a block has, as `push_later` does.
+pub(crate) fn push_shared_later(
+    entries: &mut Entries,
+    upto: &mut u64,
+    version: u64,
+    entry: &SharedEntry,
+) -> Result<(), Fault>
+    requires later { entries.old.held < entry.now.version }
+    requires version { version ≡ entry.now.version }
+    ensures answer { Gives result (if is_full_for entry.now.key entries.old.entries then Err Fault.TableFull else Ok tt) }
+    ensures full { is_full_for entry.now.key entries.old.entries ≡ true → result ≡ Err Fault.TableFull }
+    ensures ok { OnOk result ((entries.new.entries ≡ entries_after entries.old.entries (entry.now ∷ [])) × (upto.new ≡ entry.now.version)) }
+    ensures err { OnErr result ((entries.new ≡ entries.old) × (upto.new ≡ upto.old)) }
+{
+    entries.push_shared(entry)?;
+    *upto = version;
+    Ok(())
+}
+
 /// Removes the tombstones above one floor, and at or below another.
 pub(crate) fn drop_between(entries: &mut Entries, before: u64, floor: u64)
     requires order { before ≤ floor }
@@ -250,18 +268,9 @@ pub(crate) fn is_dead(entry: &Entry, floor: u64) -> bool
 }
 
 /// Returns the entries above a version. The entries have to be in ascending version.
-pub fn entries_above(entries: &[Entry], version: u64) -> &[Entry]
+pub fn entries_above(entries: &[SharedEntry], version: u64) -> &[SharedEntry]
     requires { are_ascending 0 entries.now ≡ true }
     ensures { result.now ≡ newer_entries version entries.now }
 {
-    &entries[first_above(entries, version)..]
-}
-
-/// Returns at which place the entries above a version begin.
-fn first_above(entries: &[Entry], version: u64) -> usize
-    requires { are_ascending 0 entries.now ≡ true }
-    ensures place { result ≤ length entries.now }
-    ensures entries { drop result entries.now ≡ newer_entries version entries.now }
-{
-    entries.partition_point(|entry| entry.version() <= version)
+    &entries[first_above_in(entries, version)..]
 }

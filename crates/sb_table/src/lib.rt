@@ -5,7 +5,7 @@
 //! key, the entries above a version, and those under a prefix. Holdings and logs keep writes in tables. The crate uses
 //! only `sb_types`.
 //!
-//! A table keeps each entry once on the heap, as a `SharedEntry`. Other tables and views can share it.
+//! A table keeps each entry once on the heap, as a `SharedEntry`. Blocks, other tables and views can share it.
 //!
 //! A table may have a *purge floor*: it has no tombstones up to that version. `raise` drops them. A `Stage` is what has
 //! arrived of a table with a floor that will replace the shown one. A new table has floor 0, and keeps all tombstones.
@@ -31,9 +31,9 @@
 //!
 //! # What no contract refuses
 //!
-//! - `push`, `copy`, `restored`, `swapped`, `SharedEntry::new` or `share` reports `NoMemory` without need. So do `copy`,
-//!   `restored` and `swapped` if there are no entries to keep, and a swap that leaves nothing then fails. Tests run each
-//!   call with ample memory, and once with 4,096 keys. They compare exact answers.
+//! - `push`, `push_shared`, `copy`, `restored` or `swapped` reports `NoMemory` without need. So do `copy`, `restored` and
+//!   `swapped` if there are no entries to keep, and a swap that leaves nothing then fails. Tests run each call with ample
+//!   memory, and once with 4,096 keys. They compare exact answers.
 //! - The lists take more room than they need, or a call takes longer than it should. Nothing refuses it; `attrdir_bench`
 //!   measures.
 //! - `Debug` prints another text. Nothing refuses it.
@@ -46,7 +46,6 @@ mod places;
 mod prefixed;
 mod replacing;
 mod restore;
-mod shared;
 mod stage;
 mod swap;
 mod table;
@@ -59,6 +58,5 @@ pub use laws::{
 };
 pub use places::place_of;
 pub use prefixed::Prefixed;
-pub use shared::SharedEntry;
 pub use stage::Stage;
 pub use table::Table;

@@ -10,8 +10,7 @@ ghost use Rattle.sb_types.specs.Runs.{newer_entries, live_entries, are_ascending
 ghost use Rattle.sb_table.specs.Order.{IsRising, entries_with_prefix};
 
 use crate::entries::is_dead;
-use crate::shared::SharedEntry;
-use sb_types::{Key, Prefix};
+use sb_types::{Key, Prefix, SharedEntry};
 
 /// Returns the place of a key in a list of entries that is sorted by key. If the list does not have the key, it returns
 /// the place at which the key would be inserted, as an `Err`.

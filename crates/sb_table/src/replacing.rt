@@ -7,8 +7,7 @@ ghost use Rattle.sb_table.specs.Plain.{IsPlainTable, plain_table};
 ghost use Rattle.sb_table.specs.Order.{by_key};
 
 use crate::places::{first_from_version, place_of};
-use crate::shared::SharedEntry;
-use sb_types::Fault;
+use sb_types::{Fault, SharedEntry};
 
 /// Enters an entry after all others, and removes the entry that its key had. `keys` has the same entries, sorted by
 /// key. The only fault is `NoMemory`, which leaves the entries as they were.

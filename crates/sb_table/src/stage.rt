@@ -5,8 +5,8 @@ ghost use Rattle.sb_types.specs.Faults.{Gives};
 ghost use Rattle.sb_table.specs.Plain.{is_full_for};
 ghost use Rattle.sb_table.specs.Floors.{IsKeptStage, stage_at_progress, stage_with_entry};
 
-use crate::entries::{Entries, push_later};
-use sb_types::{Entry, Fault, Key};
+use crate::entries::{Entries, push_later, push_shared_later};
+use sb_types::{Entry, Fault, Key, SharedEntry};
 use std::alloc::Global;
 use std::marker::Model;
 
@@ -85,6 +85,21 @@ impl Stage {
         // Proof only: the call shows that the entries keep their limits.
         let _ = self.entries.upto();
         push_later(&mut self.entries, &mut self.progress, version, entry)
+    }
+
+    /// Enters the same write as a block has, without a copy of it. It requires what `push` does, and has its faults.
+    pub fn push_shared(&mut self, entry: &SharedEntry) -> Result<(), Fault>
+        requires { self.old.progress < entry.now.version }
+        ensures answer { Gives result (if is_full_for entry.now.key self.old.entries then Err Fault.TableFull else Ok tt) }
+        ensures full { is_full_for entry.now.key self.old.entries ≡ true → result ≡ Err Fault.TableFull }
+        ensures ok { OnOk result (self.new ≡ stage_with_entry self.old entry.now) }
+        ensures err { OnErr result (self.new ≡ self.old) }
+        ensures stage { IsKeptStage self.new }
+    {
+        let version = entry.version();
+        // Proof only: the call shows that the entries keep their limits.
+        let _ = self.entries.upto();
+        push_shared_later(&mut self.entries, &mut self.progress, version, entry)
     }
 
     /// Raises the progress to a version without an entry. The progress must not fall. It takes no memory.

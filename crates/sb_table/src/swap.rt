@@ -5,8 +5,7 @@ ghost use Rattle.sb_types.specs.Runs.{newer_entries, entries_up_to, entries_with
 ghost use Rattle.sb_table.specs.Plain.{IsPlainTable, plain_table, with_entry, is_full_for};
 
 use crate::entries::{Entries, is_dead};
-use crate::shared::SharedEntry;
-use sb_types::Fault;
+use sb_types::{Fault, SharedEntry};
 
 /// Enters a later entry that another table has, for which there is room. The only fault is `NoMemory`.
 fn push_copy(into: &mut Entries, entry: &SharedEntry) -> Result<(), Fault>

@@ -9,12 +9,12 @@ ghost use Rattle.sb_table.specs.Order.{by_key, entries_with_prefix};
 ghost use Rattle.sb_table.specs.Floors.{IsKeptTable, are_table_entries, table_at_floor, restored_table, table_after_swap};
 
 use crate::after::{After, SharedAfter};
-use crate::entries::{Entries, drop_between, push_later};
+use crate::entries::{Entries, drop_between, push_later, push_shared_later};
 use crate::prefixed::Prefixed;
 use crate::restore::{are_table_entries, fill};
 use crate::stage::Stage;
 use crate::swap::{add_staged, keep_shown};
-use sb_types::{Entry, Fault, KEYS_MOST, Key, Prefix, Slot};
+use sb_types::{Entry, Fault, KEYS_MOST, Key, Prefix, SharedEntry, Slot};
 use std::alloc::Global;
 use std::marker::Model;
 
@@ -77,7 +77,7 @@ impl Table {
         alloc: Global,
         upto: u64,
         floor: u64,
-        mut entries: Vec<Entry>,
+        mut entries: Vec<SharedEntry>,
     ) -> Result<Table, Fault>
         ensures restored { Gives result (restored_table upto floor entries.items) }
         ensures refused { IfErr (restored_table upto floor entries.items) (λ fault. result ≡ Err fault) }
@@ -98,7 +98,7 @@ impl Table {
         alloc: Global,
         upto: u64,
         floor: u64,
-        entries: Vec<Entry>,
+        entries: Vec<SharedEntry>,
     ) -> Result<Table, Fault>
         requires entries { are_table_entries upto floor entries.items ≡ true }
         requires limit { length entries.items ≤ KEYS_MOST }
@@ -216,6 +216,23 @@ impl Table {
         // Proof only: the call shows that the entries keep their limits.
         let _ = self.entries.upto();
         push_later(&mut self.entries, &mut self.upto, version, entry)
+    }
+
+    /// Enters the same write as a block or another table has, without a copy of it. It requires what `push` does, and has
+    /// its faults.
+    pub fn push_shared(&mut self, entry: &SharedEntry) -> Result<(), Fault>
+        requires { self.old.held < entry.now.version }
+        ensures answer { Gives result (if is_full_for entry.now.key self.old.entries then Err Fault.TableFull else Ok tt) }
+        ensures full { is_full_for entry.now.key self.old.entries ≡ true → result ≡ Err Fault.TableFull }
+        ensures ok { OnOk result (self.new ≡ with_entry self.old entry.now) }
+        ensures err { OnErr result (self.new ≡ self.old) }
+        ensures table { IsKeptTable self.new }
+        ensures plain { IsPlainTable self.old → IsPlainTable self.new }
+    {
+        let version = entry.version();
+        // Proof only: the call shows that the entries keep their limits.
+        let _ = self.entries.upto();
+        push_shared_later(&mut self.entries, &mut self.upto, version, entry)
     }
 
     /// Raises the held version and the purge floor, and drops the tombstones up to the floor. Neither must fall, and

@@ -11,7 +11,7 @@
 pub mod streams;
 pub mod wire;
 
-use sb_types::{BUDGET_LEAST, Block, Delta, Entry, Fault, Name, Order, RawSettings};
+use sb_types::{BUDGET_LEAST, Block, Delta, Entry, Fault, Name, Order, RawSettings, SharedEntry};
 use std::alloc::Global;
 
 /// Settings within their limits: a node of the cluster c1, with the least budget, two seats and a worker.
@@ -50,6 +50,7 @@ pub fn delta_of_block(alloc: Global, block: Block) -> Result<Delta, Fault> {
 pub fn delta_of_write(alloc: Global, owner: Name, entry: Entry) -> Result<Delta, Fault> {
     let version = entry.version();
     let before = version.saturating_sub(1);
-    let block = Block::new(owner, 0, before, version, vec![in alloc; entry]?)?;
+    let shared = SharedEntry::new(alloc, entry)?;
+    let block = Block::new(owner, 0, before, version, vec![in alloc; shared]?)?;
     delta_of_block(alloc, block)
 }

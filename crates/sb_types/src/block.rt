@@ -7,12 +7,12 @@ ghost use Rattle.sb_types.specs.Lengths.{entries_length, block_length};
 ghost use Rattle.sb_types.specs.Limits.{is_entry, are_block_parts, block_of_parts, is_delta_block};
 
 use crate::distinct::are_keys_distinct;
-use crate::entry::Entry;
 use crate::fault::Fault;
 use crate::format::{
     BLOCK_HEAD_MOST, BYTE_LENGTH, COUNT_LENGTH, ENTRY_LENGTH_MOST, KIND_DELTA, NUMBER_LENGTH,
 };
 use crate::limits::ENTRIES_MOST;
+use crate::shared::SharedEntry;
 use crate::text::Name;
 use std::marker::Model;
 
@@ -28,7 +28,7 @@ pub struct Block {
     floor: u64,
     after: u64,
     upto: u64,
-    entries: Vec<Entry>,
+    entries: Vec<SharedEntry>,
     /// How many bytes the entries take in a message.
     length: u64,
 }
@@ -50,7 +50,7 @@ impl Model for Block {
 }
 
 /// Returns whether each version is above the one before it, and the first above `after`.
-fn are_versions_ascending(after: u64, entries: &[Entry]) -> bool
+fn are_versions_ascending(after: u64, entries: &[SharedEntry]) -> bool
     ensures { result ≡ are_ascending after entries.now }
 {
     let mut last = after;
@@ -65,7 +65,7 @@ fn are_versions_ascending(after: u64, entries: &[Entry]) -> bool
 }
 
 /// Returns the version of the last entry, or `after` if there is no entry.
-fn last_version(after: u64, entries: &[Entry]) -> u64
+fn last_version(after: u64, entries: &[SharedEntry]) -> u64
     ensures { result ≡ last_version after entries.now }
 {
     match entries {
@@ -75,7 +75,7 @@ fn last_version(after: u64, entries: &[Entry]) -> u64
 }
 
 /// Returns how many bytes the entries take in a message.
-fn length_of(entries: &[Entry]) -> u64
+fn length_of(entries: &[SharedEntry]) -> u64
     requires { length entries.now ≤ ENTRIES_MOST }
     ensures length { result ≡ entries_length entries.now }
     ensures each { list_all is_entry entries.now ≡ true }
@@ -103,7 +103,7 @@ impl Block {
         floor: u64,
         after: u64,
         upto: u64,
-        mut entries: Vec<Entry>,
+        mut entries: Vec<SharedEntry>,
     ) -> Result<Block, Fault>
         ensures { result ≡ (if are_block_parts after upto entries.items then Ok (block_of_parts owner floor after upto entries.items) else Err (Fault.Malformed KIND_DELTA)) }
     {
@@ -120,7 +120,13 @@ impl Block {
 
     /// Makes a block of these parts without a test. The caller has to show that `new` would accept them. It takes no
     /// memory.
-    pub fn from_parts(owner: Name, floor: u64, after: u64, upto: u64, entries: Vec<Entry>) -> Block
+    pub fn from_parts(
+        owner: Name,
+        floor: u64,
+        after: u64,
+        upto: u64,
+        entries: Vec<SharedEntry>,
+    ) -> Block
         requires { are_block_parts after upto entries.items ≡ true }
         ensures { result ≡ block_of_parts owner floor after upto entries.items }
     {
@@ -172,7 +178,7 @@ impl Block {
     }
 
     /// Returns the entries, in ascending version.
-    pub fn entries(&self) -> &[Entry]
+    pub fn entries(&self) -> &[SharedEntry]
         ensures entries { result.now ≡ self.now.entries }
         ensures block { is_delta_block self.now ≡ true }
     {

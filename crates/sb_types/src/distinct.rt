@@ -3,11 +3,11 @@
 ghost use Rattle.std.specs.Prelude.{◌≡◌, true};
 ghost use Rattle.sb_types.specs.Runs.{are_ascending, are_distinct};
 
-use crate::entry::Entry;
+use crate::shared::SharedEntry;
 
 /// Returns whether all entries have different keys. The entries have to be in ascending version, and are so again
 /// afterwards. It takes no memory: it sorts the entries by key, compares neighbours, and sorts them back.
-pub fn are_keys_distinct(entries: &mut [Entry]) -> bool
+pub fn are_keys_distinct(entries: &mut [SharedEntry]) -> bool
     requires { are_ascending 0 entries.old ≡ true }
     ensures value { result ≡ are_distinct entries.old }
     ensures same { entries.new ≡ entries.old }

@@ -21,6 +21,7 @@
 //! - `addr`, `text`, `from_words` or `copy` reports `NoMemory` without need, for a valid address or text. Tests run
 //!   each such call with ample memory, and compare exact answers. Clauses refuse it for weights, for flags, and for
 //!   tombstones (the markers of removed keys).
+//! - `SharedEntry::new` or `share` reports `NoMemory` without need. Tests run both with ample memory.
 //! - A vector takes more room than it needs, or a call takes longer than it should. Nothing refuses it; `attrdir_bench`
 //!   measures.
 #![tactic(auto)]
@@ -37,6 +38,7 @@ mod kind;
 mod laws;
 mod limits;
 mod settings;
+mod shared;
 mod spelled;
 mod text;
 mod value;
@@ -65,6 +67,7 @@ pub use limits::{
     WEIGHT_MOST, WORKERS_MOST,
 };
 pub use settings::{Order, RawSettings, Settings};
+pub use shared::SharedEntry;
 pub use spelled::Spelled;
 pub use text::{Key, Name, Prefix, ShortText};
 pub use value::{Value, ValueRef};

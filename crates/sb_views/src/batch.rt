@@ -4,8 +4,7 @@ ghost use Rattle.sb_views.specs.Operations.{changes_of, are_changes};
 
 use crate::change::Change;
 use crate::view_copy::Operation;
-use sb_table::SharedEntry;
-use sb_types::{Fault, Name};
+use sb_types::{Fault, Name, SharedEntry};
 use std::alloc::Global;
 use std::collections::VecDeque;
 use std::marker::Model;

@@ -2,7 +2,7 @@
 ghost use Rattle.std.specs.Prelude.{◌≡◌};
 ghost use Rattle.sb_views.specs.Changes.{change_of};
 
-use sb_table::SharedEntry;
+use sb_types::SharedEntry;
 
 /// A change of an owner, as it is to be shown.
 #[derive(Drop)]

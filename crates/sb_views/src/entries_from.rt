@@ -5,8 +5,7 @@ ghost use Rattle.std.specs.Cmp.Lexicographic.{slice_cmp};
 ghost use Rattle.std.specs.BTreeMap.Range.{is_from_start};
 ghost use Rattle.sb_table.specs.Order.{IsRising};
 
-use sb_table::SharedEntry;
-use sb_types::Key;
+use sb_types::{Key, SharedEntry};
 use std::ops::Bound;
 
 /// Returns the entries from a start on. They have to be sorted by key.

@@ -3,8 +3,7 @@ ghost use Rattle.std.specs.Prelude.{◌≡◌, ◌≤◌, true};
 ghost use Rattle.sb_types.specs.Runs.{is_set};
 ghost use Rattle.sb_views.specs.NodeViews.{live_of};
 
-use sb_table::SharedEntry;
-use sb_types::{Slot, Value};
+use sb_types::{SharedEntry, Slot, Value};
 use std::marker::Model;
 
 /// The value under a key, lent, with the version of its write, which is at least 1.

@@ -7,8 +7,7 @@ ghost use Rattle.sb_views.specs.NodeViews as node_views;
 
 use crate::live::LiveValue;
 use crate::owner_view::OwnerView;
-use sb_table::SharedEntry;
-use sb_types::{Key, Name, Prefix};
+use sb_types::{Key, Name, Prefix, SharedEntry};
 use std::collections::btree_map::Range;
 use std::iter::FusedIterator;
 use std::marker::Model;

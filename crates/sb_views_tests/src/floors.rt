@@ -10,8 +10,8 @@ use crate::views::{
 };
 use crate::{got, same, there};
 use sb_holdings::Holdings;
-use sb_table::{SharedEntry, Table};
-use sb_types::{Block, Entry, Fault, Name};
+use sb_table::Table;
+use sb_types::{Block, Entry, Fault, Name, SharedEntry};
 use sb_views::{
     Batch, Change, EventRef, History, NewHistory, NodeTag, Snapshot, ViewWriter, views,
 };
@@ -23,10 +23,12 @@ use std::sync::Wait;
 /// What a node holds: of a a write of version 3, up to version 5, with floor 4. Of b a stage of floor 2, with a write
 /// of version 1, that came up to version 3.
 fn held_beyond(rt: &impl Abort, alloc: Global) -> Holdings {
-    let entries = got(rt, vec![in alloc; entry_of(rt, W)]);
+    let shared = got(rt, SharedEntry::new(alloc, entry_of(rt, W)));
+    let entries = got(rt, vec![in alloc; shared]);
     let own = got(rt, Table::restored(alloc, 5, 4, entries));
     let mut holdings = got(rt, Holdings::new(alloc, name(rt, b"a"), own));
-    let entries = got(rt, vec![in alloc; entry_of(rt, OF_B)]);
+    let shared = got(rt, SharedEntry::new(alloc, entry_of(rt, OF_B)));
+    let entries = got(rt, vec![in alloc; shared]);
     let block = got(rt, Block::new(name(rt, b"b"), 2, 0, 3, entries));
     apply(rt, &mut holdings, &block);
     holdings

@@ -9,7 +9,7 @@ use sb_codec::{Ask, Row, Rows};
 use sb_holdings::Holdings;
 use sb_query::{answer, print_rows};
 use sb_testing::streams::FailingWriter;
-use sb_types::{BUDGET_LEAST, BUDGET_MOST, Block, Entry, Key, Name, Value};
+use sb_types::{BUDGET_LEAST, BUDGET_MOST, Block, Entry, Key, Name, SharedEntry, Value};
 use sb_views::Snapshot;
 use std::alloc::Global;
 use std::process::Abort;
@@ -46,8 +46,11 @@ fn flag(rt: &impl Abort, text: &[u8], version: u64) -> Entry {
 
 fn block_of_b(rt: &impl Abort, alloc: Global) -> Block {
     let mut entries = Vec::new(alloc);
-    got(rt, entries.push(flag(rt, b"net/a", 1)));
-    got(rt, entries.push(long_text(rt, alloc, b"y", 2)));
+    let first = got(rt, SharedEntry::new(alloc, flag(rt, b"net/a", 1)));
+    got(rt, entries.push(first));
+    let second = long_text(rt, alloc, b"y", 2);
+    let second = got(rt, SharedEntry::new(alloc, second));
+    got(rt, entries.push(second));
     got(rt, Block::new(name(rt, b"b"), 0, 0, 2, entries))
 }
 

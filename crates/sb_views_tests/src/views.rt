@@ -7,8 +7,7 @@ use crate::making::{apply, entry, holdings_of_a, key, name, owner_of, prefix, we
 use crate::reading::{Look, entered, read};
 use crate::{got, holds, same, there};
 use sb_holdings::{BlockEnd, Holdings, Report};
-use sb_table::SharedEntry;
-use sb_types::{Block, Delta, Entry, Key, Name, Value, ValueRef};
+use sb_types::{Block, Delta, Entry, Key, Name, SharedEntry, Value, ValueRef};
 use sb_views::{
     Batch, EventRef, History, LiveRow, LiveRows, NewHistory, NodeTag, OwnerView, Reader, Snapshot,
     ViewWriter, views,
@@ -66,7 +65,8 @@ pub(crate) fn entry_of(rt: &impl Abort, case: Case) -> Entry {
 }
 
 fn block_of_b(rt: &impl Abort, alloc: Global) -> Block {
-    let entries = got(rt, vec![in alloc; entry_of(rt, OF_B)]);
+    let shared = got(rt, SharedEntry::new(alloc, entry_of(rt, OF_B)));
+    let entries = got(rt, vec![in alloc; shared]);
     got(rt, Block::new(name(rt, b"b"), 0, 0, OF_B.version, entries))
 }
 

@@ -24,7 +24,7 @@ stands c =
     subst (λ (ps : List Part). IsTurn c.args.budget c.args.turns (in_turns c.args.turns c.from-queue.result.items) ps c.loop-cursor.making) c.in-Some.ensures.items c.loop-cursor.invariant
 
 item : (c : In_ok-push) → item_at c.head-head.result c.in_ok-entry.entry ≡ item_of c.in-Some.cursor.next
-item c = ap₂ item_at c.head-head.ensures.head (c.in_ok-entry.ensures.copied ∙ c.split_first-later.ensures.entry)
+item c = ap₂ item_at c.head-head.ensures.head (c.in_ok-entry.ensures.same ∙ c.split_first-later.ensures.entry)
 
 next : (c : In_ok-push) (taken : Bool) → c.in_ok-push.field-0 ≡ taken → AfterNext c.args.budget (items_of_all (stands (goal.at.In_ok-push c).In-Some).0) (item_of c.in-Some.cursor.next) taken c.push.new.self
 next c taken is =

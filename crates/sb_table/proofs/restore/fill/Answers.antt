@@ -5,8 +5,8 @@ use Rattle.sb_table.specs.Plain.{plain_table}
 use Rattle.sb_table.proofs.Copying.{IsCopying, later, has_room, copying-goes_on}
 use Rattle.sb_table.proofs.restore.fill.Goals as goal
 
-pub push-requires : goal.push-requires
-push-requires c =
+pub push_shared-requires : goal.push_shared-requires
+push_shared-requires c =
     let whole = plain_table c.args.entries.items in
     let copying = subst (λ (rest : List Entry). IsCopying whole c.loop-entry.table rest) c.in-Some.ensures.steps.0 c.loop-entry.invariant in
     later whole c.loop-entry.table c.in-Some.entry (into_iter_items c.next.new.self) c.requires copying
@@ -16,10 +16,10 @@ loop-entry-preserved c =
     let whole = plain_table c.args.entries.items in
     let rest = into_iter_items c.next.new.self in
     let copying = subst (λ (rest : List Entry). IsCopying whole c.loop-entry.table rest) c.in-Some.ensures.steps.0 c.loop-entry.invariant in
-    subst (λ (t : Table). IsCopying whole t rest) (sym c.in_ok-push.ensures.ok) (copying-goes_on whole c.loop-entry.table c.in-Some.entry rest c.requires copying)
+    subst (λ (t : Table). IsCopying whole t rest) (sym c.in_ok-push_shared.ensures.ok) (copying-goes_on whole c.loop-entry.table c.in-Some.entry rest c.requires copying)
 
-pub returns-in_err-push : goal.returns-in_err-push
-returns-in_err-push c =
+pub returns-in_err-push_shared : goal.returns-in_err-push_shared
+returns-in_err-push_shared c =
     let whole = plain_table c.args.entries.items in
     let copying = subst (λ (rest : List Entry). IsCopying whole c.loop-entry.table rest) c.in-Some.ensures.steps.0 c.loop-entry.invariant in
     let room = has_room whole c.loop-entry.table c.in-Some.entry (into_iter_items c.next.new.self) c.requires copying in
