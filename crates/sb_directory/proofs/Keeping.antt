@@ -17,6 +17,7 @@ use Rattle.sb_holdings.specs.Nodes as node_events
 use Rattle.sb_holdings.specs.Treats.{Treats, took_each}
 use Rattle.sb_holdings.proofs.Changed.{entry-next}
 use Rattle.sb_holdings.proofs.Nodes.{replay_node-append}
+use Rattle.sb_budget.specs.Backlogs.{Backlog}
 use Rattle.sb_node.specs.Cores.{Core, with_node}
 use Rattle.sb_watch.specs.declared.note.Note.{Note}
 use Rattle.sb_watch.specs.Records.{Hub}
@@ -36,7 +37,7 @@ use Rattle.sb_views.proofs.Leading.{own-leads}
 use Rattle.sb_views.proofs.Purged.{purged-grown}
 use Rattle.sb_directory.specs.Lacking.{LackingOwners, since_of, with_owner, HasOwners, AreSince}
 use Rattle.sb_directory.specs.Notes.{note_of, with_notes, notes_of_blocks, versions_of, is_held}
-use Rattle.sb_directory.specs.ViewedNodes.{ViewedNode, IsViewedNode, after_own, after_purge, after_delta, with_published, with_watches}
+use Rattle.sb_directory.specs.ViewedNodes.{ViewedNode, IsViewedNode, after_own, after_purge, after_delta, with_published, with_news, with_watches}
 use Rattle.sb_directory.proofs.Lacking.{add-has, added-since, own-since, purge-since, delta-since}
 use Rattle.sb_directory.specs.Watching.{DirectoryWatch, notes_of_event, IsWatched}
 use Rattle.sb_directory.proofs.Noting.{noted-held, since-held}
@@ -78,6 +79,12 @@ pub noted : (opening : Node) (queued : List Event) (lacking more : LackingOwners
     → AreSince (node_after opening queued).held l.core.node.held more → IsViewedNode opening queued more l
 noted opening queued lacking more l is since = record { node = is.node; begins = is.begins; grown = is.grown; since = since; notes = is.notes; watches = is.watches }
 
+-- with other news
+pub news-locked : (opening : Node) (queued : List Event) (lacking : LackingOwners) (l : ViewedNode) (news : Backlog) → IsViewedNode opening queued lacking l
+    → IsViewedNode opening queued lacking (with_news l news)
+news-locked opening queued lacking l news is =
+    record { node = is.node; begins = is.begins; grown = is.grown; since = is.since; notes = is.notes; watches = is.watches }
+
 -- the version of an owner is read of the node, and the floor of what it holds
 pub since-read : (held lent : Held) (owner : List ℕ) (version floor : ℕ) → version ≡ (shown_of held owner).held → floor ≡ (shown_of lent owner).floor → lent ≡ held
     → (let since : ℕ × ℕ = (version, floor) in since) ≡ since_of held owner
@@ -116,8 +123,8 @@ module _ (opening : Node) (queued : List Event) (lacking : LackingOwners) (old :
     next : e.version ≡ (shown_of old.core.node.held old.core.node.held.me).held + 1
     next = entry-next e _ entry few (own-turn old.core.node.held e turn)
 
-    pub own-locked : (published : List Event) → IsViewedNode opening queued lacking (after_own old e published)
-    own-locked published = record {
+    pub own-locked : (published : List Event) (news : Backlog) → IsViewedNode opening queued lacking (after_own old e published news)
+    own-locked published news = record {
       node = ap (λ (n : Node). node_after_event n (Wrote e)) is.node ∙ sym (node-own opening old.history e);
       begins = begins-longer queued old.history (TookOwn e) is.begins;
       grown = grown-on (node_after opening queued).held old.core.node.held (held_after_write old.core.node.held e) is.grown (own-grown old.core.node.held e holds);
@@ -130,11 +137,11 @@ module _ (opening : Node) (queued : List Event) (lacking : LackingOwners) (old :
     }
 
     -- so it is wherever the core, the history and the watches are these
-    pub own-there : (core : Core) (history : List Event) (hub : Hub) (published : List Event) → core ≡ with_node old.core (node_after_event old.core.node (Wrote e))
+    pub own-there : (core : Core) (history : List Event) (hub : Hub) (published : List Event) (news : Backlog) → core ≡ with_node old.core (node_after_event old.core.node (Wrote e))
         → history ≡ old.history ++ TookOwn e ∷ [] → hub ≡ with_notes old.hub (note_of old.core.node.held.me e ∷ [])
-        → IsViewedNode opening queued lacking (record { core = core; hub = hub; watches = old.watches; history = history; published = published })
-    own-there core history hub published taken longer seen =
-        subst (IsViewedNode opening queued lacking) (λ i. record { core = sym taken i; hub = sym seen i; watches = old.watches; history = sym longer i; published = published }) (own-locked published)
+        → IsViewedNode opening queued lacking (record { core = core; hub = hub; watches = old.watches; history = history; published = published; news = news })
+    own-there core history hub published news taken longer seen =
+        subst (IsViewedNode opening queued lacking) (λ i. record { core = sym taken i; hub = sym seen i; watches = old.watches; history = sym longer i; published = published; news = news }) (own-locked published news)
 
   module _ (floor : ℕ) (has : contains_key lacking old.core.node.held.me ≡ true) where
     pub purge-locked : (published : List Event) → IsViewedNode opening queued lacking (after_purge old floor published)
@@ -150,16 +157,18 @@ module _ (opening : Node) (queued : List Event) (lacking : LackingOwners) (old :
         }
 
     -- so it is wherever the core and the history are these
-    pub purge-there : (core : Core) (history : List Event) (published : List Event) → core ≡ with_node old.core (node_after_event old.core.node (node_events.Purged floor))
+    pub purge-there : (core : Core) (history : List Event) (published : List Event) (news : Backlog) → core ≡ with_node old.core (node_after_event old.core.node (node_events.Purged floor))
         → history ≡ old.history ++ Purged floor ∷ []
-        → IsViewedNode opening queued lacking (record { core = core; hub = old.hub; watches = old.watches; history = history; published = published })
-    purge-there core history published purged longer =
-        subst (IsViewedNode opening queued lacking) (λ i. record { core = sym purged i; hub = old.hub; watches = old.watches; history = sym longer i; published = published }) (purge-locked published)
+        → IsViewedNode opening queued lacking (record { core = core; hub = old.hub; watches = old.watches; history = history; published = published; news = news })
+    purge-there core history published news purged longer =
+        let there : ViewedNode = record { core = core; hub = old.hub; watches = old.watches; history = history; published = published; news = old.news } in
+        news-locked opening queued lacking there news
+        (subst (IsViewedNode opening queued lacking) (λ i. record { core = sym purged i; hub = old.hub; watches = old.watches; history = sym longer i; published = published; news = old.news }) (purge-locked published))
 
   module _ (blocks : List Block) (ends : List BlockEnd) (delta : is_delta blocks ≡ true) (treats : Treats old.core.node blocks ends)
       (after : IsHoldings (replay_node old.core.node (took_each blocks ends)).held) (has : HasOwners lacking blocks) where
-    pub delta-locked : (published : List Event) → IsViewedNode opening queued lacking (after_delta old blocks ends published)
-    delta-locked published =
+    pub delta-locked : (published : List Event) (news : Backlog) → IsViewedNode opening queued lacking (after_delta old blocks ends published news)
+    delta-locked published news =
         let new = replay_node old.core.node (took_each blocks ends) in
         let grown = delta-grown old.core.node blocks ends holds delta treats in
         record {
@@ -174,12 +183,12 @@ module _ (opening : Node) (queued : List Event) (lacking : LackingOwners) (old :
               (ap (λ (n : Node). with_notes old.hub (notes_of_event n (Applied blocks ends))) is.node);
         }
 
-    pub delta-there : (core : Core) (history : List Event) (hub : Hub) (published : List Event) → core ≡ with_node old.core (replay_node old.core.node (took_each blocks ends))
+    pub delta-there : (core : Core) (history : List Event) (hub : Hub) (published : List Event) (news : Backlog) → core ≡ with_node old.core (replay_node old.core.node (took_each blocks ends))
         → history ≡ old.history ++ Applied blocks ends ∷ []
         → hub ≡ with_notes old.hub (notes_of_blocks blocks old.core.node.held (replay_node old.core.node (took_each blocks ends)).held)
-        → IsViewedNode opening queued lacking (record { core = core; hub = hub; watches = old.watches; history = history; published = published })
-    delta-there core history hub published taken longer seen =
-        subst (IsViewedNode opening queued lacking) (λ i. record { core = sym taken i; hub = sym seen i; watches = old.watches; history = sym longer i; published = published }) (delta-locked published)
+        → IsViewedNode opening queued lacking (record { core = core; hub = hub; watches = old.watches; history = history; published = published; news = news })
+    delta-there core history hub published news taken longer seen =
+        subst (IsViewedNode opening queued lacking) (λ i. record { core = sym taken i; hub = sym seen i; watches = old.watches; history = sym longer i; published = published; news = news }) (delta-locked published news)
 
 -- ---- what changes nothing of the node
 

@@ -67,9 +67,10 @@
 //!   call under the lock, not a second that nobody asked for.
 //! - `Directory::has_note` and `has_notes` answer anything: the clause of the first holds for some history, which may be any.
 //!   Private clauses and tests refuse it.
-//! - `Directory::take_news` leaves out an owner whose held version rose, has one whose version did not rise, or has a
-//!   wrong version. A delta for any backlog is honest. Clauses of `add_risen` and tests in
-//!   `crates/sb_directory_tests` refuse it.
+//! - `Directory::take_news` leaves out an owner whose held version rose, has a wrong version, or returns the same news
+//!   again. Or it has one whose version did not rise, as after a purge. A delta for any backlog is honest. Private clauses
+//!   refuse all but two things within one call: `ViewedNode::take_own` adds nothing, as if memory were missing, or
+//!   `ViewedNode::apply` adds anything. Tests in `crates/sb_directory_tests` refuse these.
 //! - Views find no memory, or `enter` is refused, so `shown` is never true. Tests refuse it.
 //! - A call that only asks leaves what is not published as it is. Then `enter` is refused until another call publishes. Tests refuse it.
 //! - `refresh` returns true before all that others' calls made is published. No clause can state it across the

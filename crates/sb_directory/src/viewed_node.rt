@@ -1,5 +1,6 @@
 //! What the lock of a directory guards: a node with its history, its views, its watches and the book of its seats.
 ghost use Rattle.std.specs.Prelude.{◌≡◌, ◌≢◌, ◌≤◌, ◌+◌, ◌++◌, ◌∷◌, [], true, false, length, if◌then◌else◌, None, Ok, Err, IfOk, IfErr, IfSome, IsSome, IsOk, OnOk, OnErr, MatchBool};
+ghost use Rattle.std.specs.FinMap.{empty};
 ghost use Rattle.std.specs.Option.{option_map};
 ghost use mathlib.Core.List.{IsPrefix};
 ghost use Rattle.sb_types.specs.Faults.{Gives};
@@ -26,7 +27,7 @@ use crate::lacked::catch_up;
 use crate::lacking_owners::LackingOwners;
 use crate::notes::{push_note, push_notes_since, versions_of};
 use crate::receipt::{Applied, Closing, Purge, Receipt};
-use crate::risen::add_risen;
+use crate::risen::{add_owner, add_risen};
 use crate::seat::ReaderSeat;
 use crate::shares::join_all;
 use crate::tag::DirectoryTag;
@@ -43,7 +44,7 @@ use std::sync::Wait;
 use std::sync::ledger::{Book, Share};
 
 /// A node with its history, its views, its watches and the book of its seats, which one thread uses at a time. Contracts see it as the
-/// core, the watches, the history, and the prefix of it that is published.
+/// core, the watches, the history, the prefix of it that is published, and the news.
 #[derive(Drop)]
 pub(crate) struct ViewedNode<S: DirectoryTag, R: Wait + Drop> {
     core: NodeCore,
@@ -72,9 +73,9 @@ impl<S: DirectoryTag, R: Wait + Drop> Model for ViewedNode<S, R> {
 
     ghost coded = { Prim.hlevel (codes, code) };
 
-    ghost view = { λ l. record { core = l.core; hub = l.hub; watches = l.watches.items; history = l.history; published = l.views.published } };
+    ghost view = { λ l. record { core = l.core; hub = l.hub; watches = l.watches.items; history = l.history; published = l.views.published; news = l.news } };
 
-    ghost invariant = { λ l. nodes.IsViewedNode S.opening l.views.queued l.lacking (record { core = l.core; hub = l.hub; watches = l.watches.items; history = l.history; published = l.views.published })
+    ghost invariant = { λ l. nodes.IsViewedNode S.opening l.views.queued l.lacking (record { core = l.core; hub = l.hub; watches = l.watches.items; history = l.history; published = l.views.published; news = l.news })
         × (l.book.total ≡ length l.history) × (l.core.settings ≡ S.settings) × (l.rest.parts ≡ 0) × (l.rest.amount ≡ 0) };
 }
 
@@ -95,7 +96,7 @@ impl<S: DirectoryTag, R: Wait + Drop> ViewedNode<S, R> {
         requires views { views ≡ record { published = []; queued = [] } }
         requires total { book.total ≡ 0 }
         requires rest { (rest.parts ≡ 0) × (rest.amount ≡ 0) }
-        ensures { result ≡ record { core = core; hub = new_hub; watches = []; history = []; published = [] } }
+        ensures { result ≡ record { core = core; hub = new_hub; watches = []; history = []; published = []; news = empty } }
     {
         ViewedNode {
             core,
@@ -118,7 +119,8 @@ impl<S: DirectoryTag, R: Wait + Drop> ViewedNode<S, R> {
         seat: &mut ReaderSeat<S>,
         committed: &Committed,
     ) -> Result<Receipt, Fault>
-        ensures taken { IfOk result (λ _. self.new ≡ nodes.after_own self.old committed.now.entry self.new.published) }
+        ensures taken { IfOk result (λ _. self.new ≡ nodes.after_own self.old committed.now.entry self.new.published self.new.news) }
+        ensures news { IfOk result (λ _. nodes.NotesOwn self.old self.new) }
         ensures shown { IfOk result (λ receipt. spec.PublishesWhereSaid receipt.shown self.old self.new) }
         ensures err { OnErr result (self.new ≡ self.old) }
         ensures due { OnOk result (spec.own_due_after S.opening self.old.history committed.now ≡ Ok tt) }
@@ -147,7 +149,7 @@ impl<S: DirectoryTag, R: Wait + Drop> ViewedNode<S, R> {
         self.core.take_own(committed)?;
         self.history.add(EventRef::TookOwn(entry));
         let (version, _) = since;
-        let _ = self.news.add(me, version);
+        let _ = add_owner(&mut self.news, me, version);
         push_note(&mut self.hub, &me, entry);
         seat.count(&mut self.book);
         Ok(Receipt {
@@ -163,7 +165,7 @@ impl<S: DirectoryTag, R: Wait + Drop> ViewedNode<S, R> {
         seat: &mut ReaderSeat<S>,
         delta: &Delta,
     ) -> Result<Applied, Fault>
-        ensures taken { IfOk result (λ applied. self.new ≡ nodes.after_delta self.old delta.now applied.ends self.new.published) }
+        ensures taken { IfOk result (λ applied. self.new ≡ nodes.after_delta self.old delta.now applied.ends self.new.published self.new.news) }
         ensures shown { IfOk result (λ applied. spec.PublishesWhereSaid applied.shown self.old self.new) }
         ensures err { OnErr result (self.new ≡ self.old) }
         ensures due { OnOk result (spec.delta_due_after self.old.history ≡ Ok tt) }
@@ -197,7 +199,8 @@ impl<S: DirectoryTag, R: Wait + Drop> ViewedNode<S, R> {
 
     /// Takes the news: the owners whose held version rose since the last call, each with the version up to which it was held then.
     pub(crate) fn take_news(&mut self) -> Backlog
-        ensures { self.new ≡ self.old }
+        ensures taken { result ≡ self.old.news }
+        ensures left { self.new ≡ nodes.with_news self.old empty }
     {
         mem::replace(&mut self.news, Backlog::new(self.alloc))
     }

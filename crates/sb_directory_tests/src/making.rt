@@ -7,7 +7,9 @@ use sb_node::NodeCore;
 use sb_session::{ReceivedDelta, ReceivedMessage};
 use sb_table::Table;
 use sb_testing::{SETTINGS, delta_of_block, delta_of_write, letters_of};
-use sb_types::{Block, Delta, Entry, Key, Name, Prefix, RawSettings, Settings, Slot, Value};
+use sb_types::{
+    Block, Delta, Entry, Key, Name, Prefix, RawSettings, Settings, SharedEntry, Slot, Value,
+};
 use std::alloc::Global;
 use std::process::Abort;
 
@@ -79,11 +81,13 @@ fn entry_behind(rt: &impl Abort, version: u64, text: &[u8]) -> Entry {
 }
 
 /// What an owner wrote under these letters, from the version after `after` on.
-fn entries_behind(rt: &impl Abort, alloc: Global, after: u64, letters: &[u8]) -> Vec<Entry> {
+fn entries_behind(rt: &impl Abort, alloc: Global, after: u64, letters: &[u8]) -> Vec<SharedEntry> {
     let mut entries = Vec::new(alloc);
     let mut version = after;
     for letter in letters {
-        got(rt, entries.push(entry_behind(rt, version, &[*letter])));
+        let entry = entry_behind(rt, version, &[*letter]);
+        let shared = got(rt, SharedEntry::new(alloc, entry));
+        got(rt, entries.push(shared));
         version = version.saturating_add(1);
     }
     entries

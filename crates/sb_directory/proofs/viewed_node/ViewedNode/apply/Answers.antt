@@ -20,7 +20,7 @@ invariant_of-self-2 g c =
     let queued = inside.views.queued in
     let node = inside.core.node in
     let is = c.self.invariant in
-    let old : ViewedNode = record { core = inside.core; hub = inside.hub; watches = inside.watches.items; history = inside.history; published = inside.views.published } in
+    let old : ViewedNode = record { core = inside.core; hub = inside.hub; watches = inside.watches.items; history = inside.history; published = inside.views.published; news = inside.news } in
     let blocks = c.args.delta.now in
     let ends = c.in_ok-ends.ends in
     let taken = c.in_ok-ends.ensures.ok in
@@ -40,7 +40,7 @@ invariant_of-self-2 g c =
     let seen : c.push_notes_since.new.hub ≡ with_notes inside.hub (notes_of_blocks blocks node.held new.held) =
     c.push_notes_since.ensures ∙ (λ i. with_notes inside.hub (notes_since (versions i) (held i))) in (
       delta-there opening queued more old noting c.holdings.ensures.holdings blocks ends c.in_ok-ends.ensures.delta c.in_ok-ends.ensures.ends after has
-          c.apply.new.self c.add.new.self c.push_notes_since.new.hub inside.views.published taken longer seen,
+          c.apply.new.self c.add.new.self c.push_notes_since.new.hub inside.views.published _ taken longer seen,
       omega (arith, c.count.ensures.total, is.1, ap (λ (l : List Event). length l) longer, length-append inside.history (Applied blocks ends ∷ [])),
       ap (λ (k : Core). k.settings) taken ∙ is.2,
       is.3,
@@ -56,8 +56,8 @@ invariant_of-self-in_err-add_owners g c =
     let more = c.add_owners.new.self in
     let is = c.self.invariant in
     let history = c.call_at.ensures.history in
-    let old : ViewedNode = record { core = inside.core; hub = inside.hub; watches = inside.watches.items; history = inside.history; published = inside.views.published } in (
-      subst (λ (l : List Event). IsViewedNode opening queued more (record { core = inside.core; hub = inside.hub; watches = inside.watches.items; history = l; published = inside.views.published })) (sym history)
+    let old : ViewedNode = record { core = inside.core; hub = inside.hub; watches = inside.watches.items; history = inside.history; published = inside.views.published; news = inside.news } in (
+      subst (λ (l : List Event). IsViewedNode opening queued more (record { core = inside.core; hub = inside.hub; watches = inside.watches.items; history = l; published = inside.views.published; news = inside.news })) (sym history)
           (noted opening queued inside.lacking more old is.0
           (subst (λ (h : Held). AreSince (node_after opening queued).held h more) c.holdings-2.ensures.held
           (c.add_owners.ensures.since (node_after opening queued).held
@@ -77,8 +77,8 @@ invariant_of-self-in_err-ends g c =
     let is = c.self.invariant in
     let same = c.in_err-ends.ensures.err in
     let history = c.call_at.ensures.history in
-    let old : ViewedNode = record { core = inside.core; hub = inside.hub; watches = inside.watches.items; history = inside.history; published = inside.views.published } in (
-      subst (λ (l : ViewedNode). IsViewedNode opening queued more l) (λ i. record { core = sym same i; hub = inside.hub; watches = inside.watches.items; history = sym history i; published = inside.views.published })
+    let old : ViewedNode = record { core = inside.core; hub = inside.hub; watches = inside.watches.items; history = inside.history; published = inside.views.published; news = inside.news } in (
+      subst (λ (l : ViewedNode). IsViewedNode opening queued more l) (λ i. record { core = sym same i; hub = inside.hub; watches = inside.watches.items; history = sym history i; published = inside.views.published; news = inside.news })
           (noted opening queued inside.lacking more old is.0
           (subst (λ (h : Held). AreSince (node_after opening queued).held h more) c.holdings-2.ensures.held
           (c.in_ok-add_owners.ensures.since (node_after opening queued).held

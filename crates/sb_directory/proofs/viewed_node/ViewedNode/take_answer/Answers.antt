@@ -23,7 +23,7 @@ invariant_of-self g c =
     let is = c.self.invariant in
     let watch = c.args.watch.now in
     let watches = inside.watches.items in
-    let old : ViewedNode = record { core = inside.core; hub = inside.hub; watches = watches; history = inside.history; published = inside.views.published } in
+    let old : ViewedNode = record { core = inside.core; hub = inside.hub; watches = watches; history = inside.history; published = inside.views.published; news = inside.news } in
     let known = subst (λ (l : ViewedNode). Stands l.watches watch) (sym c.self.view_is) c.requires.known in
     let one = one-watched opening inside.history inside.hub watches watch is.0.watches known in
     let left : c.take-answer.new.self ≡ with_answer inside.hub watch.id = c.take-answer.ensures.left ∙ ap (with_answer inside.hub) c.id.ensures in

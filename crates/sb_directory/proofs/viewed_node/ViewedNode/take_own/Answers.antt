@@ -14,7 +14,7 @@ invariant_of-self-2 g c =
     let inside = c.self.inside in
     let queued = inside.views.queued in
     let is = c.self.invariant in
-    let old : ViewedNode = record { core = inside.core; hub = inside.hub; watches = inside.watches.items; history = inside.history; published = inside.views.published } in
+    let old : ViewedNode = record { core = inside.core; hub = inside.hub; watches = inside.watches.items; history = inside.history; published = inside.views.published; news = inside.news } in
     let node = inside.core.node in
     let e = c.args.committed.now.entry in
     let taken = c.in_ok-take_own.ensures.ok in
@@ -26,7 +26,7 @@ invariant_of-self-2 g c =
     let noted = added-locked opening queued inside.lacking c.add.new.self old c.name.result.now _ is.0 c.in_ok-add.ensures.ok (since-read _ _ _ _ _ c.upto.ensures.version c.floor.ensures.floor c.holdings.ensures.held) in
     let has = added-there inside.lacking c.add.new.self c.name.result.now node.held.me _ c.in_ok-add.ensures.ok c.name.ensures.name in (
       own-there opening queued c.add.new.self old noted c.refusal.ensures.holdings e c.in_ok-take_own.ensures.next c.entry-entry.ensures.limits few has
-          c.take_own.new.self c.add-2.new.self c.push_note.new.hub inside.views.published taken longer seen,
+          c.take_own.new.self c.add-2.new.self c.push_note.new.hub inside.views.published _ taken longer seen,
       omega (arith, c.count.ensures.total, is.1, ap (λ (l : List Event). length l) longer, length-append inside.history (TookOwn e ∷ [])),
       ap (λ (k : Core). k.settings) taken ∙ is.2,
       is.3,
@@ -40,11 +40,11 @@ invariant_of-self-in_err-take_own g c =
     let inside = c.self.inside in
     let queued = inside.views.queued in
     let is = c.self.invariant in
-    let old : ViewedNode = record { core = inside.core; hub = inside.hub; watches = inside.watches.items; history = inside.history; published = inside.views.published } in
+    let old : ViewedNode = record { core = inside.core; hub = inside.hub; watches = inside.watches.items; history = inside.history; published = inside.views.published; news = inside.news } in
     let noted = added-locked opening queued inside.lacking c.add.new.self old c.name.result.now _ is.0 c.in_ok-add.ensures.ok (since-read _ _ _ _ _ c.upto.ensures.version c.floor.ensures.floor c.holdings.ensures.held) in
     let same = c.in_err-take_own.ensures.err in
     let history = c.call_at.ensures.history in (
-      subst (λ (l : ViewedNode). IsViewedNode opening queued c.add.new.self l) (λ i. record { core = sym same i; hub = inside.hub; watches = inside.watches.items; history = sym history i; published = inside.views.published }) noted,
+      subst (λ (l : ViewedNode). IsViewedNode opening queued c.add.new.self l) (λ i. record { core = sym same i; hub = inside.hub; watches = inside.watches.items; history = sym history i; published = inside.views.published; news = inside.news }) noted,
       is.1 ∙ ap (λ (l : List Event). length l) (sym history),
       ap (λ (k : Core). k.settings) same ∙ is.2,
       is.3,

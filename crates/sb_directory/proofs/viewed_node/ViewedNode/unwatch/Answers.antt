@@ -17,7 +17,7 @@ invariant_of-self g c =
     let inside = c.self.inside in
     let held = inside.core.node.held in
     let is = c.self.invariant in
-    let old : ViewedNode = record { core = inside.core; hub = inside.hub; watches = inside.watches.items; history = inside.history; published = inside.views.published } in
+    let old : ViewedNode = record { core = inside.core; hub = inside.hub; watches = inside.watches.items; history = inside.history; published = inside.views.published; news = inside.news } in
     let all = dropped-watched opening inside.history inside.hub c.args.id inside.watches.items is.0.watches in (
       watches-locked opening inside.views.queued inside.lacking old c.drop_watch.new.self c.leave_out.new.watches.items is.0
           (subst (AllNotes (is_held held)) (sym c.drop_watch.ensures.left) (dropped_keeps (λ (note : Note). is_held held note ≡ true) inside.hub c.args.id is.0.notes))

@@ -19,7 +19,7 @@ invariant_of-self-2 g c =
     let is = c.self.invariant in
     let filter = c.args.filter in
     let capacity = c.args.capacity in
-    let old : ViewedNode = record { core = inside.core; hub = inside.hub; watches = inside.watches.items; history = inside.history; published = inside.views.published } in
+    let old : ViewedNode = record { core = inside.core; hub = inside.hub; watches = inside.watches.items; history = inside.history; published = inside.views.published; news = inside.news } in
     let given = given-id inside.hub capacity c.in_ok-id.id c.in_ok-id.ensures.answer in
     let unused : has_watch inside.hub inside.hub.next ≡ false = subst (λ (id : ℕ). has_watch inside.hub id ≡ false) given.1 c.in_ok-id.ensures.unused in
     let added = c.in_ok-id.ensures.ok in
