@@ -5,7 +5,7 @@ use Rattle.http1.specs.Fields.{Header}
 use Rattle.http_server.specs.declared.response.Response.{Response}
 use Rattle.http_server.specs.Response.{IsResponse, fields_of}
 use Rattle.sb_types.specs.declared.fault.Fault.{Fault}
-use Rattle.sb_types.specs.declared.fault.Fault.TheVariants.{UnknownKind, TableFull, VersionsSpent, NothingThere, OwnerConflict}
+use Rattle.sb_types.specs.declared.fault.Fault.TheVariants.{BadKey, BadValue, UnknownKind, TableFull, VersionsSpent, NothingThere, OwnerConflict}
 use Rattle.sb_types.specs.Faults.{number_of}
 use Rattle.sb_codec.specs.declared.message.Message.{Message}
 use Rattle.sb_codec.specs.declared.message.Message.TheVariants as kinds
@@ -21,7 +21,7 @@ use Rattle.sb_http.specs.declared.operation.Operation.{Operation}
 use Rattle.sb_http.specs.declared.operation.Operation.TheVariants.{Health, Metrics, Owners, Page, Rows, Row, Poll, Put}
 use Rattle.sb_http.specs.declared.operation.Door.{Door}
 use Rattle.sb_http.specs.declared.operation.Refusal.{Refusal}
-use Rattle.sb_http.specs.declared.operation.Refusal.TheVariants.{OtherHost, NotFound, NotAllowed, OnlyWritten, NotByPort, Bad, BadParameters, BadWait, BadBody, NoMemory}
+use Rattle.sb_http.specs.declared.operation.Refusal.TheVariants.{OtherHost, NotFound, NotAllowed, OnlyWritten, NotByPort, Bad, BadPlace, UnknownParameter, BadParameters, NoKey, BadWait, BadBody, BadKind, NoMemory}
 use Rattle.sb_http.specs.declared.contents.Content as rust
 use Rattle.sb_http.specs.declared.page.TheConstants.{PAGE, POLICY}
 use Rattle.sb_http.specs.Acts.{Act, asks, puts, polls, lists, measures, fails}
@@ -48,6 +48,10 @@ fields_for kind =
 
 abbrev pub is_error : ℕ → List ℕ → Content
 is_error status text = (status, line_of (error_data text))
+
+-- the number of a fault, with this text
+abbrev pub is_fault : ℕ → Fault → List ℕ → Content
+is_fault status fault text = (status, line_of (fault_data text (number_of fault)))
 
 -- the number of a fault, with a text
 abbrev pub IsFault : ℕ → Fault → Content → Type 0
@@ -154,17 +158,23 @@ abbrev pub Refuses : Refusal → Response → Type 0
 Refuses OtherHost response = Has (fields_for json_kind) (is_error 421 (codes "the host is not this machine")) response
 Refuses NotFound response = Has (fields_for json_kind) (is_error 404 (codes "there is no such path")) response
 Refuses NotAllowed response =
-    Has (fields_for json_kind ++ (codes "allow", codes "GET, HEAD") ∷ []) (is_error 405 (codes "this path is only read")) response
+    Has (fields_for json_kind ++ (codes "allow", codes "GET, HEAD") ∷ []) (is_error 405 (codes "this path is only read; a key is written at /v1/keys/KEY")) response
 Refuses OnlyWritten response =
-    Has (fields_for json_kind ++ (codes "allow", codes "PUT, DELETE") ∷ []) (is_error 405 (codes "this path is only written")) response
+    Has (fields_for json_kind ++ (codes "allow", codes "PUT, DELETE") ∷ []) (is_error 405 (codes "write by PUT, remove by DELETE; a row is read at /v1/rows/OWNER/KEY")) response
 Refuses NotByPort response = Has (fields_for json_kind) (is_error 403 (codes "writes are taken at a Unix socket only")) response
 Refuses (Bad fault) response = (content : Content) × IsFault 400 fault content × Has (fields_for json_kind) content response
+Refuses BadPlace response =
+    Has (fields_for json_kind) (is_fault 400 BadKey (codes "one row is at /v1/rows/OWNER/KEY, those of an owner at /v1/rows?owner=OWNER; after is OWNER/KEY")) response
+Refuses UnknownParameter response =
+    Has (fields_for json_kind) (is_error 400 (codes "there is no such parameter: rows take owner, prefix, after, wait and seen, or owner and key; a write takes key; each is NAME=VALUE")) response
 Refuses BadParameters response =
-    Has (fields_for json_kind) (is_error 400 (codes "the parameters are owner, prefix, after, wait and seen, or owner and key, or key for a write, each once")) response
+    Has (fields_for json_kind) (is_error 400 (codes "each parameter comes once; key goes with owner alone, and in a write with no other")) response
+Refuses NoKey response = Has (fields_for json_kind) (is_error 400 (codes "name the key: /v1/keys/KEY, or /v1/keys?key=KEY")) response
 Refuses BadWait response =
     Has (fields_for json_kind) (is_error 400 (codes "wait is 0s to 60s, as in wait=30s; seen is a mark of an answer, and goes with wait")) response
 Refuses BadBody response =
     Has (fields_for json_kind) (is_error 400 (codes "the body is JSON of this form: {\"kind\":\"weight\",\"value\":5}")) response
+Refuses BadKind response = Has (fields_for json_kind) (is_fault 400 BadValue (codes "the kind is addr, weight, flag or text")) response
 Refuses NoMemory response = ⊥
 
 -- the response has the page for browsers, with its policy

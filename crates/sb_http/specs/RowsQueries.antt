@@ -9,7 +9,7 @@ use Rattle.sb_http.specs.declared.operation.Operation.{Operation}
 use Rattle.sb_codec.specs.declared.message.ask.Ask as asking
 use Rattle.sb_http.specs.declared.operation.Operation.TheVariants.{Rows, Row, Poll}
 use Rattle.sb_http.specs.declared.operation.Refusal.{Refusal}
-use Rattle.sb_http.specs.declared.operation.Refusal.TheVariants.{Bad, BadParameters, BadWait}
+use Rattle.sb_http.specs.declared.operation.Refusal.TheVariants.{Bad, BadPlace, UnknownParameter, BadParameters, NoKey, BadWait}
 use Rattle.sb_http.specs.declared.rows_query.RowsQuery.{RowsQuery}
 use Rattle.sb_http.specs.Parts.{parted, all_parts}
 
@@ -29,7 +29,7 @@ prefix_in text = if is_prefix text then Ok text else Err (Bad BadKey)
 
 -- an owner, a slash, and a key
 abbrev pub place_of : Option (List ℕ × List ℕ) → Result (List ℕ × List ℕ) Refusal
-place_of None = Err (Bad BadKey)
+place_of None = Err BadPlace
 place_of (Some parts) = then_read (owner_in parts.0) (λ owner. then_read (key_in parts.1) (λ key. Ok (owner, key)))
 
 abbrev pub place_in : List ℕ → Result (List ℕ × List ℕ) Refusal
@@ -78,7 +78,7 @@ abbrev pub with_poll_parameter : RowsQuery → List ℕ → List ℕ → Result 
 with_poll_parameter q name value =
     if bytes_eq name (codes "wait") then with_wait q value
     else if bytes_eq name (codes "seen") then with_seen q value
-    else Err BadParameters
+    else Err UnknownParameter
 
 abbrev pub with_parameter : RowsQuery → List ℕ → List ℕ → Result RowsQuery Refusal
 with_parameter q name value =
@@ -90,7 +90,7 @@ with_parameter q name value =
 
 -- the value may have escapes
 abbrev pub with_pair : RowsQuery → Option (List ℕ × List ℕ) → Result RowsQuery Refusal
-with_pair q None = Err BadParameters
+with_pair q None = Err UnknownParameter
 with_pair q (Some pair) = with_parameter q pair.0 (percent_decode pair.1)
 
 -- a name, an equals sign and a value; or nothing
@@ -133,7 +133,8 @@ query_asked query = then_read (with_query no_parameters query) asked_with
 -- a key alone
 abbrev pub key_unless : Option (List ℕ) → Bool → Result (List ℕ) Refusal
 key_unless (Some key) false = Ok key
-key_unless key others = Err BadParameters
+key_unless (Some key) true = Err BadParameters
+key_unless None others = Err NoKey
 
 abbrev pub only_key : RowsQuery → Result (List ℕ) Refusal
 only_key q = key_unless q.key (is_some q.owner || is_some q.prefix || is_some q.after || is_some q.wait || is_some q.seen)

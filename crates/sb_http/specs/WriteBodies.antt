@@ -13,7 +13,7 @@ use Rattle.sb_types.specs.declared.kind.Kind.{Kind}
 use Rattle.sb_types.specs.Kinds.{Content, Word, Text, Number, Truth, all_kinds, word_of, form_of, value_of}
 use Rattle.sb_types.specs.Value.{Value}
 use Rattle.sb_http.specs.declared.operation.Refusal.{Refusal}
-use Rattle.sb_http.specs.declared.operation.Refusal.TheVariants.{Bad, BadBody}
+use Rattle.sb_http.specs.declared.operation.Refusal.TheVariants.{Bad, BadBody, BadKind}
 
 -- what a member holds, if JSON spells such contents so
 abbrev pub content_in : Form → Data → Option Content
@@ -34,7 +34,7 @@ value_with kind None = Err (Bad BadValue)
 value_with kind (Some content) = or_bad (value_of kind content)
 
 abbrev pub value_of_kind : Option Kind → Data → Result Value Refusal
-value_of_kind None json = Err (Bad BadValue)
+value_of_kind None json = Err BadKind
 value_of_kind (Some kind) json = value_with kind (content_in (form_of kind) json)
 
 abbrev pub count_members : Members → ℕ

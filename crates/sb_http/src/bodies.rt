@@ -225,11 +225,35 @@ fn fault_object(alloc: Global, text: &str, number: u8) -> Result<Value, AllocErr
     json!(in alloc; {"error": text, "fault": number})
 }
 
-/// The text of a fault, as a response has it: what to write in JSON, and when to ask again.
+/// The line of a fault with this text, and its number.
+pub(crate) fn named_fault_line(
+    alloc: Global,
+    fault: Fault,
+    text: &str,
+) -> Result<Vec<u8>, AllocError>
+    ensures { IfOk result (λ line. line.items ≡ line_of (spec.fault_data text.now (number_of fault))) }
+{
+    let object = fault_object(alloc, text, fault.number())?;
+    line_of_value(alloc, &object)
+}
+
+/// The text of a fault, as a response has it. It says what to write in a target or in JSON, where to look, or when to ask again.
 fn fault_text(alloc: Global, fault: Fault) -> Result<String, AllocError> {
     let text = match fault {
+        Fault::BadKey => {
+            "a key is 1 to 64 of the bytes a-z, 0-9, '.', '_', '/' and -; a prefix may be empty; an escape is % and two hex digits, as %2F"
+        }
         Fault::BadValue => {
-            "a value is addr with 1 to 128 printing bytes, weight below 2^63, flag true or false, or text of 1 to 512 UTF-8 bytes"
+            "a value is addr with 1 to 128 printing bytes, weight a whole number from 0 to 2^63 - 1 without quotes, flag true or false, or text of 1 to 512 UTF-8 bytes"
+        }
+        Fault::Closed => {
+            "the log of this node takes no writes, or the node ends: its standard error says why"
+        }
+        Fault::StoreFailed => {
+            "the node could not write its log, and takes no more writes: its standard error says why; this write may have been made"
+        }
+        Fault::OwnerConflict(_) => {
+            "another node writes under this node's name; give each node a name of its own"
         }
         Fault::WatchesFull => {
             "64 callers wait for changes at this node; ask again after one of them, or without wait"

@@ -67,12 +67,20 @@ pub enum Refusal {
     NotByPort,
     /// A word is not an owner, not a key or not a value, as this fault says.
     Bad(Fault),
-    /// A parameter is not one of those of its path, or they do not go together.
+    /// A place has no slash between an owner and a key.
+    BadPlace,
+    /// There is no parameter of this name, or it is not `NAME=VALUE`.
+    UnknownParameter,
+    /// A parameter comes twice, or they do not go together.
     BadParameters,
+    /// A write names no key.
+    NoKey,
     /// A time to wait is not `0s` to `60s`, or a mark is none, or has no time to wait with it.
     BadWait,
     /// The body of a PUT is not JSON, or not an object with a kind and a value.
     BadBody,
+    /// The body of a PUT has an unknown kind.
+    BadKind,
     /// There was no memory to read the request.
     NoMemory,
 }
@@ -271,8 +279,9 @@ fn query_of(request: &Request<Bytes>) -> &str
 /// - `NotAllowed` for another method than `GET` and `HEAD`, and `OnlyWritten` for another than `PUT` and `DELETE` at the path of a
 ///   key.
 /// - `NotByPort` if it would write, and came in at a port.
-/// - `Bad`, `BadParameters` and `BadWait` for the first part of the query, or of the path, that is not what it should be.
-/// - `BadBody`, and `Bad` with `BadValue`, for the body of a `PUT`.
+/// - `Bad`, `BadPlace`, `UnknownParameter`, `BadParameters` and `BadWait` for the first part of the query, or of the path, that is
+///   not what it should be. Then `NoKey` for a write.
+/// - `BadBody`, then `BadKind`, then `Bad` with `BadValue`, for the body of a `PUT`.
 ///
 /// `NoMemory` may come instead.
 pub fn asked_by(alloc: Global, door: Door, request: &Request<Bytes>) -> Result<Operation, Refusal>

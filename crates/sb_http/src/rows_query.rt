@@ -58,7 +58,7 @@ pub(crate) fn place_in(text: &[u8]) -> Result<(Name, Key), Refusal>
     ensures { result ≡ spec.place_in text.now }
 {
     let Some((owner, key)) = parted(text, b'/') else {
-        return Err(Refusal::Bad(Fault::BadKey));
+        return Err(Refusal::BadPlace);
     };
     match owner_in(owner) {
         Err(why) => Err(why),
@@ -189,7 +189,7 @@ impl RowsQuery {
         } else if name == b"seen".as_slice() {
             self.with_seen(value)
         } else {
-            Err(Refusal::BadParameters)
+            Err(Refusal::UnknownParameter)
         }
     }
 
@@ -218,7 +218,7 @@ impl RowsQuery {
             return Ok(self);
         }
         let Some((name, value)) = parted(part, b'=') else {
-            return Err(Refusal::BadParameters);
+            return Err(Refusal::UnknownParameter);
         };
         match plain(alloc, value) {
             Ok(value) => self.with_parameter(name, &value),
@@ -270,7 +270,8 @@ impl RowsQuery {
         let is_polled = self.wait.is_some() || self.seen.is_some();
         match self.key {
             Some(key) if !has_others && !is_polled => Ok(key),
-            _ => Err(Refusal::BadParameters),
+            Some(_) => Err(Refusal::BadParameters),
+            None => Err(Refusal::NoKey),
         }
     }
 }

@@ -1,10 +1,10 @@
 //! The service of a node.
 ghost use Rattle.std.specs.Prelude.{◌≡◌, ◌≢◌, ◌++◌, ◌∷◌, [], OnOk};
 ghost use Rattle.http_server.specs.Response.{IsBlank, IsResponse, fields_of};
-ghost use Rattle.sb_http.specs.Answers.{AnswersAsked, AnswersRequest, Refuses, Has, HasPage, FillsOrShortens, is_error, fields_for, json_kind, kind_of};
+ghost use Rattle.sb_http.specs.Answers.{AnswersAsked, AnswersRequest, Refuses, Has, HasPage, FillsOrShortens, is_error, is_fault, fields_for, json_kind, kind_of};
 
 use crate::backend::Backend;
-use crate::bodies::{error_line, fault_line};
+use crate::bodies::{error_line, fault_line, named_fault_line};
 use crate::contents::{Content, answer};
 use crate::operation::{Door, Operation, Refusal, asked_by};
 use crate::page::{PAGE, POLICY};
@@ -84,6 +84,68 @@ fn refuse_by(alloc: Global, response: &mut Response, fault: Fault) -> Result<(),
     fill(response, StatusCode::BAD_REQUEST, fault_line(alloc, fault)?)
 }
 
+/// Refuses a request with a fault and this text.
+fn refuse_named(
+    alloc: Global,
+    response: &mut Response,
+    fault: Fault,
+    text: &str,
+) -> Result<(), AllocError>
+    requires { IsBlank response.old }
+    ensures { OnOk result (Has (fields_for json_kind) (is_fault 400 fault text.now) response.new) }
+{
+    add_fields(response, json_type())?;
+    let body = named_fault_line(alloc, fault, text)?;
+    fill(response, StatusCode::BAD_REQUEST, body)
+}
+
+/// Refuses a place, and says where rows are and how a place is written.
+fn refuse_place(alloc: Global, response: &mut Response) -> Result<(), AllocError>
+    requires { IsBlank response.old }
+    ensures { OnOk result (Refuses Refusal.BadPlace response.new) }
+{
+    let text =
+        "one row is at /v1/rows/OWNER/KEY, those of an owner at /v1/rows?owner=OWNER; after is OWNER/KEY";
+    refuse_named(alloc, response, Fault::BadKey, text)
+}
+
+/// Refuses parameters that come twice or do not go together.
+fn refuse_combination(alloc: Global, response: &mut Response) -> Result<(), AllocError>
+    requires { IsBlank response.old }
+    ensures { OnOk result (Refuses Refusal.BadParameters response.new) }
+{
+    let text = "each parameter comes once; key goes with owner alone, and in a write with no other";
+    refuse_with(alloc, response, StatusCode::BAD_REQUEST, text)
+}
+
+/// Refuses a parameter, and names those that there are.
+fn refuse_unknown(alloc: Global, response: &mut Response) -> Result<(), AllocError>
+    requires { IsBlank response.old }
+    ensures { OnOk result (Refuses Refusal.UnknownParameter response.new) }
+{
+    let text =
+        "there is no such parameter: rows take owner, prefix, after, wait and seen, or owner and key; a write takes key; each is NAME=VALUE";
+    refuse_with(alloc, response, StatusCode::BAD_REQUEST, text)
+}
+
+/// Refuses a write without a key, and says where a key goes.
+fn refuse_without_key(alloc: Global, response: &mut Response) -> Result<(), AllocError>
+    requires { IsBlank response.old }
+    ensures { OnOk result (Refuses Refusal.NoKey response.new) }
+{
+    let text = "name the key: /v1/keys/KEY, or /v1/keys?key=KEY";
+    refuse_with(alloc, response, StatusCode::BAD_REQUEST, text)
+}
+
+/// Refuses a kind, and names those that there are.
+fn refuse_kind(alloc: Global, response: &mut Response) -> Result<(), AllocError>
+    requires { IsBlank response.old }
+    ensures { OnOk result (Refuses Refusal.BadKind response.new) }
+{
+    let text = "the kind is addr, weight, flag or text";
+    refuse_named(alloc, response, Fault::BadValue, text)
+}
+
 /// Refuses a method, and names those that a path has that is only read.
 fn refuse_method(alloc: Global, response: &mut Response) -> Result<(), AllocError>
     requires { IsBlank response.old }
@@ -91,7 +153,10 @@ fn refuse_method(alloc: Global, response: &mut Response) -> Result<(), AllocErro
 {
     add_fields(response, json_type())?;
     response.add_header(header::ALLOW, HeaderValue::from_static("GET, HEAD"))?;
-    let body = error_line(alloc, "this path is only read")?;
+    let body = error_line(
+        alloc,
+        "this path is only read; a key is written at /v1/keys/KEY",
+    )?;
     fill(response, StatusCode::METHOD_NOT_ALLOWED, body)
 }
 
@@ -102,7 +167,10 @@ fn refuse_reading(alloc: Global, response: &mut Response) -> Result<(), AllocErr
 {
     add_fields(response, json_type())?;
     response.add_header(header::ALLOW, HeaderValue::from_static("PUT, DELETE"))?;
-    let body = error_line(alloc, "this path is only written")?;
+    let body = error_line(
+        alloc,
+        "write by PUT, remove by DELETE; a row is read at /v1/rows/OWNER/KEY",
+    )?;
     fill(response, StatusCode::METHOD_NOT_ALLOWED, body)
 }
 
@@ -127,11 +195,10 @@ fn refuse(alloc: Global, response: &mut Response, why: &Refusal) -> Result<(), A
             refuse_with(alloc, response, StatusCode::FORBIDDEN, text)
         }
         Refusal::Bad(fault) => refuse_by(alloc, response, *fault),
-        Refusal::BadParameters => {
-            let text =
-                "the parameters are owner, prefix, after, wait and seen, or owner and key, or key for a write, each once";
-            refuse_with(alloc, response, StatusCode::BAD_REQUEST, text)
-        }
+        Refusal::BadPlace => refuse_place(alloc, response),
+        Refusal::UnknownParameter => refuse_unknown(alloc, response),
+        Refusal::BadParameters => refuse_combination(alloc, response),
+        Refusal::NoKey => refuse_without_key(alloc, response),
         Refusal::BadWait => {
             let text =
                 "wait is 0s to 60s, as in wait=30s; seen is a mark of an answer, and goes with wait";
@@ -141,6 +208,7 @@ fn refuse(alloc: Global, response: &mut Response, why: &Refusal) -> Result<(), A
             let text = "the body is JSON of this form: {\"kind\":\"weight\",\"value\":5}";
             refuse_with(alloc, response, StatusCode::BAD_REQUEST, text)
         }
+        Refusal::BadKind => refuse_kind(alloc, response),
         Refusal::NoMemory => Err(AllocError),
     }
 }

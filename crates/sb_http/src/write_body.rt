@@ -100,7 +100,7 @@ fn value_of_kind(alloc: Global, kind: Option<Kind>, json: &JsonValue) -> Result<
 {
     match kind {
         Some(kind) => value_with(alloc, kind, content_in(kind.form(), json)),
-        None => Err(Refusal::Bad(Fault::BadValue)),
+        None => Err(Refusal::BadKind),
     }
 }
 

@@ -78,7 +78,7 @@ fn polls_have_a_mark(rt: HostRuntime) {
         case(&rt, alloc, target, "400", wait);
     }
     let parameters =
-        "{\"error\":\"the parameters are owner, prefix, after, wait and seen, or owner and key, or key for a write, each once\"}\n";
+        "{\"error\":\"each parameter comes once; key goes with owner alone, and in a write with no other\"}\n";
     for target in ["/v1/rows?wait=1s&wait=1s", "/v1/rows?owner=a&key=k&wait=1s"] {
         case(&rt, alloc, target, "400", parameters);
     }
@@ -86,7 +86,8 @@ fn polls_have_a_mark(rt: HostRuntime) {
 
 #[test]
 fn faults_of_a_node_are_named(rt: HostRuntime) {
-    let closed = "{\"error\":\"this is closed; open it again\",\"fault\":15}\n";
+    let closed =
+        "{\"error\":\"the log of this node takes no writes, or the node ends: its standard error says why\",\"fault\":15}\n";
     case(&rt, rt.alloc(), "/v1/rows?owner=shut", "503", closed);
     let unknown =
         "{\"error\":\"a message of kind 0 is not known, or has no place here\",\"fault\":13}\n";
@@ -103,9 +104,11 @@ fn what_asks_for_nothing_is_refused(rt: HostRuntime) {
         "404",
         "{\"error\":\"there is no such path\"}\n",
     );
+    let unknown =
+        "{\"error\":\"there is no such parameter: rows take owner, prefix, after, wait and seen, or owner and key; a write takes key; each is NAME=VALUE\"}\n";
+    case(&rt, rt.alloc(), "/v1/rows?x=1", "400", unknown);
     let parameters =
-        "{\"error\":\"the parameters are owner, prefix, after, wait and seen, or owner and key, or key for a write, each once\"}\n";
-    case(&rt, rt.alloc(), "/v1/rows?x=1", "400", parameters);
+        "{\"error\":\"each parameter comes once; key goes with owner alone, and in a write with no other\"}\n";
     case(&rt, rt.alloc(), "/v1/rows?key=k", "400", parameters);
     case(
         &rt,
@@ -116,6 +119,15 @@ fn what_asks_for_nothing_is_refused(rt: HostRuntime) {
     );
     let name = "{\"error\":\"a name is 1 to 32 of the bytes a-z, 0-9 and -\",\"fault\":2}\n";
     case(&rt, rt.alloc(), "/v1/rows/A/k", "400", name);
+}
+
+#[test]
+fn a_place_without_a_slash_is_refused(rt: HostRuntime) {
+    let place =
+        "{\"error\":\"one row is at /v1/rows/OWNER/KEY, those of an owner at /v1/rows?owner=OWNER; after is OWNER/KEY\",\"fault\":3}\n";
+    for target in ["/v1/rows/a", "/v1/rows/", "/v1/rows?after=a"] {
+        case(&rt, rt.alloc(), target, "400", place);
+    }
 }
 
 #[test]

@@ -93,10 +93,8 @@ fn a_body_that_is_no_value_is_refused(rt: HostRuntime) {
         case(&rt, alloc, "PUT /v1/keys/k", sent, "400", form);
     }
     let value =
-        "{\"error\":\"a value is addr with 1 to 128 printing bytes, weight below 2^63, flag true or false, or text of 1 to 512 UTF-8 bytes\",\"fault\":4}\n";
+        "{\"error\":\"a value is addr with 1 to 128 printing bytes, weight a whole number from 0 to 2^63 - 1 without quotes, flag true or false, or text of 1 to 512 UTF-8 bytes\",\"fault\":4}\n";
     for sent in [
-        "{\"kind\":\"x\",\"value\":5}",
-        "{\"kind\":5,\"value\":5}",
         "{\"kind\":\"weight\",\"value\":\"5\"}",
         "{\"kind\":\"weight\",\"value\":-1}",
         "{\"kind\":\"weight\",\"value\":5.5}",
@@ -108,6 +106,19 @@ fn a_body_that_is_no_value_is_refused(rt: HostRuntime) {
         "{\"kind\":\"text\",\"value\":null}",
     ] {
         case(&rt, alloc, "PUT /v1/keys/k", sent, "400", value);
+    }
+}
+
+#[test]
+fn a_kind_that_is_none_is_refused(rt: HostRuntime) {
+    let alloc = rt.alloc();
+    let kind = "{\"error\":\"the kind is addr, weight, flag or text\",\"fault\":4}\n";
+    for sent in [
+        "{\"kind\":\"x\",\"value\":5}",
+        "{\"kind\":\"adr\",\"value\":\"\"}",
+        "{\"kind\":5,\"value\":5}",
+    ] {
+        case(&rt, alloc, "PUT /v1/keys/k", sent, "400", kind);
     }
 }
 
@@ -138,7 +149,7 @@ fn a_fault_of_a_write_has_its_status(rt: HostRuntime) {
         spent,
     );
     let conflict =
-        "{\"error\":\"another node writes under this name: its version 0 was seen; give each node a name of its own\",\"fault\":21}\n";
+        "{\"error\":\"another node writes under this node's name; give each node a name of its own\",\"fault\":21}\n";
     case(
         &rt,
         alloc,
@@ -147,7 +158,8 @@ fn a_fault_of_a_write_has_its_status(rt: HostRuntime) {
         "409",
         conflict,
     );
-    let closed = "{\"error\":\"this is closed; open it again\",\"fault\":15}\n";
+    let closed =
+        "{\"error\":\"the log of this node takes no writes, or the node ends: its standard error says why\",\"fault\":15}\n";
     case(
         &rt,
         alloc,
@@ -159,15 +171,31 @@ fn a_fault_of_a_write_has_its_status(rt: HostRuntime) {
 }
 
 #[test]
+fn a_write_that_may_have_been_made_is_named(rt: HostRuntime) {
+    let alloc = rt.alloc();
+    let failed =
+        "{\"error\":\"the node could not write its log, and takes no more writes: its standard error says why; this write may have been made\",\"fault\":18}\n";
+    case(
+        &rt,
+        alloc,
+        "PUT /v1/keys/k",
+        "{\"kind\":\"text\",\"value\":\"fault 18\"}",
+        "503",
+        failed,
+    );
+}
+
+#[test]
 fn a_write_has_a_key_and_a_method(rt: HostRuntime) {
     let alloc = rt.alloc();
     let key =
-        "{\"error\":\"a key is 1 to 64 of the bytes a-z, 0-9, '.', '_', '/' and -; a prefix may be empty\",\"fault\":3}\n";
+        "{\"error\":\"a key is 1 to 64 of the bytes a-z, 0-9, '.', '_', '/' and -; a prefix may be empty; an escape is % and two hex digits, as %2F\",\"fault\":3}\n";
     case(&rt, alloc, "PUT /v1/keys/K", "", "400", key);
     case(&rt, alloc, "DELETE /v1/keys/", "", "400", key);
+    let lack = "{\"error\":\"name the key: /v1/keys/KEY, or /v1/keys?key=KEY\"}\n";
+    case(&rt, alloc, "PUT /v1/keys", "", "400", lack);
     let parameters =
-        "{\"error\":\"the parameters are owner, prefix, after, wait and seen, or owner and key, or key for a write, each once\"}\n";
-    case(&rt, alloc, "PUT /v1/keys", "", "400", parameters);
+        "{\"error\":\"each parameter comes once; key goes with owner alone, and in a write with no other\"}\n";
     case(
         &rt,
         alloc,
@@ -176,7 +204,8 @@ fn a_write_has_a_key_and_a_method(rt: HostRuntime) {
         "400",
         parameters,
     );
-    let method = "{\"error\":\"this path is only written\"}\n";
+    let method =
+        "{\"error\":\"write by PUT, remove by DELETE; a row is read at /v1/rows/OWNER/KEY\"}\n";
     case(&rt, alloc, "GET /v1/keys/k", "", "405", method);
     case(&rt, alloc, "POST /v1/keys", "", "405", method);
 }
