@@ -74,7 +74,7 @@ AreOwnersAfter opening seen ages owners = (view : NodeView) × IsView (node_afte
 abbrev pub AreOwnersSeen : Node → List Event → List HeldOwner → Type 0
 AreOwnersSeen opening seen owners = (ages : List OwnerAge) × AreOwnersAfter opening seen ages owners
 
--- what a call over HTTP reads or is answered, and what the seat has seen then; a write is answered by the calling thread, and the seat
+-- what a call over HTTP reads or is answered, and what the seat has seen then; a write is answered by the owner's thread, and the seat
 -- stays as it was
 abbrev pub Reads : Node → Settings → RandomState → Seat → Act → Seat → Type 0
 Reads opening settings keys before (asks request reply) after = AnswersQuestion opening settings before request after reply

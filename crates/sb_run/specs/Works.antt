@@ -1,4 +1,4 @@
--- What the calling thread of a node does: one piece of work after another.
+-- What the owner's thread of a node does: one piece of work after another.
 use Rattle.std.specs.Prelude.{◌≡◌, ℕ, Bool, if◌then◌else◌, List, [], ◌∷◌, Option}
 use Rattle.sb_types.specs.Records.{Settings}
 use Rattle.sb_holdings.specs.Nodes.{Node}
@@ -39,7 +39,7 @@ Does seen opening settings beat Beat old owed before new owes after = MakesBeat 
 abbrev pub closable : {L : Type 0} → (L → Log) → ClosableLog L → Log
 closable seen log = seen_by (seen log.log) log.closed_by
 
--- what the calling thread has: the log, what is owed of it, and the seat that writes
+-- what the owner's thread has: the log, what is owed of it, and the seat that writes
 pub record Owning (L : Type 0) : Type 0 where
   pub log : ClosableLog L
   pub owed : Option Committed

@@ -62,7 +62,6 @@ enum Left {
 }
 
 /// The connections that wait at both sockets, and the way to the threads that serve them.
-#[derive(Drop)]
 struct Backlog {
     peers: WaitingList,
     callers: WaitingList,
@@ -77,12 +76,37 @@ struct Backlog {
     counts_again: Option<Instant>,
 }
 
+// It is written out, so that a caller does not prove again how each part is dropped.
+impl Drop for Backlog {
+    fn drop(self) {
+        let Backlog {
+            peers: _peers,
+            callers: _callers,
+            handover: _handover,
+            since: _,
+            last_number: _,
+            faults: _,
+            counts_again: _,
+        } = self;
+    }
+}
+
 /// Accepts at both sockets.
-#[derive(Drop)]
 pub(crate) struct Acceptor {
     poll: Poll,
     events: Events,
     backlog: Backlog,
+}
+
+// It is written out, so that a caller does not prove again how each part is dropped.
+impl Drop for Acceptor {
+    fn drop(self) {
+        let Acceptor {
+            poll: _poll,
+            events: _events,
+            backlog: _backlog,
+        } = self;
+    }
 }
 
 impl Backlog {
@@ -141,7 +165,7 @@ impl Backlog {
         Ok(())
     }
 
-    /// Accepts what waits at a socket, but not more than a few, and says what is left there.
+    /// Accepts what waits at a socket, but not more than a few, and returns what is left there.
     fn accept_at<S: RoundsTag, H: Wait + Drop, Q: Clock>(
         &mut self,
         node: &NodeContext<S, H, Q>,
@@ -187,7 +211,7 @@ impl Backlog {
         }
     }
 
-    /// Closes the oldest connection of the longer list. Says whether there was one.
+    /// Closes the oldest connection of the longer list. Returns whether there was one.
     fn close_oldest(&mut self) -> bool {
         if self.peers.len() < self.callers.len() {
             self.callers.close_oldest()
@@ -206,7 +230,7 @@ impl Backlog {
         }
     }
 
-    /// Hands on the connection of this number, if it has said enough.
+    /// Hands on the connection of this number, if it has sent enough.
     fn take_up<S: RoundsTag, H: Wait + Drop, Q: Wait + Clock>(
         &mut self,
         node: &NodeContext<S, H, Q>,
@@ -249,7 +273,7 @@ impl Backlog {
         note_given(node.counts, given)
     }
 
-    /// Tells those who wait for a change that came, or whose time is over.
+    /// Answers those who wait for a change that came, or whose time is over.
     fn tell<S: RoundsTag, H: Wait + Drop, Q: Wait + Clock>(
         &mut self,
         node: &NodeContext<S, H, Q>,
@@ -387,7 +411,7 @@ impl Acceptor {
         }
     }
 
-    /// Accepts until the node is to end. Gives how many connections were closed before they were handed on, and how many times none
+    /// Accepts until the node is to end. Returns how many connections were closed before they were handed on, and how many times none
     /// could be accepted.
     pub(crate) fn accept_all<S: RoundsTag, H: Wait + Drop, Q: Wait + Clock>(
         self,
@@ -513,7 +537,7 @@ impl Waiting {
         self.frames.held() == 0 && self.came.is_empty()
     }
 
-    /// Makes one read of a peer, if one is left, without waiting. Says whether a worker is to take it. `Truncated` at an end
+    /// Makes one read of a peer, if one is left, without waiting. Returns whether a worker is to take it. `Truncated` at an end
     /// before that, `ReadFailed`, `TurnsSpent`, `NoMemory`; after each it is to be closed.
     fn hear(&mut self, alloc: Global) -> Result<bool, Fault>
         ensures number { self.new.number ≡ self.old.number }
@@ -559,7 +583,7 @@ fn place_of(all: &[Waiting], number: usize) -> Option<usize>
     all.iter().position(|waiting| waiting.number == number)
 }
 
-/// The place of the oldest that has said nothing.
+/// The place of the oldest that has sent nothing.
 fn place_of_silent(all: &[Waiting]) -> Option<usize>
     ensures { result ≡ position is_silent all.now }
 {
@@ -590,7 +614,7 @@ impl WaitingList {
         self.all.len()
     }
 
-    /// Closes the oldest that has said nothing, or else the oldest. Says whether there was one.
+    /// Closes the oldest that has sent nothing, or else the oldest. Returns whether there was one.
     pub(crate) fn close_oldest(&mut self) -> bool
         ensures { MatchBool result ((vec_len self.new.all + 1 ≡ vec_len self.old.all) × (self.new.all.items ≡ without_oldest self.old.all.items))
             ((self.old.all.items ≡ []) × (self.new.all.items ≡ [])) }
@@ -603,7 +627,7 @@ impl WaitingList {
         true
     }
 
-    /// If as many wait as may, closes the oldest that has said nothing, or else the oldest. Says whether it did.
+    /// If as many wait as may, closes the oldest that has sent nothing, or else the oldest. Returns whether it did.
     fn make_room(&mut self) -> bool
         ensures room { vec_len self.new.all < WAITING_MOST }
         ensures left { self.new.all.items ≡ with_room WAITING_MOST self.old.all.items }
@@ -611,8 +635,8 @@ impl WaitingList {
         self.all.len() >= WAITING_MOST && self.close_oldest()
     }
 
-    /// Adds one that is younger than each that waits. If as many wait as may, the oldest that has said nothing, or else the
-    /// oldest, is closed for it. Says whether one was. `NoMemory`, which closes it.
+    /// Adds one that is younger than each that waits. If as many wait as may, the oldest that has sent nothing, or else the
+    /// oldest, is closed for it. Returns whether one was. `NoMemory`, which closes it.
     pub(crate) fn push(&mut self, waiting: Waiting) -> Result<bool, Fault>
         ensures added { OnOk result (self.new.all.items ≡ with_room WAITING_MOST self.old.all.items ++ waiting ∷ []) }
         ensures memory { IfErr result (λ fault. fault ≡ Fault.NoMemory) }
@@ -622,7 +646,7 @@ impl WaitingList {
         Ok(has_closed)
     }
 
-    /// Makes one read of the peer of this number. Gives its connection, what has come on it, and a moment before it came, once a
+    /// Makes one read of the peer of this number. Returns its connection, what has come on it, and a moment before it came, once a
     /// worker is to take it. None if more is to come, which the registry then reports, or if no such one waits here. A fault closes
     /// it.
     pub(crate) fn take_session(
@@ -657,7 +681,7 @@ impl WaitingList {
         }
     }
 
-    /// Makes one read of the request of this number, and gives it with its connection once it is whole. None if more is to come,
+    /// Makes one read of the request of this number, and returns it with its connection once it is whole. None if more is to come,
     /// which the registry then reports, or if no such one waits here. A fault closes it. The read is the first of a ledger.
     pub(crate) fn take_request<K: Ledger>(
         &mut self,
@@ -704,7 +728,7 @@ impl WaitingList {
         Err(Fault::ReadFailed)
     }
 
-    /// Closes those whose time is over, and says how many.
+    /// Closes those whose time is over, and returns how many.
     pub(crate) fn close_late(&mut self, now: Instant) -> u64 {
         let mut closed: u64 = 0;
         for _ in 0..WAITING_MOST {

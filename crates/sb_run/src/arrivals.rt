@@ -26,10 +26,10 @@ use std::sync::atomic::{AtomicU64, Ordering};
 use std::sync::{Mutex, Wait};
 use std::time::{Clock, Duration, Instant};
 
-/// How many things may wait for a worker, and how many of each kind for the calling thread.
+/// How many things may wait for a worker, and how many of each kind for the owner's thread.
 const HANDED_MOST: usize = 1_024;
 
-/// After how long the calling thread looks again whether the writes that wait may be made, in milliseconds.
+/// After how long the owner's thread looks again whether the writes that wait may be made, in milliseconds.
 const HEARING_PAUSE: u64 = 10;
 
 /// What a worker is to do next.
@@ -86,7 +86,7 @@ pub(crate) struct Handover {
     handed: u64,
 }
 
-/// What hands requests to the calling thread. Writes have a way of their own, since they may have to wait while others are
+/// What hands requests to the owner's thread. Writes have a way of their own, since they may have to wait while others are
 /// answered. So have questions, which delay no write.
 #[derive(Drop)]
 struct OwnerSender {
@@ -97,14 +97,14 @@ struct OwnerSender {
     arrivals: Sender<()>,
 }
 
-/// What hands writes to the calling thread that came over HTTP.
+/// What hands writes to the owner's thread that came over HTTP.
 #[derive(Drop)]
 pub(crate) struct WriteSender {
     writes: Sender<Request>,
     arrivals: Sender<()>,
 }
 
-/// The ways to the calling thread: of the thread that accepts, and of those that answer over HTTP.
+/// The ways to the owner's thread: of the thread that accepts, and of those that answer over HTTP.
 #[derive(Drop)]
 struct OwnerWays {
     accepted: OwnerSender,
@@ -117,8 +117,7 @@ pub(crate) struct Jobs {
     from: Receiver<Job>,
 }
 
-/// The end of the calling thread.
-#[derive(Drop)]
+/// The end of the owner's thread.
 pub(crate) struct Requests {
     writes: Receiver<Request>,
     questions: Receiver<Request>,
@@ -130,7 +129,21 @@ pub(crate) struct Requests {
     held: u64,
 }
 
-/// The ways from the thread that accepts to the workers and to the calling thread, and that of writes over HTTP to the latter.
+// It is written out, so that a caller does not prove again how each part is dropped.
+impl Drop for Requests {
+    fn drop(self) {
+        let Requests {
+            writes: _writes,
+            questions: _questions,
+            others: _others,
+            arrivals: _arrivals,
+            takes_writes: _,
+            held: _,
+        } = self;
+    }
+}
+
+/// The ways from the thread that accepts to the workers and to the owner's thread, and that of writes over HTTP to the latter.
 /// `NoMemory`.
 pub(crate) fn new_handover(alloc: Global) -> Result<(Handover, Jobs, Requests, WriteSender), Fault>
     ensures { IfErr result (λ fault. fault ≡ Fault.NoMemory) }
@@ -149,7 +162,7 @@ pub(crate) fn new_handover(alloc: Global) -> Result<(Handover, Jobs, Requests, W
     Ok((handover, Jobs { from: from_workers }, requests, over_http))
 }
 
-/// The ways to the calling thread. `NoMemory`.
+/// The ways to the owner's thread. `NoMemory`.
 fn new_owner_ways(alloc: Global) -> Result<(OwnerWays, Requests), Fault>
     ensures { IfErr result (λ fault. fault ≡ Fault.NoMemory) }
 {
@@ -190,6 +203,21 @@ fn question_in(message: &Message) -> Option<Ask> {
     }
 }
 
+/// Sends a message, and returns whether there was room. It takes any message, since a place that drops one of many parts is slow to
+/// prove.
+pub(crate) fn is_sent<T: Drop, R: Wait>(rt: &R, way: &Sender<T>, message: T) -> bool {
+    way.try_send(rt, message).is_ok()
+}
+
+/// Why a message was not sent: `TurnsSpent` if too many wait, `NoMemory`, or `Closed` if nobody receives any more.
+fn unsent<T: Drop>(error: TrySendError<T>) -> Fault {
+    match error {
+        TrySendError::Full(_) => Fault::TurnsSpent,
+        TrySendError::OutOfMemory(_) => Fault::NoMemory,
+        TrySendError::Disconnected(_) => Fault::Closed,
+    }
+}
+
 impl OwnerSender {
     /// The way for what this message asks.
     fn way(&self, message: &Message) -> &Sender<Request> {
@@ -200,17 +228,16 @@ impl OwnerSender {
         }
     }
 
-    /// Hands a request to the calling thread, and says whether there was room.
+    /// Hands a request to the owner's thread, and returns whether there was room.
     fn give<R: Wait>(&self, rt: &R, request: ControlRequest, stream: UnixStream) -> bool {
         let way = self.way(request.message());
-        way.try_send(rt, Request::Control(request, stream)).is_ok()
-            && self.arrivals.try_send(rt, ()).is_ok()
+        is_sent(rt, way, Request::Control(request, stream)) && is_sent(rt, &self.arrivals, ())
     }
 }
 
 impl WriteSender {
-    /// Hands a write to the calling thread. `TurnsSpent` if too many wait, or `NoMemory`: then the write is not made. `Closed` if the
-    /// calling thread has ended, or if nothing can report the arrival to it. Then nobody answers the write.
+    /// Hands a write to the owner's thread. `TurnsSpent` if too many wait, or `NoMemory`: then the write is not made. `Closed` if the
+    /// owner's thread has ended, or if nothing can report the arrival to it. Then nobody answers the write.
     pub(crate) fn give<R: Wait>(
         &self,
         rt: &R,
@@ -219,26 +246,25 @@ impl WriteSender {
     ) -> Result<(), Fault> {
         match self.writes.try_send(rt, Request::Http(asked, to)) {
             Ok(()) => {}
-            Err(TrySendError::Full(_)) => return Err(Fault::TurnsSpent),
-            Err(TrySendError::OutOfMemory(_)) => return Err(Fault::NoMemory),
-            Err(TrySendError::Disconnected(_)) => return Err(Fault::Closed),
+            Err(error) => return Err(unsent(error)),
         }
-        if self.arrivals.try_send(rt, ()).is_err() {
-            return Err(Fault::Closed);
+        if is_sent(rt, &self.arrivals, ()) {
+            Ok(())
+        } else {
+            Err(Fault::Closed)
         }
-        Ok(())
     }
 }
 
 impl Handover {
-    /// Wakes the calling thread for the end of the node. If there is no room for that, it does not wait.
+    /// Wakes the owner's thread for the end of the node. If there is no room for that, it does not wait.
     pub(crate) fn wake_owner<R: Wait>(&self, rt: &R) {
         let _ = self.to_owner.arrivals.try_send(rt, ());
     }
 
-    /// Hands a job to the workers, and says whether there was room.
+    /// Hands a job to the workers, and returns whether there was room.
     fn give<R: Wait>(&mut self, rt: &R, job: Job) -> bool {
-        let is_given = self.to_workers.try_send(rt, job).is_ok();
+        let is_given = is_sent(rt, &self.to_workers, job);
         if is_given {
             self.handed = self.handed.saturating_add(1);
         }
@@ -264,7 +290,7 @@ impl Handover {
         }
     }
 
-    /// Hands a question to a worker if one is free. If none is, or if it is another request, the calling thread gets it.
+    /// Hands a question to a worker if one is free. If none is, or if it is another request, the owner's thread gets it.
     /// `ReadFailed` if too many wait for that, or if the connection can't be used.
     pub(crate) fn give_request<R: Wait>(
         &mut self,
@@ -290,7 +316,7 @@ impl Handover {
     }
 }
 
-/// What the calling thread is to do next.
+/// What the owner's thread is to do next.
 #[derive(Drop)]
 pub(crate) enum Work {
     /// To answer a request.

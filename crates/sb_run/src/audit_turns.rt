@@ -39,7 +39,7 @@ impl AuditTurns {
         })
     }
 
-    /// Begins the first audit of the peer at this index, if there are audits and it can be begun again, and says whether it does.
+    /// Begins the first audit of the peer at this index, if there are audits and it can be begun again, and returns whether it does.
     pub(crate) fn begin_first(&mut self, index: usize) -> bool
         ensures begins { IfSome (slice_get self.old.tries.items index) (λ left. result ≡ (nat_lt 0 left && not (nat_eq self.old.interval 0))) }
         ensures left { result ≡ true → IfSome (slice_get self.old.tries.items index) (λ left. slice_get self.new.tries.items index ≡ Some (left - 1)) }

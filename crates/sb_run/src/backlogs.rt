@@ -94,7 +94,7 @@ impl Backlogs {
     }
 
     /// Takes what the peer at this index may lack, and takes it to lack nothing from then on. None if nobody knows what it
-    /// lacks: then only a round tells it.
+    /// lacks: then only a round shows it.
     pub(crate) fn take(&mut self, index: usize) -> Option<Backlog>
         ensures taken { IfSome (slice_get self.old.all.items index) (λ before. result ≡ before.known) }
         ensures changes { spec.Changes index spec.with_taken self.old.all.items self.new.all.items }

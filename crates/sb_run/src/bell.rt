@@ -57,7 +57,7 @@ impl Bell {
         Ok((bell, parkers))
     }
 
-    /// Says that there is news, and whether it is of an owner that was not held.
+    /// Notes that there is news, and whether it is of an owner that was not held.
     pub(crate) fn ring(&self, is_new_owner: bool) {
         if is_new_owner {
             self.has_new_owner.store(true, Ordering::SeqCst);
@@ -101,13 +101,13 @@ impl Bell {
 }
 
 impl Bell {
-    /// Says that a delta brought something new.
+    /// Notes that a delta brought something new.
     pub(crate) fn enter(&self, delta: &Delta) {
         let is_new_owner = delta.blocks().iter().any(|block| block.after() == 0);
         self.ring(is_new_owner);
     }
 
-    /// Says that a peer sent writes after ones that are missing.
+    /// Notes that a peer sent writes after ones that are missing.
     pub(crate) fn miss(&self) {
         self.has_gap.store(true, Ordering::SeqCst);
         self.turns.unpark();

@@ -1,4 +1,4 @@
-//! The calling thread of a running node: it answers what callers asked at the control socket, and makes the own writes.
+//! The owner's thread of a running node: it answers what callers asked at the control socket, and makes the own writes.
 ghost use Rattle.std.specs.Prelude.{◌≡◌, ◌⊎◌, true, false, List, IfErr};
 ghost use Rattle.sb_codec.specs.declared.message.Message.{Message};
 ghost use Rattle.sb_codec.specs.declared.message.Message.TheVariants as kinds;
@@ -79,7 +79,7 @@ impl<S: RoundsTag, H: Wait + Drop, Q: Wait + Clock> NodeContext<'_, S, H, Q> {
         }
     }
 
-    /// Answers a request that came at the control socket, and says whether that ended with a fault. The answer is taken within the
+    /// Answers a request that came at the control socket, and returns whether that ended with a fault. The answer is taken within the
     /// node's `request`. If that limit can't be set, nothing is done.
     fn answer_caller<L: WriteLog, O: Observer>(
         &self,
@@ -120,7 +120,7 @@ impl<S: RoundsTag, H: Wait + Drop, Q: Wait + Clock> NodeContext<'_, S, H, Q> {
         seat
     }
 
-    /// Answers a request, and says whether that ended with a fault.
+    /// Answers a request, and returns whether that ended with a fault.
     fn answer_one<L: WriteLog, O: Observer>(
         &self,
         dialing: &Dialing<'_, O>,
@@ -220,7 +220,7 @@ impl<S: RoundsTag, H: Wait + Drop, Q: Wait + Clock> NodeContext<'_, S, H, Q> {
     }
 }
 
-/// When the calling thread purges, and when it makes a beat.
+/// When the owner's thread purges, and when it makes a beat.
 #[derive(Drop)]
 struct OwnTurns {
     purges: PurgeTurns,
@@ -242,7 +242,7 @@ impl OwnTurns {
 }
 
 impl<S: RoundsTag, H: Wait + Drop, Q: Wait + Clock> NodeContext<'_, S, H, Q> {
-    /// Answers a request, or makes a beat, and says whether that ended with a fault.
+    /// Answers a request, or makes a beat, and returns whether that ended with a fault.
     fn do_work<L: WriteLog, O: Observer>(
         &self,
         dialing: &Dialing<'_, O>,
@@ -267,7 +267,7 @@ impl<S: RoundsTag, H: Wait + Drop, Q: Wait + Clock> NodeContext<'_, S, H, Q> {
     }
 
     /// Does a piece of work. Before it the log is closed if its file is lost, and after it the own table is purged if that is due.
-    /// Gives the seat back, and says whether the work ended with a fault, and whether the node is to end.
+    /// Gives the seat back, and returns whether the work ended with a fault, and whether the node is to end.
     fn do_next<L: WriteLog, O: Observer>(
         &self,
         dialing: &Dialing<'_, O>,

@@ -32,7 +32,6 @@ use std::thread::Threads;
 use std::time::{Clock, Duration, Instant};
 
 /// What the threads that dial share.
-#[derive(Drop)]
 pub(crate) struct Dialing<'a, O> {
     observer: &'a O,
     schedule: Mutex<Schedule<'a>>,
@@ -44,6 +43,20 @@ pub(crate) struct Dialing<'a, O> {
     backlogs: Mutex<Backlogs>,
     /// Which peer is audited next.
     audits: Mutex<AuditTurns>,
+}
+
+// It is written out, so that a caller does not prove again how each part is dropped.
+impl<O> Drop for Dialing<'_, O> {
+    fn drop(self) {
+        let Dialing {
+            observer: _,
+            schedule: _schedule,
+            parker: _parker,
+            digests: _digests,
+            backlogs: _backlogs,
+            audits: _audits,
+        } = self;
+    }
 }
 
 /// What is done for a peer for which there is news.
@@ -392,7 +405,6 @@ impl<O: Observer + Sync> Dialing<'_, O> {
 const STATUS_INTERVAL: u64 = 1_000;
 
 /// What the thread has alone that dials in turn.
-#[derive(Drop)]
 pub(crate) struct Turns<'a> {
     /// It waits at it.
     parker: Parker,
@@ -410,6 +422,22 @@ pub(crate) struct Turns<'a> {
     due: Option<Instant>,
     /// From when on a gap may hasten the next round in turn. None if none was hastened.
     hastens_from: Option<Instant>,
+}
+
+// It is written out, so that a caller does not prove again how each part is dropped.
+impl Drop for Turns<'_> {
+    fn drop(self) {
+        let Turns {
+            parker: _parker,
+            is_alone: _,
+            peers: _peers,
+            reported: _,
+            status_due: _,
+            is_conflict_reported: _,
+            due: _,
+            hastens_from: _,
+        } = self;
+    }
 }
 
 impl<'a> Turns<'a> {
@@ -694,19 +722,31 @@ impl<S: RoundsTag> Rounds<S> {
 }
 
 /// The end of the dialing thread.
-#[derive(Drop)]
 pub(crate) struct RoundsSender<S: RoundsTag> {
     to: RuledSender<Rounds<S>, (), Free>,
     pass: Pass<Rounds<S>, ()>,
     ghost fits: { IsSeatAt (sends_on to) pass },
 }
 
-/// The end of the calling thread.
-#[derive(Drop)]
+// It is written out, so that a caller does not prove again how each part is dropped.
+impl<S: RoundsTag> Drop for RoundsSender<S> {
+    fn drop(self) {
+        let RoundsSender { to: _, pass: _ } = self;
+    }
+}
+
+/// The end of the owner's thread.
 pub(crate) struct RoundsReceiver<S: RoundsTag> {
     from: RuledReceiver<Rounds<S>, (), Free>,
     pass: Pass<Rounds<S>, ()>,
     ghost fits: { IsSeatAt (receives_on from) pass },
+}
+
+// The same.
+impl<S: RoundsTag> Drop for RoundsReceiver<S> {
+    fn drop(self) {
+        let RoundsReceiver { from: _, pass: _ } = self;
+    }
 }
 
 /// Neither end knows anything.

@@ -11,8 +11,8 @@ use std::alloc::Global;
 /// How many bytes of a peer are read before a worker takes it. Each Hello has fewer.
 pub(crate) const FIRST_MOST: usize = 128;
 
-/// Whether a worker is to take a peer of which this has come: its first message is whole, or it has sent what no Hello begins
-/// with, or more than a Hello has. `NoMemory`.
+/// Whether a worker is to take a peer that sent this. It is if the first message is whole, or if this is longer than a Hello or
+/// begins as no Hello does. `NoMemory`.
 pub(crate) fn is_enough(alloc: Global, came: &[u8]) -> Result<bool, Fault>
     ensures enough { IfOk result (λ is_enough. is_enough ≡ has_begun FIRST_MOST came.now) }
     ensures memory { IfErr result (λ fault. fault ≡ Fault.NoMemory) }
@@ -31,7 +31,7 @@ pub(crate) fn is_enough(alloc: Global, came: &[u8]) -> Result<bool, Fault>
     }
 }
 
-/// The name of the node that says Hello by a message. None if the message is another.
+/// The name of the node in a Hello. None if the message is another.
 fn name_in(message: &Message) -> Option<Name>
     ensures { result ≡ hello_name message.now }
 {

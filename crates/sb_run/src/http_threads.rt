@@ -1,4 +1,4 @@
-//! The threads that answer over HTTP, each from a seat of its own. A write goes to the calling thread.
+//! The threads that answer over HTTP, each from a seat of its own. A write goes to the owner's thread.
 ghost use Rattle.std.specs.Prelude.{◌≡◌, vec_len, IfOk, IfErr};
 ghost use Rattle.std.specs.Thread.{IsSend, IsSync};
 ghost use Rattle.sb_directory.specs.Serving.{IsLater};

@@ -1,7 +1,7 @@
-//! How a thread that answers over HTTP hands a write to the calling thread, and waits for the answer.
+//! How a thread that answers over HTTP hands a write to the owner's thread, and waits for the answer.
 ghost use Rattle.sb_run.specs.HttpReads.{IsWriteReply};
 
-use crate::arrivals::WriteSender;
+use crate::arrivals::{WriteSender, is_sent};
 use crate::control::refused_by;
 use crate::threads::EndFlag;
 use crossbeam_channel::{Receiver, RecvTimeoutError, Sender, bounded};
@@ -38,7 +38,7 @@ impl AnswerSender {
         requires { IsWriteReply message }
     {
         let AnswerSender { to } = self;
-        let _ = to.try_send(rt, WriteAnswer { message });
+        let _ = is_sent(rt, &to, WriteAnswer { message });
     }
 }
 
@@ -64,7 +64,7 @@ impl WaitingPlaces {
         }
     }
 
-    /// Takes a place, and says whether one was free.
+    /// Takes a place, and returns whether one was free.
     fn take(&self) -> bool {
         let is_free = self.taken.fetch_add(1, Ordering::SeqCst) < self.most;
         if !is_free {
@@ -123,7 +123,7 @@ impl WriteDesk {
         }
     }
 
-    /// Takes a place for a poll, and says whether one was free: at most half of the threads may poll at once.
+    /// Takes a place for a poll, and returns whether one was free: at most half of the threads may poll at once.
     pub(crate) fn take_poll(&self) -> bool {
         if !self.polls.take() {
             return false;
@@ -141,7 +141,7 @@ impl WriteDesk {
         self.polls.leave();
     }
 
-    /// Hands a write to the calling thread once, and waits for its answer. Without that, the answer is one of these faults:
+    /// Hands a write to the owner's thread once, and waits for its answer. Without that, the answer is one of these faults:
     ///
     /// - `TurnsSpent` if too many threads wait, or too many writes; the write is not made.
     /// - `NoMemory`; the write is not made.

@@ -33,8 +33,8 @@ use sb_views::views_show_what_is_held;
 ///
 /// - `given`: what a view of the node after the history has under an owner and a key was written by that owner under that
 ///   version.
-/// - `exact`: a write whose key was not written again, at or below the version that the view shows of its owner, is what the
-///   view has under its key. For a removal the view has nothing there.
+/// - `exact`: take a write at or below the version that the view shows of its owner, whose key was not written again. The view
+///   has it under its key. For a removal the view has nothing there.
 /// - `honest`: each block of a delta that the node gives after the history is honest.
 /// - `digests`: a digest that it gives has, for each owner that it covers, how far the node holds it.
 /// - `starts`: it also says above which number a sender of any floor and any held version offers entries, and under which floor.
@@ -83,14 +83,14 @@ pub fn running_nodes_keep_truth()
     digests_are_true();
 }
 
-/// What running nodes give is true and exact if they are given nothing but what one of them gave. Take any lists of writes, one
+/// What running nodes give is true and exact if they are given nothing except what one of them gave. Take any lists of writes, one
 /// for each owner, and any number of runs. Each is of a node that opened with what is true of the writes, also after a crash.
 /// Take all that happens to them, in one order (`HappenInTurn`). A run takes writes of its owner, and blocks of deltas that some
 /// run could give by then. They come late, again, in any order, without others of their delta, or never. Then in each run:
 ///
 /// - `given`: what a view has under an owner and a key was written by that owner under that version.
-/// - `exact`: a write whose key was not written again, at or below the version that the view shows of its owner, is what the
-///   view has under its key. For a removal the view has nothing there.
+/// - `exact`: take a write at or below the version that the view shows of its owner, whose key was not written again. The view
+///   has it under its key. For a removal the view has nothing there.
 /// - `honest`: each block of a delta that is given is honest.
 /// - `digests`: a digest that is given says how far the run holds each owner that it covers. It also says above which
 ///   number a sender of any floor and any held version offers entries, and under which floor. That is by the run's stage too.

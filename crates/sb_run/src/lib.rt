@@ -1,8 +1,8 @@
 //! The running node: it serves its peers and its clients over sockets, and dials its peers.
 //!
 //! `run_node` runs the node that owns a log. One thread accepts at both sockets. Workers serve the peers that connect, and
-//! answer questions of clients. One thread dials the peers in turn, and others dial them if there is news. The calling thread
-//! makes the writes of clients: each is in the log before the directory takes it. `run_closed_node` runs a node whose log takes
+//! answer questions of clients. One thread dials the peers in turn, and others dial them if there is news. The owner's thread,
+//! which is the one that calls, makes the writes of clients: each is in the log before the directory takes it. `run_closed_node` runs a node whose log takes
 //! no writes. A program with connections of its own serves them by `Serving`, and asks by `ask_control` of `sb_control`.
 //!
 //! ```rust
@@ -55,8 +55,8 @@
 //!   types `Round` and `DialEnd` each round that has begun calls it before it ends.
 //! - No burst is dialed, or its peers are dialed one after another. The tests of `sb_run` and `tools/check-node`
 //!   refuse it.
-//! - A peer is pushed less than it may lack, because news is left out of its backlog, or because the delta is made before
-//!   the news is taken. Or `plan` asks for other numbers of owners or of bytes before a push. The tests of `sb_run` and
+//! - A peer is pushed less than it may lack: news is left out of its backlog, or the delta is made before news is
+//!   taken. Or `plan` asks for other numbers of owners or of bytes before a push. The tests of `sb_run` and
 //!   `tools/check-node` refuse it.
 //! - A push counts as taken although the peer did not end it. The tests of `sb_run` and `tools/check-node` refuse it.
 //! - A gap hastens no round, or each gap hastens one. The tests of `sb_run` and `tools/check-node` refuse it.
@@ -80,7 +80,7 @@
 //!   refuse it.
 //! - `run_closed_node` opens with another table than it was given. No clause promises what a node shows. Tests refuse
 //!   it.
-//! - `Peers::note` does not tell the observer, or loses the last peer. Tests refuse it.
+//! - `Peers::note` does not report to the observer, or loses the last peer. Tests refuse it.
 //! - `OwnWrites::put` owes a write for missing memory although it could share it. Tests refuse it.
 //! - What could not be published for missing memory waits for the next event, since `refresh` always reports
 //!   missing memory. Nothing refuses it.
@@ -89,7 +89,8 @@
 //! - `run_node` purges its log first. It promises nothing of the log that it drops. Tests and `tools/check-node`
 //!   refuse it.
 //! - `run_node` reports `StoreFailed` or `LogDamaged` for a whole log. Tests refuse it.
-//! - A turn without peers counts twice, so the status of a node reports more rounds than were made. Nothing refuses it.
+//! - A turn without peers counts twice, so the status of a node reports more rounds than were made. `tools/check-node`
+//!   refuses it.
 //! - A node has fewer worker threads than seats for them. `as_many_peers_are_served_at_once_as_there_are_workers`
 //!   refuses it.
 //! - A round has one exchange only, so it does not ask for owners after its first digest.
@@ -121,9 +122,9 @@
 //! - An owner has a wrong age or none, also over HTTP: no clause is about when an owner was heard. The tests of `sb_run` and
 //!   `tools/check-node` refuse it.
 //! - A beat is missing, or comes before it is due. The tests of `sb_run` and `tools/check-node` refuse it.
-//! - The calling thread takes a request and does not answer it, or makes beats alone. The tests of `sb_run` and
+//! - The owner's thread takes a request and does not answer it, or makes beats alone. The tests of `sb_run` and
 //!   `tools/check-node` refuse it.
-//! - The gate of a dialed session, or that of the node, tells nobody what was entered, heard or missed. The tests of
+//! - The gate of a dialed session, or that of the node, does not report what was entered, heard or missed. The tests of
 //!   `sb_run` and `tools/check-node` refuse it.
 //! - The moment before a connection is a later one, or that of another. A digest is not looked at, or a fall is not reported or
 //!   counted. The tests of `sb_run` and `tools/check-node` refuse it.

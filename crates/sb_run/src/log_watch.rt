@@ -6,10 +6,10 @@ use sb_control::LogLoss;
 
 /// Finds whether the file of a log is lost.
 pub(crate) trait LogWatch {
-    /// What holds if the file is not lost. Nothing need.
+    /// A fact that holds if the file is not lost. It can be an empty one.
     ghost finds_file: { Self → Type 0 };
 
-    /// How the file was lost; none if it is there, or if that cannot be seen.
+    /// How the file was lost. None if it is there, or if that cannot be seen.
     fn loss(&self) -> Option<LogLoss>
         ensures found { result ≡ None → finds_file self.now };
 }

@@ -36,7 +36,7 @@ use std::time::Clock;
 pub struct Paths<'a> {
     /// The path to which its peers connect.
     pub sock: &'a str,
-    /// Where its clients connect, which write its rows and ask for rows of any owner.
+    /// The path to which its clients connect, which write its rows and ask for rows of any owner.
     pub control: &'a str,
     /// The paths at which its peers listen.
     pub peers: &'a [&'a str],
@@ -68,8 +68,8 @@ pub struct Pace {
     pub session: u64,
     /// The same of a connection to a peer that it dials.
     pub dial_idle: u64,
-    /// How long the request of a connection at the control socket may take until it is whole, and then its answer, in
-    /// milliseconds; 0 for no limit.
+    /// How long the request of a connection at the control socket may take until it is whole, in milliseconds; 0 for no
+    /// limit. Then its answer may take as long.
     pub request: u64,
     /// How many reads a connection may take.
     pub max_reads: u64,
@@ -108,8 +108,8 @@ pub struct NodeConfig<'a> {
 pub struct Ran {
     /// How many rounds it made.
     pub rounds: u64,
-    /// How many connections ended with a fault, with the rounds and pushes in which the peer could not be reached, and the times that
-    /// no connection could be accepted.
+    /// How many connections ended with a fault. It counts also rounds and pushes in which the peer could not be reached, and the
+    /// times that no connection could be accepted.
     pub faults: u64,
     /// How many events its history has: writes of its own, deltas of its peers, and purges of its own table.
     pub events: u64,
@@ -131,11 +131,12 @@ fn start_refusal<L: WriteLog>(settings: &Settings, http: Option<&str>, log: &L) 
 
 /// Runs the node that owns a log. It binds both sockets, each at a path that has no file or a socket without a listener, and
 /// reports that to the observer. One thread accepts at both. Workers serve peers, as many at once as there are workers, and
-/// answer questions of clients. The calling thread makes the own writes, one after another. While no worker is free it also
-/// answers questions, one whenever no write waits. One more thread dials the peers in turn, one a round, with a pause after each.
+/// answer questions of clients. The owner's thread, which is the one that calls, makes the own writes, one after another. While no
+/// worker is free it also answers questions, one whenever no write waits. One more thread dials the peers in turn, one a round,
+/// with a pause after each.
 ///
-/// A round has as many exchanges of digests and deltas as it takes to name all owners that the node holds: one, if the budget
-/// has room for a digest of all. A peer that let a round wait for `dial_idle` milliseconds is passed over in its next seven
+/// A round has as many exchanges of digests and deltas as it takes to name all owners that the node holds. It is one if the
+/// budget has room for a digest of all. A peer that let a round wait for `dial_idle` milliseconds is passed over in its next seven
 /// turns, unless nobody else is left. The observer gets each change of a peer's state. After the last round the node waits for
 /// the connections that are open, and ends. It removes what is at the paths of its sockets, even if another put it there since.
 ///
@@ -168,13 +169,13 @@ fn start_refusal<L: WriteLog>(settings: &Settings, http: Option<&str>, log: &L) 
 /// peer was heard: its first round ended, and so did its first audit if it answered. It waits no longer than until `hearing`
 /// milliseconds after the start. Other requests are answered meanwhile.
 ///
-/// A client that waits for a change holds no thread. Its connection waits where those wait that have said nothing yet, and the
+/// A client that waits for a change holds no thread. Its connection waits where those wait that have sent nothing yet, and the
 /// thread that accepts reports the change to it. At most 64 clients may wait so; one more is refused by `WatchesFull`.
 ///
-/// With a `beat` the calling thread writes the flag true under its key, at once and then after each pause. It is an own write
+/// With a `beat` the owner's thread writes the flag true under its key, at once and then after each pause. It is an own write
 /// like any other. None is made once the log is closed, or while another node writes under the own name.
 ///
-/// A connection takes a worker or the calling thread only once it has something to say: a peer's whole Hello, or a client's
+/// A connection takes a worker or the owner's thread only once it has something to say: a peer's whole Hello, or a client's
 /// whole request. Until then it waits, for `idle` milliseconds at `sock` and for `request` at `control`, or `idle` if that is
 /// 0. At most 1,024 wait at a socket; one more closes the oldest that sent nothing, or else the oldest.
 ///
@@ -203,8 +204,8 @@ fn start_refusal<L: WriteLog>(settings: &Settings, http: Option<&str>, log: &L) 
 /// - `WrongCluster` if the log is of another cluster than the settings'.
 /// - The faults of the log's `load`.
 /// - `ReadFailed` if a socket cannot be bound, also if `is_own_port` is false for the address for HTTP.
-/// - `NoMemory`, also if the thread that accepts, that of the pool, the first for HTTP, the first for news, or the one that dials
-///   in turn cannot be made.
+/// - `NoMemory`, also if one of five threads cannot be made. They are the one that accepts, that of the pool, the first for
+///   HTTP, the first for news, and the one that dials in turn.
 /// - `StoreFailed` if the log failed or its file was lost, and the node is to exit then.
 ///
 /// If the thread of a worker cannot be made, the node serves fewer peers at once.
@@ -479,11 +480,11 @@ pub(crate) fn run_tagged<
         beat,
         writes,
     } = start;
+    let hearing = FirstHearing::new(alloc, paths.peers.len(), deadline_after(rt, pace.hearing))?;
     let (channels, write_sender) = Channels::<S>::new(alloc)?;
     let seated = seat_all::<S, R>(rt, alloc, directory, http_seats(paths.http))?;
     let (news, http) = (seated.news_seats(), seated.http_seats());
     let (dialing, turns, bell) = Dialing::new(alloc, paths.peers, &pace, news, observer)?;
-    let hearing = FirstHearing::new(alloc, paths.peers.len(), deadline_after(rt, pace.hearing))?;
     let setup = NodeSetup {
         alloc,
         paths,
@@ -565,7 +566,7 @@ fn run_bound<
     close(rt, directory, finished?)
 }
 
-/// Closes the directory, and says what the node did.
+/// Closes the directory, and returns what the node did.
 fn close<S: RoundsTag, R: Wait>(
     rt: &R,
     directory: Directory<S, &R>,

@@ -22,7 +22,6 @@ use std::sync::{Mutex, Wait};
 use std::time::Clock;
 
 /// The channels between the threads of a node, and room for the events of the thread that accepts.
-#[derive(Drop)]
 pub(crate) struct Channels<S: RoundsTag> {
     handover: Handover,
     jobs: Jobs,
@@ -30,6 +29,20 @@ pub(crate) struct Channels<S: RoundsTag> {
     rounds_sender: RoundsSender<S>,
     rounds_receiver: RoundsReceiver<S>,
     events: Events,
+}
+
+// It is written out, so that a caller does not prove again how each part is dropped.
+impl<S: RoundsTag> Drop for Channels<S> {
+    fn drop(self) {
+        let Channels {
+            handover: _handover,
+            jobs: _jobs,
+            requests: _requests,
+            rounds_sender: _rounds_sender,
+            rounds_receiver: _rounds_receiver,
+            events: _events,
+        } = self;
+    }
 }
 
 impl<S: RoundsTag> Channels<S> {
@@ -96,7 +109,6 @@ impl<S: RoundsTag, H: Wait + Drop> SeatedNode<S, H> {
 }
 
 /// What a node notes while it runs.
-#[derive(Drop)]
 pub(crate) struct NodeRecords {
     ending: EndFlag,
     counts: Counts,
@@ -105,6 +117,21 @@ pub(crate) struct NodeRecords {
     watchers: WatcherCount,
     heard: HeardTimes,
     reported_versions: ReportedVersions,
+}
+
+// It is written out, so that a caller does not prove again how each part is dropped.
+impl Drop for NodeRecords {
+    fn drop(self) {
+        let NodeRecords {
+            ending: _ending,
+            counts: _counts,
+            asked: _asked,
+            vain_offers: _vain_offers,
+            watchers: _watchers,
+            heard: _heard,
+            reported_versions: _reported_versions,
+        } = self;
+    }
 }
 
 impl NodeRecords {

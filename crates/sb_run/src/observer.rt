@@ -54,8 +54,8 @@ pub trait Observer {
     /// Both sockets are bound, and nothing is served or dialed yet. It is called once.
     fn listening(&self);
 
-    /// How the peer at this path is, if by its last round it is otherwise than before: it was not dialed yet, answered, was
-    /// down, or had another fault. `Answers` if all exchanges of digests of this one round were made. For a peer that is down it
+    /// How the peer at this path is, if its last round changed that. Before, it was not dialed yet, answered, was down, or had
+    /// another fault. `Answers` if all exchanges of digests of this one round were made. For a peer that is down it
     /// is called once, with the first reason, until a round ends otherwise. One that hangs up unheard after a refused Hello is as
     /// it was, since that is the same refusal.
     fn dialed(&self, peer: &str, state: PeerState);
@@ -68,7 +68,7 @@ pub trait Observer {
     fn log_failed(&self, _cause: LogCause) {}
 
     /// How the file of the node's log was lost; none if it is there, or if that cannot be seen. It is asked after each round, and
-    /// before each request that the calling thread answers, until the log fails.
+    /// before each request that the owner's thread answers, until the log fails.
     fn log_loss(&self) -> Option<LogLoss> {
         None
     }
@@ -98,8 +98,8 @@ pub trait Observer {
         false
     }
 
-    /// How the node is, if it wants to know. It is called after a round by which a peer is otherwise than before, and after each
-    /// that ends a second or more after the last call.
+    /// How the node is, if it wants to know. It is called after a round that changed how a peer is. It is also called after each
+    /// round that ends a second or more after the last call.
     fn status(&self, _status: &Status<'_>) {}
 
     /// Returns the metrics of the node, in the text format of Prometheus, for whoever asks for them over HTTP. It may wait for

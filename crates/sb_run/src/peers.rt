@@ -60,7 +60,7 @@ impl<'a> Peer<'a> {
         }
     }
 
-    /// Takes down how its round of this number ended, and whether it kept the node waiting. Says whether the peer is otherwise
+    /// Notes how its round of this number ended, and whether it kept the node waiting. Returns whether the peer is otherwise
     /// than before.
     fn note(&mut self, round: u64, ended: PeerState, has_waited: bool) -> bool
         ensures path { self.new.path ≡ self.old.path }
@@ -330,7 +330,7 @@ impl<'a> Peers<'a> {
         &self.all
     }
 
-    /// Takes down how the round of this number with a peer ended, and whether that kept the node waiting. If the peer is
+    /// Notes how the round of this number with a peer ended, and whether that kept the node waiting. If the peer is
     /// otherwise than before, it reports that to the observer, and returns true.
     pub(crate) fn note<O: Observer>(
         &mut self,
@@ -358,7 +358,7 @@ impl<'a> Peers<'a> {
         has_changed
     }
 
-    /// Takes down how a push to a peer ended, and whether that kept the node waiting. A push that ended well leaves the peer as it
+    /// Notes how a push to a peer ended, and whether that kept the node waiting. A push that ended well leaves the peer as it
     /// is by its rounds. If the peer is otherwise than before, it reports that to the observer, and returns true.
     pub(crate) fn note_push<O: Observer>(
         &mut self,

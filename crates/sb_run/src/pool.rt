@@ -83,7 +83,7 @@ struct Tally {
 }
 
 impl<S: DirectoryTag, H: Wait + Drop, Q: Wait> Serving<'_, S, H, Q> {
-    /// Serves the session of this number from a seat, with at most `max_reads` reads, and says whether it ended with a fault.
+    /// Serves the session of this number from a seat, with at most `max_reads` reads, and returns whether it ended with a fault.
     fn serve_session<I: Read, O: Write, G: Gate, K: Ledger>(
         &self,
         gate: &G,
@@ -314,7 +314,7 @@ pub struct Serving<'a, S: DirectoryTag, H: Wait + Drop, Q> {
     pub rt: &'a Q,
     pub alloc: Global,
     pub directory: &'a Directory<S, H>,
-    /// Of which owners its sessions take no block.
+    /// The owners whose blocks its sessions do not take.
     pub forgotten: &'a ForgottenOwners,
     /// What its sessions offered in vain.
     pub vain_offers: &'a VainOffers,

@@ -1,4 +1,4 @@
-//! When the calling thread of a running node purges the node's own table and log.
+//! When the owner's thread of a running node purges the node's own table and log.
 ghost use Rattle.std.specs.Prelude.{◌≡◌, ◌⊎◌, true, false, if◌then◌else◌};
 ghost use Rattle.sb_log.specs.Puts.{IsSettled};
 ghost use Rattle.sb_directory.specs.Serving.{IsLater};

@@ -97,7 +97,7 @@ impl AllRounds {
     }
 }
 
-/// What the status of a node says of its rounds and its peers.
+/// What the status of a node reports of its rounds and its peers.
 #[derive(Drop)]
 pub(crate) struct PeersReport {
     pub(crate) counts: RoundCounts,
@@ -203,7 +203,7 @@ impl<'a> Schedule<'a> {
         }
     }
 
-    /// Counts one more round that has begun, if it may begin, and gives the index of the peer whose turn it is, if there are peers.
+    /// Counts one more round that has begun, if it may begin. Returns the index of the peer whose turn it is, if there are peers.
     /// The first round leaves each other peer due.
     fn begin_turn(&mut self) -> Option<Option<usize>>
         ensures none { result ≡ None → spec.has_round_left self.old.most self.old.begun ≡ false }
@@ -256,7 +256,7 @@ impl<'a> Schedule<'a> {
         None
     }
 
-    /// Notes that there is news for the next peer that is dialed for news. Gives its index; none if nobody is.
+    /// Notes that there is news for the next peer that is dialed for news. Returns its index; none if nobody is.
     fn expect_next(&mut self) -> Option<usize>
         ensures none { result ≡ None → self.new.deliveries.all.items ≡ self.old.deliveries.all.items }
         ensures some { IfSome result (λ index. spec.Changes index spec.with_news self.old.deliveries.all.items self.new.deliveries.all.items) }
@@ -331,7 +331,7 @@ impl<'a> Schedule<'a> {
         self.deliveries.leave_out(index);
     }
 
-    /// Takes down how a push to a peer ended, and tells the observer if the peer is otherwise than before. Returns whether the
+    /// Notes how a push to a peer ended, and reports the peer to the observer if that changed it. Returns whether the
     /// peer is still dialed for news.
     pub(crate) fn end_push<O: Observer>(
         &mut self,
@@ -355,7 +355,7 @@ impl<'a> Schedule<'a> {
         self.peers.takes_news(index)
     }
 
-    /// Ends a round by what came of the dial of its peer, and tells the observer if the peer is otherwise than before. Returns
+    /// Ends a round by what came of the dial of its peer, and reports the peer to the observer if that changed it. Returns
     /// whether the peer is dialed for news from then on.
     pub(crate) fn end_round<O: Observer>(
         &mut self,
@@ -484,7 +484,7 @@ impl<'a> Schedule<'a> {
         Ok(copies)
     }
 
-    /// What the status of a node says of its rounds and its peers. `NoMemory`.
+    /// What the status of a node reports of its rounds and its peers. `NoMemory`.
     pub(crate) fn peers_report(&self, alloc: Global) -> Result<PeersReport, Fault>
         ensures counts { IfOk result (λ report. report.counts ≡ self.now.counts) }
         ensures caught_up { IfOk result (λ report. report.is_caught_up ≡ have_had_rounds report.peers.items) }
@@ -619,8 +619,8 @@ impl Deliveries {
         }
     }
 
-    /// Begins a session for news with the peer at this index, if it can begin, and says whether it does. It can if there is news
-    /// for the peer, no other session for news with it is under way, and the peer is not slow or there is room for a slow one.
+    /// Begins a session for news with the peer at this index, if it can begin, and returns whether it does. It can if there is
+    /// news for the peer, and no other session for news with it is under way. A slow peer also needs room for a slow one.
     pub(crate) fn begin(&mut self, index: usize) -> bool
         ensures most { self.new.most ≡ self.old.most }
         ensures begins { IfSome (slice_get self.old.all.items index) (λ delivery. result ≡ true → (delivery.is_due ≡ true) × (delivery.is_open ≡ false)) }

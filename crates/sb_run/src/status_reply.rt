@@ -26,7 +26,7 @@ use sb_views::Snapshot;
 use std::sync::Wait;
 use std::time::Clock;
 
-/// What a directory says of its node.
+/// What a directory reports of its node.
 #[derive(Drop)]
 struct NodeCounts {
     /// How many keys of its own the node has.
@@ -36,7 +36,7 @@ struct NodeCounts {
     at_zero: Vec<Name>,
 }
 
-/// What a node says of what it holds.
+/// What a node reports of what it holds.
 #[derive(Clone, Copy)]
 struct HeldCounts {
     /// The last version of its own, and how many keys and how many rows it has.
@@ -97,7 +97,7 @@ fn node_identity(name: &Name, settings: &Settings, release: &str) -> NodeIdentit
 }
 
 impl<S: RoundsTag, H: Wait + Drop, Q: Wait + Clock> NodeContext<'_, S, H, Q> {
-    /// What the directory says of its node. `NoMemory`.
+    /// What the directory reports of its node. `NoMemory`.
     fn node_counts(&self, seat: &mut ReaderSeat<S>) -> Result<NodeCounts, Fault>
         ensures conflict { IfOk result (λ counts. counts.conflict ≡ (node_after S.opening seat.new.last_call).conflict) }
         ensures keys { IfOk result (λ counts. IsCounted S.opening seat.new.last_call counts.keys) }
@@ -114,7 +114,7 @@ impl<S: RoundsTag, H: Wait + Drop, Q: Wait + Clock> NodeContext<'_, S, H, Q> {
         })
     }
 
-    /// What the node says of what it holds. `NoMemory`, also if the seat cannot enter.
+    /// What the node reports of what it holds. `NoMemory`, also if the seat cannot enter.
     fn count_held(&self, seat: ReaderSeat<S>) -> (ReaderSeat<S>, Result<HeldCounts, Fault>)
         ensures conflict { IfOk result.1 (λ held. held.conflict ≡ (node_after S.opening result.0.last_call).conflict) }
         ensures keys { IfOk result.1 (λ held. IsCounted S.opening result.0.last_call held.keys) }
@@ -136,7 +136,7 @@ impl<S: RoundsTag, H: Wait + Drop, Q: Wait + Clock> NodeContext<'_, S, H, Q> {
         }
     }
 
-    /// All that the node says of itself: of what it holds, of its peers, and what its threads counted.
+    /// All that the node reports of itself: of what it holds, of its peers, and what its threads counted.
     fn facts(&self, held: &HeldCounts, report: &PeersReport) -> Facts
         ensures held { (result.version ≡ held.now.version) × (result.keys ≡ held.now.keys) × (result.conflict ≡ held.now.conflict) }
         ensures rows { (result.rows ≡ held.now.rows) × (result.owners ≡ held.now.owners) }

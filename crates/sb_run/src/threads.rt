@@ -171,7 +171,7 @@ fn serve_arrivals<
     }
 }
 
-/// Makes all rounds, sends how many to the calling thread, and ends the node; or leaves if the node ended before.
+/// Makes all rounds, sends how many to the owner's thread, and ends the node; or leaves if the node ended before.
 fn dial_to_the_end<'a, S: RoundsTag, H: Wait + Drop, Q: Wait + Net + Clock, O: Observer>(
     node: &NodeContext<S, H, Q>,
     dialing: &Dialing<'a, O>,
@@ -350,8 +350,8 @@ impl<'a, O: Observer + Sync> Dialing<'a, O> {
     }
 
     /// Runs the threads of a node to their end, in a scope of their own. One accepts, some are workers, some dial, and the calling
-    /// one makes the own writes. `NoMemory` if the thread that accepts, that of the pool, the first for HTTP, the first for news,
-    /// or the one that dials in turn can't be made. `StoreFailed` if the log failed and the node is to exit then.
+    /// one makes the own writes. `NoMemory` if one of five threads can't be made. They are the one that accepts, that of the pool, the
+    /// first for HTTP, the first for news, and the one that dials in turn. `StoreFailed` if the log failed and the node is to exit then.
     fn run_within<
         's,
         E,
@@ -499,7 +499,7 @@ fn threads_end<S: RoundsTag>(
 }
 
 /// The seats of a node's threads. Each worker and each thread that dials for news has one, and so have the thread that dials in
-/// turn and the calling thread.
+/// turn and the owner's thread.
 #[derive(Drop)]
 pub(crate) struct ThreadSeats<S: DirectoryTag> {
     pub(crate) workers: Vec<ReaderSeat<S>>,
@@ -511,7 +511,7 @@ pub(crate) struct ThreadSeats<S: DirectoryTag> {
     pub(crate) control: ReaderSeat<S>,
 }
 
-/// Gives so many workers, the thread that dials in turn and the calling thread a seat each. Of the others at most so many are for
+/// Gives so many workers, the thread that dials in turn and the owner's thread a seat each. Of the others at most so many are for
 /// HTTP, and the rest for news. `NoMemory`.
 pub(crate) fn part_seats<S: DirectoryTag>(
     seats: Vec<ReaderSeat<S>>,
@@ -623,7 +623,7 @@ impl<S: RoundsTag, H: Wait + Drop, Q> NodeContext<'_, S, H, Q> {
 }
 
 impl<S: RoundsTag, H: Wait + Drop, Q> NodeContext<'_, S, H, Q> {
-    /// Ends the thread that accepts, and with it what the workers and the calling thread wait for, and wakes those that dial.
+    /// Ends the thread that accepts, and with it what the workers and the owner's thread wait for, and wakes those that dial.
     pub(crate) fn end(&self) {
         self.ending.raise(self.sockets);
         self.bell.wake();
@@ -649,7 +649,7 @@ impl EndFlag {
         self.flag.load(Ordering::SeqCst)
     }
 
-    /// Ends the node: wakes the thread that accepts, and its end is that of what the workers and the calling thread wait for.
+    /// Ends the node: wakes the thread that accepts, and its end is that of what the workers and the owner's thread wait for.
     pub(crate) fn raise(&self, sockets: &BoundSockets) {
         self.flag.store(true, Ordering::SeqCst);
         sockets.wake_for_end();
@@ -657,7 +657,7 @@ impl EndFlag {
 }
 
 impl<S: RoundsTag, H: Wait + Drop, Q> NodeContext<'_, S, H, Q> {
-    /// Notes why the node takes no more writes into its log, and tells the observer, unless another cause was noted before.
+    /// Notes why the node takes no more writes into its log, and reports that to the observer, unless another cause was noted before.
     pub(crate) fn note_log_cause<O: Observer>(&self, cause: LogCause, observer: &O) {
         if self.counts.fail_log(cause) {
             observer.log_failed(cause);

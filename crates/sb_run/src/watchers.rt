@@ -74,7 +74,7 @@ impl<S: RoundsTag> Watcher<S> {
         }
     }
 
-    /// Whether the caller has left, or says more. It is not to say anything.
+    /// Whether the caller has left, or sends more. It is to send nothing.
     fn has_left(&self) -> bool {
         let mut byte = [0u8; 1];
         let mut stream = &self.stream;
@@ -216,7 +216,7 @@ impl<S: RoundsTag> WatcherList<S> {
     }
 }
 
-/// Has the registry report the connection of a caller, and tells it that the node watches. What changed before is published then.
+/// Has the registry report the connection of a caller, and reports to it that the node watches. What changed before is published then.
 fn begin<S: RoundsTag, H: Wait + Drop, Q: Wait>(
     node: &NodeContext<S, H, Q>,
     registry: &Registry,

@@ -11,7 +11,7 @@ use sb_run::{NodeConfig, Observer, Pace, Paths, PeerState, Ran, Runtime, run_nod
 use sb_session::Ended;
 use sb_table::Table;
 use sb_testing::delta_of_block;
-use sb_types::{Block, Entry, Fault};
+use sb_types::{Block, Entry, Fault, SharedEntry};
 use std::alloc::Global;
 use std::net::{Net, TcpListener, TcpStream};
 use std::os::unix::net::UnixListener;
@@ -116,7 +116,8 @@ fn node_b(rt: &impl Abort, alloc: Global, held: HeldOfA) -> NodeCore {
     let version = held.version.max(1);
     let entry = Entry::new(key(rt, b"x"), version, weight(rt, held.value));
     let mut of_b = node_of(rt, alloc, settings(rt, 3), b"b", Table::new(alloc));
-    let entries = got(rt, vec![in alloc; entry]);
+    let shared = got(rt, SharedEntry::new(alloc, entry));
+    let entries = got(rt, vec![in alloc; shared]);
     let block = got(
         rt,
         Block::new(name(rt, b"a"), held.floor, 0, version, entries),

@@ -9,7 +9,7 @@ returns-in_err-dialing-clause-fault g c =
 
 pub returns-in_err-hearing-clause-fault : goal.returns-in_err-hearing-clause-fault
 returns-in_err-hearing-clause-fault g c =
-    let p = err_from_is_err_and c.from_residual-in_err-hearing.result c.from_residual-in_err-hearing.ensures.1 in
+    let p = err_from_is_err_and c.from_residual.result c.from_residual.ensures.1 in
     rw (p.1, p.2) (inl (inl c.in_err-hearing.ensures.memory))
 
 pub returns-clause-rounds : goal.returns-clause-rounds
