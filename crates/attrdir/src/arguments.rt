@@ -29,9 +29,11 @@ fn option<'a>(alloc: Global, part: &Part, help: &'a str) -> Arg<'a> {
         .action(ArgAction::Set)
 }
 
-/// An option with one number.
+/// An option with one number. A negative one is taken as its value, and refused as that.
 fn number<'a>(alloc: Global, part: &Part, help: &'a str) -> Arg<'a> {
-    option(alloc, part, help).value_parser(value_parser!(u64))
+    option(alloc, part, help)
+        .allow_negative_numbers(true)
+        .value_parser(value_parser!(u64))
 }
 
 /// An option without a value.
@@ -66,6 +68,7 @@ fn arg_of<'a>(
         Kind::WordOrNone => word(alloc, part, help).action(ArgAction::Set),
         Kind::NumberOrNone => word(alloc, part, help)
             .action(ArgAction::Set)
+            .allow_negative_numbers(true)
             .value_parser(value_parser!(u64)),
         Kind::Flag => flag(alloc, part, help),
         Kind::FlagOf(beside) => flag(alloc, part, help).requires_arg(beside)?,

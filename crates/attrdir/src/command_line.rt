@@ -32,7 +32,7 @@ pub(crate) const USAGE_STATUS: u8 = 2;
 /// The exit status of `get --key` if there is no such row, and of `status` if the node is not ready.
 const NONE_STATUS: u8 = 1;
 
-/// The word that stands for lines of standard input.
+/// The word for lines of standard input.
 const LINES: &str = "-";
 
 /// The exit status of a run that ended with a fault.
@@ -418,10 +418,46 @@ fn carry_out<'a>(rt: &HostRuntime, matches: &ArgMatches<'a>) -> Result<Next<'a>,
     }
 }
 
+/// Whether each byte of a text is a digit.
+fn has_only_digits(text: &[u8]) -> bool {
+    text.iter().all(|byte| byte.is_ascii_digit())
+}
+
+/// Whether a word is a dash and digits.
+fn is_negative(word: &str) -> bool {
+    match word.as_bytes().split_first() {
+        Some((sign, digits)) if *sign == b'-' => !digits.is_empty() && has_only_digits(digits),
+        _ => false,
+    }
+}
+
+/// The negative number that `set` was given as a weight, if it was.
+fn negative_weight(words: &[String]) -> Option<&str> {
+    let mut is_set = false;
+    let mut is_weight = false;
+    for word in words {
+        let word = word.as_str();
+        if is_set && is_weight && is_negative(word) {
+            return Some(word);
+        }
+        is_set = is_set || word == "set";
+        is_weight = word == "weight";
+    }
+    None
+}
+
 /// Prints the help that was asked for, or what is wrong with the words. Returns the exit status.
-fn tell(rt: &HostRuntime, error: &clap::Error) -> Result<u8, Fault> {
+fn tell(rt: &HostRuntime, words: &[String], error: &clap::Error) -> Result<u8, Fault> {
     if error.kind() == ErrorKind::OutOfMemory {
         return Err(Fault::NoMemory);
+    }
+    if error.kind() == ErrorKind::UnknownArgument {
+        if let Some(word) = negative_weight(words) {
+            let _ = eprintln!(rt;
+                "error: invalid value '{word}' for 'VALUE': a weight is a whole number from 0 to 2^63 - 1"
+            );
+            return Ok(USAGE_STATUS);
+        }
     }
     match error.print(rt) {
         Ok(()) => Ok(error.exit_code() as u8),
@@ -439,7 +475,7 @@ pub(crate) fn follow<'a>(
 ) -> Result<Next<'a>, Failure<'a>> {
     match command(rt.alloc(), texts, fallback)?.try_get_matches_from(words) {
         Ok(matches) => carry_out(rt, &matches),
-        Err(error) => Ok(Next::Ended(tell(rt, &error)?)),
+        Err(error) => Ok(Next::Ended(tell(rt, words, &error)?)),
     }
 }
 

@@ -65,7 +65,6 @@ impl fmt::Display for LastFault {
 }
 
 /// Prints on standard error what a node meets, each thing in a line.
-#[derive(Drop)]
 pub(crate) struct Console<'r, 'a> {
     pub(crate) rt: &'r HostRuntime,
     pub(crate) name: &'a str,
@@ -74,7 +73,7 @@ pub(crate) struct Console<'r, 'a> {
     pub(crate) watch: LogWatch<'a>,
     pub(crate) sock: &'a str,
     pub(crate) control: &'a str,
-    /// Where it answers over HTTP.
+    /// The address at which it answers over HTTP.
     pub(crate) http: Option<&'a str>,
     /// Whether each line begins with the time.
     pub(crate) has_time: bool,
@@ -92,6 +91,29 @@ pub(crate) struct Console<'r, 'a> {
     pub(crate) shortage: Shortage,
     /// What it has reported of what the node suffers.
     pub(crate) troubles: TroubleLines,
+}
+
+// It is written out, so that a caller does not prove again how each part is dropped.
+impl Drop for Console<'_, '_> {
+    fn drop(self) {
+        let Console {
+            rt: _,
+            name: _,
+            log: _,
+            watch: _watch,
+            sock: _,
+            control: _,
+            http: _,
+            has_time: _,
+            metrics: _metrics,
+            metrics_text: _metrics_text,
+            series: _,
+            started: _,
+            has_failed_log: _has_failed_log,
+            shortage: _shortage,
+            troubles: _troubles,
+        } = self;
+    }
 }
 
 /// What was reported to be used, nine tenths of it or all.

@@ -1,4 +1,4 @@
-//! Whether the two files of a log are still at their paths while the node runs.
+//! Looks whether the two files of a log are still at their paths while the node runs.
 use sb_control::LogLoss;
 use std::fs::{Metadata, canonicalize, metadata};
 use std::io::{self, ErrorKind};
@@ -21,7 +21,7 @@ impl FileNumbers {
     }
 }
 
-/// What the system has of the `-wal` of a log, which is beside the file to which a link leads. None if that cannot be seen.
+/// Looks at the `-wal` of a log, which is beside the file to which a link leads. None if that cannot be seen.
 fn look_at_wal(rt: &HostRuntime, path: &str) -> Option<io::Result<Metadata>> {
     let Ok(real) = canonicalize(rt, path) else {
         return None;
@@ -32,7 +32,7 @@ fn look_at_wal(rt: &HostRuntime, path: &str) -> Option<io::Result<Metadata>> {
     Some(metadata(rt, wal.as_str()))
 }
 
-/// How a file was lost that could not be looked at by this error; none if that cannot be seen.
+/// How a file was lost, by the error of a look at it. None if the error does not show that.
 fn loss_by(error: &io::Error) -> Option<LogLoss> {
     match error.kind() {
         ErrorKind::NotFound | ErrorKind::NotADirectory => Some(LogLoss::Removed),
@@ -73,7 +73,7 @@ impl<'a> LogWatch<'a> {
         }
     }
 
-    /// How the file or its `-wal` was lost; none if both are there, or if that cannot be seen. An open log has at least one byte, so
+    /// How the file or its `-wal` was lost. None if both are there, or if that cannot be seen. An open log has at least one byte, so
     /// an empty file is another one, or was emptied.
     pub(crate) fn loss(&self, rt: &HostRuntime) -> Option<LogLoss> {
         let opened = self.opened?;
@@ -86,7 +86,7 @@ impl<'a> LogWatch<'a> {
         }
     }
 
-    /// How the `-wal` was lost; none if it is there, or if that cannot be seen.
+    /// How the `-wal` was lost. None if it is there, or if that cannot be seen.
     fn loss_of_wal(&self, rt: &HostRuntime) -> Option<LogLoss> {
         let opened = self.opened_wal?;
         // It is read before the look, since another thread may look at a longer one meanwhile.
@@ -101,7 +101,7 @@ impl<'a> LogWatch<'a> {
         loss
     }
 
-    /// The same of what is at its path. A `-wal` that is there gives the length for the next look.
+    /// How the `-wal` was lost, by what is at its path. None if it is there, and then its length is kept for the next look.
     fn compare_wal(&self, found: &Metadata, opened: FileNumbers, length: u64) -> Option<LogLoss> {
         if FileNumbers::of(found) != opened || found.len() < length {
             return Some(LogLoss::Replaced);
@@ -110,7 +110,7 @@ impl<'a> LogWatch<'a> {
         None
     }
 
-    /// What comes after the path of the log in that of the lost file.
+    /// What the path of the lost file adds to that of the log.
     pub(crate) fn lost_ending(&self) -> &'static str {
         if self.has_lost_wal.load(Ordering::SeqCst) {
             "-wal"

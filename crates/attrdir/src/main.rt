@@ -11,7 +11,7 @@
 //! - `serve` opens another file or socket, or prints something else. `tools/check-node` refuses it.
 //! - The file of `serve --metrics` has other numbers, is read half written, replaces another file, or outlives the
 //!   node. The tests of `sb_run` and `tools/check-node` refuse it.
-//! - `serve` does not notice that a file of its log is lost, or closes a log of which none is. `tools/check-node` refuses it.
+//! - `serve` does not notice that a file of its log is lost, or closes a log whose files are there. `tools/check-node` refuses it.
 //! - `serve` prints nothing when keys or owners run out. The tests of `sb_run` and `tools/check-node` refuse it.
 //! - A command does what another one does, or takes an option as another one. `tools/check-node` refuses it.
 //! - `--help` prints another text. `tools/check-help` compares options and defaults. Nothing refuses other words.

@@ -144,7 +144,7 @@ const FANOUT: Part = Part {
     help: "How many peers the node dials right away, side by side, if it has news, 0 for none",
 };
 
-/// A connection that has said nothing yet holds no worker.
+/// A connection that has sent nothing yet holds no worker.
 /// Greater: A peer that falls silent in its session holds a worker for longer.
 /// Smaller: A peer over a slow link is cut off.
 const IDLE: Part = Part {
@@ -286,7 +286,7 @@ const HTTP: Part = Part {
     name: "http",
     kind: Kind::ValueElse("none"),
     value: "ADDRESS",
-    help: "Where the node answers over HTTP: 127.0.0.1:PORT, [::1]:PORT, or the path of a socket",
+    help: "The address for HTTP: 127.0.0.1:PORT, [::1]:PORT, or the path of a socket",
 };
 
 /// With none the file stays small in a large cluster: a thousand nodes that hold each other make two million series.
@@ -294,14 +294,14 @@ const METRICS_OWNERS: Part = Part {
     name: "metrics-owners",
     kind: Kind::OneOf(&["all", "none"], "all"),
     value: "WHICH",
-    help: "Of which owners the file has the held version and the number of rows",
+    help: "For which owners the file has the held version and the number of rows",
 };
 
 const METRICS_PEERS: Part = Part {
     name: "metrics-peers",
     kind: Kind::OneOf(&["all", "none"], "all"),
     value: "WHICH",
-    help: "Of which peers the file has how the last round ended",
+    help: "For which peers the file has how the last round ended",
 };
 
 /// Whether an option says all.

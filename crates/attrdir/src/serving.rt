@@ -9,12 +9,14 @@ use crate::serve_command::SEATS;
 use crate::troubles::TroubleLines;
 use jiff::Timestamp;
 use sb_commands::{
-    Failure, FaultPlace, Range, StartPurge, error_of, has_folder, name_of, open_log, purge_removals,
+    Failure, FaultPlace, LogNames, Range, StartPurge, error_of, has_folder, log_in, name_of,
+    open_database, purge_removals,
 };
 use sb_log::{LogError, WriteLog};
 use sb_run::{Beat, NodeConfig, Pace, Paths, Ran, Runtime, is_own_port, run_closed_node, run_node};
 use sb_table::Table;
 use sb_types::{Fault, Key, Name, RawSettings, Settings, WORKERS_MOST};
+use sqlite::{Alter, Connection};
 use std::alloc::Global;
 use std::fs::{remove_file, symlink_metadata};
 use std::io::ErrorKind;
@@ -363,12 +365,76 @@ fn run<'a, L: WriteLog + Drop, R: Runtime + Net<Listener = TcpListener, Stream =
     }
 }
 
+/// Runs a node with the log of its name in a database. The faults of `log_in`, then those of `run`.
+fn run_in<'a, S: Alter + Drop, R: Runtime + Net<Listener = TcpListener, Stream = TcpStream>>(
+    rt: &HostRuntime,
+    runtime: &R,
+    given: &ServeArguments<'a>,
+    checked: Checked,
+    owner: Name,
+    conn: Connection<S>,
+) -> Result<(), Failure<'a>> {
+    let (cluster, max_version) = (checked.settings.cluster(), checked.settings.max_version());
+    let names = LogNames { owner, cluster };
+    let log = log_in(rt.alloc(), given.log, conn, names, max_version)?;
+    run(rt, runtime, given, checked, log)
+}
+
 /// The place of too few seats: the workers, if so many have too few also of the most seats.
 fn place_of_seats(workers: u64, has_http: bool) -> FaultPlace<'static> {
     if has_http && workers >= WORKERS_MOST {
         return FaultPlace::Number("workers", Range::WithHttp(WORKERS_MOST - 1));
     }
     SEATS.place()
+}
+
+/// The settings of a node. `BadSetting`, also for too few seats.
+fn checked_settings<'a>(
+    rt: &HostRuntime,
+    given: &ServeArguments<'a>,
+) -> Result<Settings, Failure<'a>> {
+    let settings = match Settings::check(given.settings) {
+        Ok(settings) => settings,
+        Err(fault) => return Err(Failure::at(place_of(rt, &fault, given), fault)),
+    };
+    if settings.seats() < settings.workers() + 2 + u64::from(given.http.is_some()) {
+        let place = place_of_seats(settings.workers(), given.http.is_some());
+        return Err(Failure::at(place, Fault::BadSetting));
+    }
+    Ok(settings)
+}
+
+/// Tests the paths beside that of the log. `ReadFailed` if the path of a peer cannot be that of a socket; `WriteFailed` if metrics
+/// would replace something else.
+fn test_paths<'a>(rt: &HostRuntime, given: &ServeArguments<'a>) -> Result<(), Failure<'a>> {
+    if let Some(path) = unreachable_peer(given) {
+        return Err(Failure::at(FaultPlace::Peer(path), Fault::ReadFailed));
+    }
+    if let Some(place) = taken_for_metrics(rt, given) {
+        return Err(Failure::at(place, Fault::WriteFailed(0)));
+    }
+    Ok(())
+}
+
+/// What was checked of the command line of a node of this name. The faults are those of `serve` before it opens the log, in their
+/// order, but `BadName`.
+fn checked_of<'a>(
+    rt: &HostRuntime,
+    given: &ServeArguments<'a>,
+    name: &Name,
+) -> Result<Checked, Failure<'a>> {
+    let settings = checked_settings(rt, given)?;
+    if let Some(address) = other_address(given) {
+        return Err(Failure::at(FaultPlace::OtherAddress(address), Fault::BadSetting));
+    }
+    let forgotten = forgotten_of(rt.alloc(), given, name)?;
+    let beat = beat_of(given)?;
+    test_paths(rt, given)?;
+    Ok(Checked {
+        settings,
+        forgotten,
+        beat,
+    })
 }
 
 /// Runs a node. The faults before it opens the log, in this order:
@@ -380,39 +446,15 @@ fn place_of_seats(workers: u64, has_http: bool) -> FaultPlace<'static> {
 /// - `ReadFailed` if the path of a peer cannot be that of a socket.
 /// - `WriteFailed` if metrics would replace something else.
 ///
-/// Then come the faults of `open_log`, those of `purge_removals` and of `run_node`, and `WriteFailed` of what is
-/// printed at the end.
+/// Then come the faults of `open_database` and of `log_in`, those of `purge_removals` and of `run_node`, and `WriteFailed` of
+/// what is printed at the end.
 pub(crate) fn serve<'a, R: Runtime + Net<Listener = TcpListener, Stream = TcpStream>>(
     rt: &HostRuntime,
     runtime: &R,
     given: &ServeArguments<'a>,
 ) -> Result<(), Failure<'a>> {
     let name = name_of("--name", given.name)?;
-    let settings = match Settings::check(given.settings) {
-        Ok(settings) => settings,
-        Err(fault) => return Err(Failure::at(place_of(rt, &fault, given), fault)),
-    };
-    if settings.seats() < settings.workers() + 2 + u64::from(given.http.is_some()) {
-        let place = place_of_seats(settings.workers(), given.http.is_some());
-        return Err(Failure::at(place, Fault::BadSetting));
-    }
-    if let Some(address) = other_address(given) {
-        return Err(Failure::at(FaultPlace::OtherAddress(address), Fault::BadSetting));
-    }
-    let forgotten = forgotten_of(rt.alloc(), given, &name)?;
-    let beat = beat_of(given)?;
-    if let Some(path) = unreachable_peer(given) {
-        return Err(Failure::at(FaultPlace::Peer(path), Fault::ReadFailed));
-    }
-    if let Some(place) = taken_for_metrics(rt, given) {
-        return Err(Failure::at(place, Fault::WriteFailed(0)));
-    }
-    let (cluster, max_version) = (settings.cluster(), settings.max_version());
-    let log = open_log(rt, given.log, name, cluster, max_version)?;
-    let checked = Checked {
-        settings,
-        forgotten,
-        beat,
-    };
-    run(rt, runtime, given, checked, log)
+    let checked = checked_of(rt, given, &name)?;
+    let conn = open_database(rt, given.log)?;
+    run_in(rt, runtime, given, checked, name, conn)
 }

@@ -1,5 +1,5 @@
 //! What to do about a fault, in one line that comes after its place.
-use crate::failure::{FaultPlace, InputLine, Obstacle};
+use crate::failure::{FaultPlace, InputLine, LogObstacle, Obstacle};
 use sb_log::StoreCause;
 use sb_types::Fault;
 
@@ -108,6 +108,25 @@ move the file with -wal away, and give the command again"
     }
 }
 
+/// What to do about what keeps a file from being opened as a log.
+fn about_log_obstacle(obstacle: LogObstacle) -> &'static str {
+    match obstacle {
+        LogObstacle::NoFile => "give the path of a file: this is a folder, a socket or a device",
+        LogObstacle::SecondName => {
+            "remove its other name, a hard link: ls -i prints the same number for both names"
+        }
+        LogObstacle::ReadOnly => {
+            "run as the user that made the file, or give yourself write permission on it; its disk must not be read-only"
+        }
+        LogObstacle::Journal => {
+            "open the file once by sqlite3, which plays back the file of its name with -journal, and give the command again"
+        }
+        LogObstacle::Unmade => {
+            "see that you may write in its folder, where a file of its name with -wal is made; that the disk has room; and that the process may open more files (ulimit -n)"
+        }
+    }
+}
+
 fn about_store(place: FaultPlace<'_>) -> &'static str {
     match place {
         FaultPlace::NoLog(_) => {
@@ -119,6 +138,7 @@ fn about_store(place: FaultPlace<'_>) -> &'static str {
         FaultPlace::UnreadableLog(_) => {
             "see that you may read and write the file, as the user that made it may, and that the process may open more files (ulimit -n)"
         }
+        FaultPlace::UnopenedLog(_, obstacle) => about_log_obstacle(obstacle),
         FaultPlace::LockedLog(_) => {
             "end that process, which may be a node; to read the rows of a node that runs, use get at its control socket"
         }
@@ -185,6 +205,10 @@ see RUNBOOK, A full disk, or A removed log"
     }
 }
 
+/// What a weight is.
+const WEIGHTS: &str =
+    "a weight is a whole number from 0 to 2^63 - 1, in digits alone and without a leading 0";
+
 /// What to do about a line of standard input that has no value after its key.
 fn about_input(line: InputLine) -> &'static str {
     match line {
@@ -192,8 +216,9 @@ fn about_input(line: InputLine) -> &'static str {
             "the line ends with a carriage return, \\0d: end each line with a newline alone"
         }
         InputLine::Text => {
-            "a text has 1 to 512 bytes; write a backslash as \\5c and a newline as \\0a"
+            "a text has 1 to 512 bytes of UTF-8; write a backslash as \\5c, a newline as \\0a and a tab as \\09"
         }
+        InputLine::Weight => WEIGHTS,
         InputLine::Other => {
             "give a kind and a word, for example addr 10.0.0.1:80, weight 5, flag true or text zone b"
         }
@@ -203,8 +228,12 @@ fn about_input(line: InputLine) -> &'static str {
 fn about_value(place: FaultPlace<'_>) -> &'static str {
     match place {
         FaultPlace::Value("text", _) => {
-            "a text has 1 to 512 bytes; write a backslash as \\5c and a newline as \\0a, or give --raw"
+            "a text has 1 to 512 bytes; write a backslash as \\5c, a newline as \\0a and a tab as \\09, or give --raw"
         }
+        FaultPlace::Value("weight", _) => WEIGHTS,
+        FaultPlace::Value("addr", _) => "an addr has 1 to 128 printing bytes, and no space",
+        FaultPlace::Value("flag", _) => "a flag is true or false",
+        FaultPlace::Value(..) => "the kind is addr, weight, flag or text",
         FaultPlace::Input(line) => about_input(line),
         _ =>
             "give a kind and a word, for example addr 10.0.0.1:80, weight 5, flag true or text 'zone b'",

@@ -58,6 +58,7 @@ fn input_line(line: &[u8]) -> InputLine {
     }
     match split_at_space(line) {
         Some((_, words)) if words.starts_with(b"text ") => InputLine::Text,
+        Some((_, words)) if words.starts_with(b"weight ") => InputLine::Weight,
         _ => InputLine::Other,
     }
 }

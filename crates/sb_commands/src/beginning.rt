@@ -4,11 +4,15 @@ ghost use Rattle.sb_commands.specs.declared.beginning.TheConstants.{UNHEARD_MOST
 ghost use Rattle.sb_commands.specs.Beginning as spec;
 
 use crate::failure::{Failure, FaultPlace};
-use crate::log_file::{error_of, failure, make_log};
+use crate::log_file::{error_of, failure, log_in, make_database};
 use crate::owners::ask_greatest;
-use crate::words::name_of;
-use sb_log::WriteLog;
+use crate::words::{LogNames, names_of};
+use sb_codec::Row;
+use sb_lines::write_back;
+use sb_log::{LogError, SqlLog, WriteLog};
 use sb_types::{Fault, Name, VERSION_MOST};
+use sqlite::{Alter, Connection};
+use std::alloc::Global;
 
 /// How many more versions the lost log can have had than a node heard of.
 const UNHEARD_MOST: u64 = 1 << 20;
@@ -75,11 +79,83 @@ fn print_begun<'a>(rt: &HostRuntime, path: &'a str, version: u64) -> Result<(), 
     }
 }
 
+/// Writes rows back into a log, and ends it. Returns its last version. The faults of `write_back`, then those of `close`.
+fn fill<L: WriteLog>(alloc: Global, log: L, rows: &[Row]) -> Result<u64, LogError> {
+    let mut log = log;
+    let written = write_back(alloc, &mut log, rows);
+    let cause = log.cause();
+    let closed = log.close();
+    let last = match written {
+        Ok(last) => last,
+        Err(fault) => return Err(error_of(fault, cause)),
+    };
+    match closed {
+        Ok(()) => Ok(last),
+        Err(fault) => Err(error_of(fault, cause)),
+    }
+}
+
+/// Ends a log whose last version this is. Returns that version. The faults of `close`.
+fn end<L: WriteLog>(log: L, last: u64) -> Result<u64, LogError> {
+    match log.close() {
+        Ok(()) => Ok(last),
+        Err(fault) => Err(LogError::Fault(fault)),
+    }
+}
+
+/// Makes a log begin after a version, writes rows back into it, if there are any, and ends it. Returns its last version. The faults
+/// of `SqlLog::begin`, of `fill` and of `close`.
+fn begin_with<S: Alter + Drop>(
+    alloc: Global,
+    log: SqlLog<S>,
+    after: u64,
+    rows: &[Row],
+) -> Result<u64, LogError> {
+    let mut log = log;
+    if let Err(fault) = log.begin(after) {
+        return Err(error_of(fault, log.cause()));
+    }
+    if rows.is_empty() {
+        end(log, after)
+    } else {
+        fill(alloc, log, rows)
+    }
+}
+
+/// Does the same with the log in a database. The faults of `log_in` and of `begin_with`.
+fn begin_in<'a, S: Alter + Drop>(
+    alloc: Global,
+    path: &'a str,
+    conn: Connection<S>,
+    names: LogNames,
+    after: u64,
+    rows: &[Row],
+) -> Result<u64, Failure<'a>> {
+    let log = log_in(alloc, path, conn, names, VERSION_MOST)?;
+    match begin_with(alloc, log, after, rows) {
+        Ok(last) => Ok(last),
+        Err(error) => Err(failure(path, error)),
+    }
+}
+
+/// Makes a log at a path, which begins after a version, and writes rows back into it, if there are any. Returns its last version. The
+/// faults of `make_database` and of `begin_in`.
+pub(crate) fn make_begun<'a>(
+    rt: &HostRuntime,
+    path: &'a str,
+    names: LogNames,
+    after: u64,
+    rows: &[Row],
+) -> Result<u64, Failure<'a>> {
+    let conn = make_database(rt, path)?;
+    begin_in(rt.alloc(), path, conn, names, after, rows)
+}
+
 /// Makes a log of an owner in a cluster, which begins after a version, and prints that version. The faults, in this
 /// order:
 ///
 /// - `BadName` of either name, and the faults of `version_of`. These come before it looks for the file.
-/// - Those of `make_log`, of `SqlLog::begin` and of `close`.
+/// - Those of `make_begun`.
 /// - `WriteFailed`, and then the log has begun.
 pub fn begin_log<'a>(
     rt: &HostRuntime,
@@ -88,15 +164,8 @@ pub fn begin_log<'a>(
     cluster: &'a str,
     start: Start<'a>,
 ) -> Result<(), Failure<'a>> {
-    let owner = name_of("--name", owner)?;
-    let cluster = name_of("--cluster", cluster)?;
-    let version = version_of(rt, start, owner, cluster)?;
-    let mut log = make_log(rt, path, owner, cluster)?;
-    if let Err(fault) = log.begin(version) {
-        return Err(failure(path, error_of(fault, log.cause())));
-    }
-    match log.close() {
-        Ok(()) => print_begun(rt, path, version),
-        Err(fault) => Err(Failure::at(FaultPlace::Log(path), fault)),
-    }
+    let names = names_of(owner, cluster)?;
+    let version = version_of(rt, start, names.owner, names.cluster)?;
+    make_begun(rt, path, names, version, &[])?;
+    print_begun(rt, path, version)
 }

@@ -25,7 +25,6 @@ pub enum View<'a> {
 }
 
 /// What a careful watch knows.
-#[derive(Drop)]
 pub struct CarefulWatch<'a> {
     caution: Caution,
     view: View<'a>,
@@ -39,6 +38,22 @@ pub struct CarefulWatch<'a> {
     shown: Option<Vec<Row>>,
     /// Whether it has reported that it holds rows back.
     holds_back: bool,
+}
+
+// It is written out, so that a caller does not prove again how each part is dropped.
+impl Drop for CarefulWatch<'_> {
+    fn drop(self) {
+        let CarefulWatch {
+            caution: _,
+            view: _view,
+            start: _,
+            kept: _kept,
+            counts: _counts,
+            since: _,
+            shown: _shown,
+            holds_back: _,
+        } = self;
+    }
 }
 
 /// A copy of these rows. `NoMemory`.

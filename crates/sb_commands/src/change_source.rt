@@ -21,7 +21,7 @@ const PAUSES_WITHOUT: u64 = 25;
 /// How a watch waits between two askings.
 #[derive(Clone, Copy)]
 pub struct WatchPace {
-    /// How many milliseconds it waits at least, if its node tells it of changes.
+    /// How many milliseconds it waits at least, if its node reports changes to it.
     pub every: u64,
     /// How many milliseconds it waits if its node does not.
     pub untold: u64,
@@ -37,7 +37,6 @@ struct Told {
 }
 
 /// The source from which a watch learns that something may have changed.
-#[derive(Drop)]
 pub(crate) struct ChangeSource<'r, 'a> {
     rt: &'r HostRuntime,
     control: &'a str,
@@ -47,6 +46,21 @@ pub(crate) struct ChangeSource<'r, 'a> {
     told: Option<Told>,
     /// For how many more pauses the node is not asked to tell.
     pauses_left: u64,
+}
+
+// It is written out, so that a caller does not prove again how each part is dropped.
+impl Drop for ChangeSource<'_, '_> {
+    fn drop(self) {
+        let ChangeSource {
+            rt: _,
+            control: _,
+            asked: _,
+            pace: _,
+            pauses: _pauses,
+            told: _told,
+            pauses_left: _,
+        } = self;
+    }
 }
 
 impl<'r, 'a> ChangeSource<'r, 'a> {
@@ -113,7 +127,7 @@ impl<'r, 'a> ChangeSource<'r, 'a> {
         }
     }
 
-    /// Waits for what is left of the pause that it would make if the node reported no changes, or until the node says something.
+    /// Waits for what is left of the pause that it would make if the node reported no changes, or until the node sends something.
     fn wait_shortly(&mut self, told: &Told) -> Result<(), Fault> {
         if !self.pauses.listen_to(&told.stream) {
             return Ok(());
@@ -125,7 +139,7 @@ impl<'r, 'a> ChangeSource<'r, 'a> {
         }
     }
 
-    /// Waits until the node says something or ends the connection, or until there is another socket at its path.
+    /// Waits until the node sends something or ends the connection, or until there is another socket at its path.
     fn wait_for(&mut self, told: &Told) -> Result<(), Fault> {
         if !self.pauses.listen_to(&told.stream) {
             return Ok(());

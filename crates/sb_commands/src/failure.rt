@@ -47,6 +47,34 @@ impl Obstacle {
     }
 }
 
+/// What keeps a file from being opened as a log.
+#[derive(Clone, Copy)]
+pub enum LogObstacle {
+    /// Its path is that of a folder, a socket or a device.
+    NoFile,
+    /// The file has another name too.
+    SecondName,
+    /// The program is not permitted to write to the file.
+    ReadOnly,
+    /// The file of its name with `-journal` has something.
+    Journal,
+    /// The file, or the one of its name with `-wal`, is not there and could not be made.
+    Unmade,
+}
+
+impl LogObstacle {
+    /// The text of fault 18 with this obstacle.
+    fn text(self) -> &'static str {
+        match self {
+            LogObstacle::NoFile => "the path of the log is not that of a file",
+            LogObstacle::SecondName => "the file of the log has a second name",
+            LogObstacle::ReadOnly => "the file of the log cannot be written: not permitted",
+            LogObstacle::Journal => "beside the log is a journal of another program",
+            LogObstacle::Unmade => "a file of the log cannot be made",
+        }
+    }
+}
+
 /// What a line of standard input has, as far as the advice about it needs that.
 #[derive(Clone, Copy)]
 pub enum InputLine {
@@ -54,6 +82,8 @@ pub enum InputLine {
     Return,
     /// The words of a text, and no carriage return at its end.
     Text,
+    /// The words of a weight, and no carriage return at its end.
+    Weight,
     /// Something else.
     Other,
 }
@@ -83,6 +113,8 @@ pub enum FaultPlace<'a> {
     NoLogFolder(&'a str),
     /// At the file of a log, which cannot be opened.
     UnreadableLog(&'a str),
+    /// At the file of a log, which cannot be opened because of this.
+    UnopenedLog(&'a str, LogObstacle),
     /// At the file of a log, which another process has open.
     LockedLog(&'a str),
     /// At the file of a log, which is a link.
@@ -181,6 +213,7 @@ impl<'a> Failure<'a> {
         let place = match self.place {
             FaultPlace::NoLogFolder(_) => FaultPlace::NoLogFolder(path),
             FaultPlace::LockedLog(_) => FaultPlace::LockedLog(path),
+            FaultPlace::UnopenedLog(_, obstacle) => FaultPlace::UnopenedLog(path, obstacle),
             _ => FaultPlace::Log(path),
         };
         Failure {
@@ -277,8 +310,8 @@ fn text_of_writing(place: FaultPlace<'_>) -> Option<&'static str> {
     })
 }
 
-/// The text of `StoreFailed`, if the place has a closer one.
-fn text_of_store(place: FaultPlace<'_>) -> Option<&'static str> {
+/// The text of `StoreFailed` at a log that was not opened, if the place alone has a closer one.
+fn text_of_log(place: FaultPlace<'_>) -> Option<&'static str> {
     Some(match place {
         FaultPlace::NoLog(_) => "there is no such log",
         FaultPlace::NoLogFolder(_) => "there is no such log: its folder does not exist",
@@ -296,6 +329,14 @@ fn text_of_store(place: FaultPlace<'_>) -> Option<&'static str> {
         FaultPlace::FailedLog(_) => "the node has ended, since its log takes no more writes",
         _ => return None,
     })
+}
+
+/// The text of `StoreFailed`, if the place has a closer one.
+fn text_of_store(place: FaultPlace<'_>) -> Option<&'static str> {
+    match place {
+        FaultPlace::UnopenedLog(_, obstacle) => Some(obstacle.text()),
+        _ => text_of_log(place),
+    }
 }
 
 /// The text of a fault that its place makes closer than the fault alone.
@@ -363,6 +404,7 @@ fn path_of<'a>(place: FaultPlace<'a>) -> Option<(&'static str, &'a str)> {
         | FaultPlace::NoLog(path)
         | FaultPlace::NoLogFolder(path)
         | FaultPlace::UnreadableLog(path)
+        | FaultPlace::UnopenedLog(path, _)
         | FaultPlace::LockedLog(path)
         | FaultPlace::LinkedLog(path)
         | FaultPlace::BusyFolder(path)
@@ -404,7 +446,12 @@ impl fmt::Display for FaultPlace<'_> {
                 write!(f, "value '{} {}': ", QuotedWord(*kind), QuotedWord(*word))
             }
             FaultPlace::Number(name, _) => write!(f, "--{name}: "),
-            FaultPlace::Sockets(sock, control) => write!(f, "sockets {sock} and {control}: "),
+            FaultPlace::Sockets(sock, control) => write!(
+                f,
+                "sockets {} and {}: ",
+                QuotedWord(*sock),
+                QuotedWord(*control)
+            ),
             FaultPlace::MetricsNowhere => f.write_str("metrics : "),
             _ => Ok(()),
         }

@@ -58,8 +58,8 @@ fn owners_behind(differences: &[RowChange<'_>], reaches: &[OwnerReach]) -> Optio
     found
 }
 
-/// The owners whose printed rows differ from a listing, if more was printed of them than the node has shown, or the listing has outdated
-/// rows of them. `NoMemory`.
+/// The owners whose printed rows differ from a listing. An owner counts only if more of it was printed than the node has shown,
+/// or if the listing has outdated rows of it. `NoMemory`.
 pub(crate) fn differing_owners(
     alloc: Global,
     printed: &[Row],

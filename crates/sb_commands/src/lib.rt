@@ -38,8 +38,8 @@
 //!   something else. `tools/check-node` refuses it.
 //! - `watch --retry` enters wrongly what a node has shown and what it printed (`enter_shown`, `enter_printed`). It then
 //!   prints a row as gone or again, keeps it or holds it back. `tools/check-node` refuses it.
-//! - `watch` with care shows rows at another time, takes rows of a node that is not caught up, reads a template wrongly, or
-//!   writes another file. `tools/check-node` refuses it.
+//! - `watch` with care shows rows at another time, or takes rows of a node that is not caught up. Or it reads a template
+//!   wrongly, or writes another file. `tools/check-node` refuses it.
 #![tactic(auto)]
 
 mod advice;
@@ -78,10 +78,10 @@ pub use beginning::{Start, begin_log};
 pub use care::Caution;
 pub use careful::{CarefulWatch, View};
 pub use change_source::WatchPace;
-pub use failure::{Failure, FaultPlace, InputLine, Obstacle};
+pub use failure::{Failure, FaultPlace, InputLine, LogObstacle, Obstacle};
 pub use log_file::{
-    DroppedRemovals, FileLog, Floor, StartPurge, error_of, has_folder, open_log, print_log,
-    purge_log, purge_removals,
+    DroppedRemovals, Floor, LogDatabase, StartPurge, error_of, has_folder, log_in, open_database,
+    print_log, purge_log, purge_removals,
 };
 pub use one_row::{Portion, RowQuery, print_one};
 pub use owners::print_owners;
@@ -92,4 +92,4 @@ pub use restoring::{AskedNode, restore_log};
 pub use status::print_status;
 pub use template::TemplateLine;
 pub use watching::{WatchQuery, watch, watch_on};
-pub use words::{key_of, name_of, prefix_of, text_of, value_of};
+pub use words::{LogNames, key_of, name_of, prefix_of, text_of, value_of};

@@ -4,13 +4,13 @@ ghost use Rattle.sb_log.specs.Puts.{content_after_purge};
 ghost use Rattle.sb_commands.specs.LogFiles.{DropsWrites};
 ghost use Rattle.sb_commands.specs.Removals as spec;
 
-use crate::failure::{Failure, FaultPlace};
-use crate::words::name_of;
+use crate::failure::{Failure, FaultPlace, LogObstacle};
+use crate::words::{LogNames, names_of};
 use sb_lines::{log_run, purge_run};
 use sb_log::{LogError, SqlLog, StoreCause, WriteLog};
 use sb_table::Table;
-use sb_types::{Fault, Name, Slot, VERSION_MOST};
-use sqlite::{Connection, Error, File, FileStore};
+use sb_types::{Fault, Slot, VERSION_MOST};
+use sqlite::{Alter, Connection, Error, File, FileStore};
 use std::alloc::Global;
 use std::io::{ErrorKind, Write};
 use std::os::unix::fs::MetadataExt;
@@ -19,8 +19,9 @@ use std::{fs, io};
 /// How many bytes a `-wal` has at most if no write is in it.
 const EMPTY_WAL_MOST: u64 = 41;
 
-/// A log in a file of the system.
-pub type FileLog = SqlLog<FileStore<File>>;
+/// The database in the file of a log. A call that hands it to a function over any store is slow to prove, and so is a place
+/// that drops it. So each command does that once.
+pub type LogDatabase = Connection<FileStore<File>>;
 
 /// Up to which version removals go.
 #[derive(Clone, Copy)]
@@ -72,11 +73,63 @@ pub fn error_of(fault: Fault, cause: Option<StoreCause>) -> LogError {
     }
 }
 
-/// Whether the folder of a path is there.
+/// Whether the folder of a path exists.
 pub fn has_folder(rt: &HostRuntime, path: &str) -> bool {
     match path.rsplit_once('/') {
         Some(("", _)) | None => true,
         Some((folder, _)) => fs::metadata(rt, folder).is_ok_and(|found| found.is_dir()),
+    }
+}
+
+/// Whether the program is not permitted to write to a file.
+fn is_read_only(rt: &HostRuntime, path: &str) -> bool {
+    match fs::OpenOptions::new().write(true).open(rt, path) {
+        Ok(_) => false,
+        Err(error) => matches!(
+            error.kind(),
+            ErrorKind::PermissionDenied | ErrorKind::ReadOnlyFilesystem
+        ),
+    }
+}
+
+/// The obstacle that the files beside a log show: a journal that has bytes, or a missing `-wal`.
+fn obstacle_beside(rt: &HostRuntime, path: &str) -> Option<LogObstacle> {
+    let Ok(real) = fs::canonicalize(rt, path) else {
+        return None;
+    };
+    let Ok(journal) = format!(in rt.alloc(); "{}-journal", real.as_str()) else {
+        return None;
+    };
+    if length_at(rt, journal.as_str()) > 0 {
+        return Some(LogObstacle::Journal);
+    }
+    let Ok(wal) = format!(in rt.alloc(); "{}-wal", real.as_str()) else {
+        return None;
+    };
+    match fs::symlink_metadata(rt, wal.as_str()) {
+        Err(error) if error.kind() == ErrorKind::NotFound => Some(LogObstacle::Unmade),
+        _ => None,
+    }
+}
+
+/// What keeps the file at a path from being opened as a log, if that can be seen. If the path is a link, this is about the file to
+/// which it leads.
+fn log_obstacle(rt: &HostRuntime, path: &str) -> Option<LogObstacle> {
+    match fs::metadata(rt, path) {
+        Ok(found) if !found.is_file() => Some(LogObstacle::NoFile),
+        Ok(found) if found.nlink() > 1 => Some(LogObstacle::SecondName),
+        Ok(_) if is_read_only(rt, path) => Some(LogObstacle::ReadOnly),
+        Ok(_) => obstacle_beside(rt, path),
+        Err(error) if error.kind() == ErrorKind::NotFound => Some(LogObstacle::Unmade),
+        Err(_) => None,
+    }
+}
+
+/// The failure of a file that the database could not open.
+fn unopened<'a>(rt: &HostRuntime, path: &'a str) -> Failure<'a> {
+    match log_obstacle(rt, path) {
+        Some(obstacle) => Failure::at(FaultPlace::UnopenedLog(path, obstacle), Fault::StoreFailed),
+        None => Failure::of_store(path, StoreCause::CannotOpen),
     }
 }
 
@@ -90,12 +143,13 @@ fn failure_of<'a>(rt: &HostRuntime, path: &'a str, error: &Error) -> Failure<'a>
             FaultPlace::NoLogFolder(path),
             Fault::StoreFailed,
         ),
+        StoreCause::CannotOpen => unopened(rt, path),
         cause => Failure::of_store(path, cause),
     }
 }
 
-/// Tests the lengths of the two files of a log, each 0 if there is no file. `StoreFailed` at a place if the first has no byte, and
-/// the `-wal` has writes: an opening would drop them.
+/// Tests the lengths of the two files of a log, each 0 if there is no file. `StoreFailed` at a place if the first has no byte and
+/// the `-wal` has writes, since an opening would drop them.
 fn test_lengths<'a>(log: u64, wal: u64, place: FaultPlace<'a>) -> Result<(), Failure<'a>>
     ensures refused { DropsWrites log wal → IsErr result }
     ensures only { IfErr result (λ _. DropsWrites log wal) }
@@ -123,8 +177,8 @@ fn length_at(rt: &HostRuntime, path: &str) -> u64 {
     }
 }
 
-/// How many bytes `LINK-wal` has, if the path of a log is a link LINK; else 0. An opening reads the `-wal` beside the file
-/// to which the link leads, so not this one, unless both are one file. `OutOfMemory`.
+/// How many bytes `LINK-wal` has, if the path of a log is a link LINK; else 0. An opening does not read that
+/// file, unless it is also the `-wal` beside the file to which the link leads. `OutOfMemory`.
 fn unread_length(rt: &HostRuntime, path: &str, wal: &str) -> io::Result<u64> {
     let is_link = fs::symlink_metadata(rt, path).is_ok_and(|found| found.file_type().is_symlink());
     if !is_link {
@@ -140,8 +194,8 @@ fn unread_length(rt: &HostRuntime, path: &str, wal: &str) -> io::Result<u64> {
     }
 }
 
-/// Tests that an opening of the log at a path drops no writes and passes over none. `NoMemory`. `StoreFailed` if a `-wal` has writes
-/// beside an empty file or none, or beside a link that leads elsewhere.
+/// Tests that an opening of the log at a path drops no writes and passes over none. `NoMemory`. `StoreFailed` if a `-wal` with writes
+/// is beside an empty file, a missing one, or a link that leads elsewhere.
 pub(crate) fn test_wal<'a>(rt: &HostRuntime, path: &'a str) -> Result<(), Failure<'a>> {
     let Ok(wal) = wal_of(rt, path) else {
         return Err(Failure::at(FaultPlace::Log(path), Fault::NoMemory));
@@ -159,43 +213,33 @@ pub(crate) fn test_wal<'a>(rt: &HostRuntime, path: &'a str) -> Result<(), Failur
     test_lengths(0, unread, FaultPlace::UnreadWal(path))
 }
 
-/// A connection to a file, which is made if it is not there. `StoreFailed` if it can't be opened or another has it open;
+/// Opens a connection to a file, and makes the file if there is none. `StoreFailed` if it can't be opened or another has it open;
 /// `LogDamaged` if it is not a database; `NoMemory`.
-fn connect<'a>(
-    rt: &HostRuntime,
-    path: &'a str,
-) -> Result<Connection<FileStore<File>>, Failure<'a>> {
+fn connect<'a>(rt: &HostRuntime, path: &'a str) -> Result<LogDatabase, Failure<'a>> {
     match Connection::open(rt, path) {
         Ok(conn) => Ok(conn),
         Err(error) => Err(failure_of(rt, path, &error)),
     }
 }
 
-/// The log of an owner of a cluster, in a file that is made if it is not there. An empty one becomes a new log. It gives versions up to
-/// `max_version`. The faults of `connect` and of `SqlLog::open`.
-fn log_in<'a>(
-    rt: &HostRuntime,
+/// The log of an owner of a cluster, in the database of the file at a path. An empty one becomes a new log. It gives versions up to
+/// `max_version`. The faults of `SqlLog::open`.
+pub fn log_in<'a, S: Alter + Drop>(
+    alloc: Global,
     path: &'a str,
-    owner: Name,
-    cluster: Name,
+    conn: Connection<S>,
+    names: LogNames,
     max_version: u64,
-) -> Result<FileLog, Failure<'a>> {
-    let conn = connect(rt, path)?;
-    match SqlLog::open(rt.alloc(), conn, owner, cluster, max_version) {
+) -> Result<SqlLog<S>, Failure<'a>> {
+    match SqlLog::open(alloc, conn, names.owner, names.cluster, max_version) {
         Ok(log) => Ok(log),
         Err((error, _)) => Err(failure(path, error)),
     }
 }
 
-/// The log of an owner of a cluster, in a file that is there. The faults of `test_wal`; `StoreFailed` if it is not there, or must
-/// not be read; the faults of `log_in`.
-pub fn open_log<'a>(
-    rt: &HostRuntime,
-    path: &'a str,
-    owner: Name,
-    cluster: Name,
-    max_version: u64,
-) -> Result<FileLog, Failure<'a>> {
+/// Opens the database in the file of a log. The faults of `test_wal`; `StoreFailed` if there is no file, or it must not be read;
+/// the faults of `connect`.
+pub fn open_database<'a>(rt: &HostRuntime, path: &'a str) -> Result<LogDatabase, Failure<'a>> {
     test_wal(rt, path)?;
     if let Err(error) = fs::File::open(rt, path) {
         let place = match error.kind() {
@@ -205,19 +249,16 @@ pub fn open_log<'a>(
         };
         return Err(Failure::at(place, Fault::StoreFailed));
     }
-    log_in(rt, path, owner, cluster, max_version)
+    connect(rt, path)
 }
 
-/// The log of an owner of a cluster, in a file that is made if it is not there. It gives all versions. The faults of `test_wal`
-/// and of `log_in`.
-pub(crate) fn make_log<'a>(
+/// Opens the database in the file of a log, and makes the file if there is none. The faults of `test_wal` and of `connect`.
+pub(crate) fn make_database<'a>(
     rt: &HostRuntime,
     path: &'a str,
-    owner: Name,
-    cluster: Name,
-) -> Result<FileLog, Failure<'a>> {
+) -> Result<LogDatabase, Failure<'a>> {
     test_wal(rt, path)?;
-    log_in(rt, path, owner, cluster, VERSION_MOST)
+    connect(rt, path)
 }
 
 /// Whether another process has the log at a path open. Otherwise it makes the file, if there is none.
@@ -228,8 +269,8 @@ pub(crate) fn is_locked(rt: &HostRuntime, path: &str) -> bool {
     }
 }
 
-/// Copies what the `-wal` of a log has into the file of the log, which nobody has open. From then on that file has the whole
-/// log. The faults of `connect`, and `StoreFailed`.
+/// Copies the `-wal` of a log that nobody has open into the file of the log, which has the whole log then. The faults of `connect`,
+/// and `StoreFailed`.
 pub(crate) fn settle_log<'a>(rt: &HostRuntime, path: &'a str) -> Result<(), Failure<'a>> {
     let conn = connect(rt, path)?;
     match conn.close() {
@@ -246,23 +287,6 @@ fn print_lines<L: WriteLog>(rt: &HostRuntime, log: L) -> Result<(), LogError> {
     match printed.and(log.close()) {
         Ok(()) => Ok(()),
         Err(fault) => Err(error_of(fault, cause)),
-    }
-}
-
-/// Prints what the log of an owner of a cluster holds. `BadName` of either name, before the file is looked for; then the
-/// faults of `open_log`, of `log_run` and of `close`.
-pub fn print_log<'a>(
-    rt: &HostRuntime,
-    path: &'a str,
-    owner: &'a str,
-    cluster: &'a str,
-) -> Result<(), Failure<'a>> {
-    let owner = name_of("--name", owner)?;
-    let cluster = name_of("--cluster", cluster)?;
-    let log = open_log(rt, path, owner, cluster, VERSION_MOST)?;
-    match print_lines(rt, log) {
-        Ok(()) => Ok(()),
-        Err(error) => Err(failure(path, error)),
     }
 }
 
@@ -286,7 +310,7 @@ fn purge_to<L: WriteLog, W: Write>(
     purged
 }
 
-/// The same, and ends the log. The faults of `purge_to`, then those of `close`.
+/// Purges a log by `purge_to`, and ends it. The faults of `purge_to`, then those of `close`.
 fn purge_lines<L: WriteLog>(rt: &HostRuntime, log: L, floor: Floor) -> Result<(), LogError> {
     let mut log = log;
     let purged = purge_to(rt.alloc(), &mut log, floor, &mut rt.stdout());
@@ -297,8 +321,63 @@ fn purge_lines<L: WriteLog>(rt: &HostRuntime, log: L, floor: Floor) -> Result<()
     }
 }
 
-/// Drops the removals of the log of an owner of a cluster, and prints up to which version. `BadName` of either name, before the
-/// file is looked for; then the faults of `open_log`, of `load` and `purge_run`, and of `close`.
+/// What a command does with a log that exists, before it ends it.
+#[derive(Clone, Copy)]
+enum LogTask {
+    /// It prints what the log holds.
+    Print,
+    /// It drops the removals up to a version, and prints that version.
+    Purge(Floor),
+}
+
+/// Does a task with a log, and ends it. The faults of `print_lines` or of `purge_lines`.
+fn run_task<L: WriteLog>(rt: &HostRuntime, log: L, task: LogTask) -> Result<(), LogError> {
+    match task {
+        LogTask::Print => print_lines(rt, log),
+        LogTask::Purge(floor) => purge_lines(rt, log, floor),
+    }
+}
+
+/// Does a task with the log in a database. The faults of `log_in` and of `run_task`.
+fn run_in<'a, S: Alter + Drop>(
+    rt: &HostRuntime,
+    path: &'a str,
+    conn: Connection<S>,
+    names: LogNames,
+    task: LogTask,
+) -> Result<(), Failure<'a>> {
+    let log = log_in(rt.alloc(), path, conn, names, VERSION_MOST)?;
+    match run_task(rt, log, task) {
+        Ok(()) => Ok(()),
+        Err(error) => Err(failure(path, error)),
+    }
+}
+
+/// Does a task with the log in the file at a path. The faults of `open_database` and of `run_in`.
+fn run_at<'a>(
+    rt: &HostRuntime,
+    path: &'a str,
+    names: LogNames,
+    task: LogTask,
+) -> Result<(), Failure<'a>> {
+    let conn = open_database(rt, path)?;
+    run_in(rt, path, conn, names, task)
+}
+
+/// Prints what the log of an owner of a cluster holds. `BadName` of either name, before it looks for the file. Then the faults of
+/// `open_database`, `log_in`, `log_run` and `close`.
+pub fn print_log<'a>(
+    rt: &HostRuntime,
+    path: &'a str,
+    owner: &'a str,
+    cluster: &'a str,
+) -> Result<(), Failure<'a>> {
+    let names = names_of(owner, cluster)?;
+    run_at(rt, path, names, LogTask::Print)
+}
+
+/// Drops the removals of the log of an owner of a cluster, and prints up to which version. `BadName` of either name, before it looks
+/// for the file. Then the faults of `open_database`, `log_in`, `load`, `purge_run` and `close`.
 pub fn purge_log<'a>(
     rt: &HostRuntime,
     path: &'a str,
@@ -306,13 +385,8 @@ pub fn purge_log<'a>(
     cluster: &'a str,
     floor: Floor,
 ) -> Result<(), Failure<'a>> {
-    let owner = name_of("--name", owner)?;
-    let cluster = name_of("--cluster", cluster)?;
-    let log = open_log(rt, path, owner, cluster, VERSION_MOST)?;
-    match purge_lines(rt, log, floor) {
-        Ok(()) => Ok(()),
-        Err(error) => Err(failure(path, error)),
-    }
+    let names = names_of(owner, cluster)?;
+    run_at(rt, path, names, LogTask::Purge(floor))
 }
 
 /// How many keys of a table are removed ones.
@@ -328,9 +402,9 @@ fn count_removals(table: &Table) -> usize
     count
 }
 
-/// Drops the removals of a log up to its last version, if it has `least` of them or more, and says what became of them. Nothing is
-/// dropped if `least` is 0. A store that fails then leaves the log closed, and the removals are dropped
-/// or are not; that is not a fault. The faults are those of `load`.
+/// Drops the removals of a log up to its last version, if it has `least` of them or more, and returns what became of them. It drops
+/// none if `least` is 0. If the store fails at that, the log is closed, which is not a fault: nobody knows whether they are dropped.
+/// The faults of `load`.
 pub fn purge_removals<L: WriteLog>(
     rt: &HostRuntime,
     log: &mut L,

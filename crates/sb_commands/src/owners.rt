@@ -1,5 +1,6 @@
 //! How far a node holds each owner, which it is asked as by a peer.
-ghost use Rattle.std.specs.Prelude.{◌≡◌, ◌<◌, IfOk, IfErr};
+ghost use Rattle.std.specs.Prelude.{◌≡◌, ◌<◌, false, IfOk, IfErr};
+ghost use Rattle.sb_frames.specs.Sending.{has_failed};
 ghost use Rattle.sb_session.specs.Handlers.{IsRefusal};
 ghost use Rattle.sb_commands.specs.Owners as spec;
 
@@ -122,7 +123,7 @@ fn hear<R: Read, W: Write, L: Ledger>(
     }
 }
 
-/// Hears a session until a digest comes, and gives what answers it. Its faults are those of `hear`; `Malformed` of a digest that asks,
+/// Hears a session until a digest comes, and returns what answers it. Its faults are those of `hear`; `Malformed` of a digest that asks,
 /// or that begins elsewhere than it was to.
 fn hear_digest<R: Read, W: Write, L: Ledger>(
     connection: &mut Connection<R, W, L>,
@@ -143,25 +144,70 @@ fn hear_digest<R: Read, W: Write, L: Ledger>(
     Err(Fault::TurnsSpent)
 }
 
-/// A whole session: Hello, as many exchanges as it takes until all owners of the node came, and Bye. It asks nothing before the node's
-/// Hello came, since a node ends a session that it refuses. Its faults are those of `hear_digest` and of `Connection::send`; `TurnsSpent`
-/// if the node has more digests than there may be owners, or if the session needs more reads than the connection has.
+/// Sends a Hello, and hears that of the node. Its faults are those of `Connection::send` and of `hear`.
+fn greet<R: Read, W: Write, L: Ledger>(
+    connection: &mut Connection<R, W, L>,
+    session: &mut Session,
+    heard: &mut HeardDigests,
+) -> Result<(), Fault>
+    ensures goes_on { IfOk result (λ _. has_failed connection.new.last_write ≡ false) }
+{
+    connection.start()?;
+    connection.send(&session.hello())?;
+    let _ = hear(connection, session, heard)?;
+    Ok(())
+}
+
+/// Sends the next digest. Its faults are those of `Session::ask` and of `Connection::send`.
+fn send_digest<R: Read, W: Write, L: Ledger>(
+    connection: &mut Connection<R, W, L>,
+    session: &mut Session,
+    heard: &mut HeardDigests,
+) -> Result<(), Fault>
+    requires goes_on { has_failed connection.old.last_write ≡ false }
+    ensures goes_on { IfOk result (λ _. has_failed connection.new.last_write ≡ false) }
+{
+    let asked = session.ask(heard)?;
+    connection.send(&asked)
+}
+
+/// An exchange: the next digest, that of the node, and what answers it. Its faults are those of `send_digest`, of `hear_digest` and of
+/// `Connection::send`.
+fn exchange<R: Read, W: Write, L: Ledger>(
+    connection: &mut Connection<R, W, L>,
+    session: &mut Session,
+    heard: &mut HeardDigests,
+) -> Result<(), Fault>
+    requires goes_on { has_failed connection.old.last_write ≡ false }
+    ensures goes_on { IfOk result (λ _. has_failed connection.new.last_write ≡ false) }
+{
+    send_digest(connection, session, heard)?;
+    let delta = hear_digest(connection, session, heard)?;
+    connection.send(&Message::Delta(delta))
+}
+
+/// Sends a Bye. Its faults are those of `Connection::send`.
+fn send_bye<R: Read, W: Write, L: Ledger>(connection: &mut Connection<R, W, L>) -> Result<(), Fault>
+    requires goes_on { has_failed connection.old.last_write ≡ false }
+{
+    let bye = Bye::new(REASON_ROUNDS_DONE)?;
+    connection.send(&Message::Bye(bye))
+}
+
+/// Makes a whole session: Hello, as many exchanges as it takes to hear all owners of the node, and Bye. It asks nothing before the
+/// node's Hello came, since a node ends a session that it refuses. The faults of `hear_digest` and of `Connection::send`.
+/// `TurnsSpent` if the node has more digests than there may be owners, or if the session needs more reads than the connection has.
 fn hear_all<R: Read, W: Write, L: Ledger>(
     connection: &mut Connection<R, W, L>,
     session: Session,
     heard: &mut HeardDigests,
 ) -> Result<(), Fault> {
     let mut session = session;
-    connection.start()?;
-    connection.send(&session.hello())?;
-    let _ = hear(connection, &mut session, heard)?;
+    greet(connection, &mut session, heard)?;
     for _ in 0..OWNERS_MOST {
-        let asked = session.ask(heard)?;
-        connection.send(&asked)?;
-        let delta = hear_digest(connection, &mut session, heard)?;
-        connection.send(&Message::Delta(delta))?;
+        exchange(connection, &mut session, heard)?;
         if heard.is_whole {
-            return connection.send(&Message::Bye(Bye::new(REASON_ROUNDS_DONE)?));
+            return send_bye(connection);
         }
     }
     Err(Fault::TurnsSpent)
@@ -208,8 +254,8 @@ fn add_pair(out: &mut Vec<u8>, pair: &Pair, ages: Option<&Ages>) -> std::io::Res
 }
 
 /// Asks the node at a socket for peers how far it holds each owner, as a peer of this name. Returns a pair of each, in ascending owner. It
-/// writes nothing at the node. `ReadFailed` if it cannot be reached, or is silent for a minute; the faults of a session. It waits without
-/// limit if so many others wait at the socket that it takes no more.
+/// writes nothing at the node. If the socket has no room for another caller, it waits without limit. `ReadFailed` if the node cannot be
+/// reached, or is silent for a minute; the faults of a session.
 fn ask_pairs<'a>(
     rt: &HostRuntime,
     sock: &'a str,
@@ -250,8 +296,8 @@ pub fn print_owners<'a>(
     Ok(print_pairs(rt, &pairs, ages)?)
 }
 
-/// The greatest version in a pair, if it is this owner's: one that is held, a floor, or one of a table that has not come
-/// whole. 0 if it is another's.
+/// The greatest version in a pair: one that is held, a floor, or one of a table that has not come whole. 0 if the pair is
+/// another owner's.
 fn version_in(pair: &Pair, owner: &Name) -> u64
     ensures { result ≡ spec.version_in owner.now pair.now }
 {
@@ -282,8 +328,8 @@ fn heard_of<'a>(pairs: &[Pair], owner: &Name, sock: &'a str) -> Result<u64, Fail
     }
 }
 
-/// Asks the same under the name of an owner, and answers the greatest version that the node heard of it, be it of a table that has not come
-/// whole. The faults of `ask_pairs`; `NothingThere` if it heard of none.
+/// Asks the same under the name of an owner, and returns the greatest version that the node heard of it. It may be one of a table that
+/// has not come whole. The faults of `ask_pairs`; `NothingThere` if it heard of no version.
 pub(crate) fn ask_greatest<'a>(
     rt: &HostRuntime,
     sock: &'a str,

@@ -20,7 +20,7 @@ const NODE: Token = Token(1);
 /// the clock. So its askings never crowd.
 #[derive(Drop)]
 pub(crate) struct Pauses {
-    /// What notices that standard output is closed, and that a node says something. `None` if there is none.
+    /// What notices that standard output is closed, and that a node sends something. `None` if there is none.
     poll: Option<Poll>,
     /// Whether it is possible to wait for the end of standard output, which it is not for a file.
     has_output: bool,
@@ -32,7 +32,7 @@ pub(crate) struct Pauses {
 pub(crate) enum Wake {
     /// Standard output is closed.
     OutputClosed,
-    /// The node said something, or ended the connection.
+    /// The node sent something, or ended the connection.
     Told,
     /// The time is over.
     Silent,

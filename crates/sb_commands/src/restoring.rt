@@ -3,19 +3,20 @@ ghost use Rattle.std.specs.Prelude.{◌≡◌, ◌≢◌, ◌+◌, ◌<◌, ℕ,
 ghost use Rattle.sb_commands.specs.declared.beginning.TheConstants.{UNHEARD_MOST};
 ghost use Rattle.sb_commands.specs.Restoring as spec;
 
-use crate::beginning::version_beyond;
+use crate::beginning::{make_begun, version_beyond};
 use crate::failure::{Failure, FaultPlace};
 use crate::log_file::{
-    FileLog, error_of, failure, has_folder, is_locked, make_log, open_log, settle_log, test_wal,
+    LogDatabase, error_of, failure, has_folder, is_locked, log_in, open_database, settle_log,
+    test_wal,
 };
 use crate::owners::ask_greatest;
 use crate::status::ask_identity;
 use crate::watching::listing;
-use crate::words::name_of;
+use crate::words::{LogNames, names_of};
 use sb_codec::{Ask, Row};
-use sb_lines::write_back;
 use sb_log::{LogError, WriteLog};
 use sb_types::{Fault, KIND_ROWS, Name, Prefix, VERSION_MOST};
+use sqlite::{Alter, Connection};
 use std::alloc::Global;
 use std::{fs, io};
 
@@ -38,6 +39,15 @@ struct Lost {
     cluster: Name,
     after: u64,
     rows: Vec<Row>,
+}
+
+impl Lost {
+    fn names(&self) -> LogNames {
+        LogNames {
+            owner: self.owner,
+            cluster: self.cluster,
+        }
+    }
 }
 
 /// The greatest of a version that was heard of and those of rows.
@@ -130,13 +140,9 @@ fn test_empty<L: WriteLog>(alloc: Global, log: &mut L) -> Result<(), LogError> {
     Ok(())
 }
 
-/// The log at a path, if there is one. It stays open, so that no node starts with it meanwhile. `StoreFailed` of a link, which
-/// would be replaced; the faults of `open_log` and of `test_empty`.
-fn empty_log<'a>(
-    rt: &HostRuntime,
-    path: &'a str,
-    lost: &Lost,
-) -> Result<Option<FileLog>, Failure<'a>> {
+/// The database of the log at a path, if there is one. `StoreFailed` of a link, which would be replaced; the faults of
+/// `open_database`.
+fn old_database<'a>(rt: &HostRuntime, path: &'a str) -> Result<Option<LogDatabase>, Failure<'a>> {
     match fs::symlink_metadata(rt, path) {
         Ok(found) if found.file_type().is_symlink() => {
             return Err(Failure::at(FaultPlace::LinkedLog(path), Fault::StoreFailed));
@@ -144,11 +150,8 @@ fn empty_log<'a>(
         Ok(_) => {}
         Err(_) => return Ok(None),
     }
-    let mut log = open_log(rt, path, lost.owner, lost.cluster, VERSION_MOST)?;
-    match test_empty(rt.alloc(), &mut log) {
-        Ok(()) => Ok(Some(log)),
-        Err(error) => Err(failure(path, error)),
-    }
+    let conn = open_database(rt, path)?;
+    Ok(Some(conn))
 }
 
 /// Removes a file, if there is one.
@@ -193,7 +196,7 @@ fn locked_folder<'a>(rt: &HostRuntime, path: &'a str) -> Result<fs::File, Failur
     }
 }
 
-/// Puts a whole log at a path in a folder, where nothing is or an empty log. The old `-wal` is gone for good before the log is
+/// Puts a whole log at a path in a folder, which has no file or an empty log. The old `-wal` is gone for good before the log is
 /// there, whose own it would seem to be.
 fn put_in_place(rt: &HostRuntime, folder: &fs::File, beside: &str, path: &str) -> io::Result<()> {
     remove_wal(rt, beside)?;
@@ -203,33 +206,11 @@ fn put_in_place(rt: &HostRuntime, folder: &fs::File, beside: &str, path: &str) -
     folder.sync_all()
 }
 
-/// Writes rows back into a log, and ends it. Returns its last version. The faults of `write_back`, then those of `close`.
-fn fill<L: WriteLog>(alloc: Global, log: L, rows: &[Row]) -> Result<u64, LogError> {
-    let mut log = log;
-    let written = write_back(alloc, &mut log, rows);
-    let cause = log.cause();
-    let closed = log.close();
-    let last = match written {
-        Ok(last) => last,
-        Err(fault) => return Err(error_of(fault, cause)),
-    };
-    match closed {
-        Ok(()) => Ok(last),
-        Err(fault) => Err(error_of(fault, cause)),
-    }
-}
-
-/// Makes a log at a path, with all that it is to have, in one file. Returns its last version. The faults of `make_log`, of
-/// `SqlLog::begin`, of `fill` and of `settle_log`.
+/// Makes a log at a path, with all that it is to have, in one file. Returns its last version. The faults of `make_begun` and of
+/// `settle_log`.
 fn make_whole<'a>(rt: &HostRuntime, path: &'a str, lost: &Lost) -> Result<u64, Failure<'a>> {
-    let mut log = make_log(rt, path, lost.owner, lost.cluster)?;
-    if let Err(fault) = log.begin(lost.after) {
-        return Err(failure(path, error_of(fault, log.cause())));
-    }
-    let last = match fill(rt.alloc(), log, &lost.rows) {
-        Ok(last) => last,
-        Err(error) => return Err(failure(path, error)),
-    };
+    let names = lost.names();
+    let last = make_begun(rt, path, names, lost.after, &lost.rows)?;
     settle_log(rt, path)?;
     Ok(last)
 }
@@ -262,16 +243,62 @@ fn restore_beside<'a>(
     Err(placed)
 }
 
-/// Makes a log at a path, all of it or nothing. Returns its last version. The faults of `locked_folder` and of `empty_log`; if there
-/// is none, those of `test_wal`; then those of `restore_beside`.
+/// Makes a log in a folder, at a path that has no file or an empty log. Returns its last version. `NoMemory`; the faults of
+/// `restore_beside`.
+fn restore_in<'a>(
+    rt: &HostRuntime,
+    folder: &fs::File,
+    path: &'a str,
+    lost: &Lost,
+) -> Result<u64, Failure<'a>> {
+    let beside = format!(in rt.alloc(); "{path}{BESIDE}")?;
+    restore_beside(rt, folder, beside.as_str(), path, lost)
+}
+
+/// Makes a log in a folder, in place of the empty one in this database. That one stays open meanwhile, so that no node starts with it.
+/// Returns the last version of the new one. The faults of `log_in`, of `test_empty` and of `restore_in`.
+fn restore_over<'a, S: Alter + Drop>(
+    rt: &HostRuntime,
+    folder: &fs::File,
+    path: &'a str,
+    conn: Connection<S>,
+    lost: &Lost,
+) -> Result<u64, Failure<'a>> {
+    let names = lost.names();
+    let mut log = log_in(rt.alloc(), path, conn, names, VERSION_MOST)?;
+    match test_empty(rt.alloc(), &mut log) {
+        Ok(()) => restore_in(rt, folder, path, lost),
+        Err(error) => Err(failure(path, error)),
+    }
+}
+
+/// Makes a log in a folder, at a path that has no file. Returns its last version. The faults of `test_wal` and of `restore_in`.
+fn restore_anew<'a>(
+    rt: &HostRuntime,
+    folder: &fs::File,
+    path: &'a str,
+    lost: &Lost,
+) -> Result<u64, Failure<'a>> {
+    test_wal(rt, path)?;
+    restore_in(rt, folder, path, lost)
+}
+
+/// Makes a log at a path, all of it or nothing. Returns its last version. The faults of `locked_folder` and of `old_database`; if
+/// there is a database, those of `restore_over`, and else those of `restore_anew`.
 fn restore_at<'a>(rt: &HostRuntime, path: &'a str, lost: &Lost) -> Result<u64, Failure<'a>> {
     let folder = locked_folder(rt, path)?;
-    let held = empty_log(rt, path, lost)?;
-    if held.is_none() {
-        test_wal(rt, path)?;
+    match old_database(rt, path)? {
+        Some(conn) => restore_over(rt, &folder, path, conn, lost),
+        None => restore_anew(rt, &folder, path, lost),
     }
-    let beside = format!(in rt.alloc(); "{path}{BESIDE}")?;
-    restore_beside(rt, &folder, beside.as_str(), path, lost)
+}
+
+/// Prints how many rows a log was made with, and its last version. `WriteFailed`.
+fn print_restored(rt: &HostRuntime, count: usize, last: u64) -> Result<(), Failure<'static>> {
+    match println!(rt; "restored {count} last {last}") {
+        Ok(()) => Ok(()),
+        Err(_) => Err(Failure::from(Fault::WriteFailed(0))),
+    }
 }
 
 /// Makes a log of an owner in a cluster, with the rows that a node shows of that owner. It begins far after all that the node
@@ -289,12 +316,8 @@ pub fn restore_log<'a>(
     cluster: &'a str,
     asked: AskedNode<'a>,
 ) -> Result<(), Failure<'a>> {
-    let owner = name_of("--name", owner)?;
-    let cluster = name_of("--cluster", cluster)?;
-    let lost = ask_lost(rt, asked, owner, cluster)?;
+    let names = names_of(owner, cluster)?;
+    let lost = ask_lost(rt, asked, names.owner, names.cluster)?;
     let last = restore_at(rt, path, &lost)?;
-    match println!(rt; "restored {} last {last}", lost.rows.len()) {
-        Ok(()) => Ok(()),
-        Err(_) => Err(Failure::from(Fault::WriteFailed(0))),
-    }
+    print_restored(rt, lost.rows.len(), last)
 }

@@ -136,24 +136,24 @@ impl fmt::Display for FigureLine<'_> {
 }
 
 impl WholeStatus {
-    /// Adds its lines: whether the node is ready, which it is, its figures and its peers. An error if there is no memory.
-    fn add_lines(&self, out: &mut Vec<u8>) -> std::io::Result<()> {
+    /// Adds the lines of the node: whether it is ready, and which it is. An error if there is no memory.
+    fn add_node(&self, out: &mut Vec<u8>) -> std::io::Result<()> {
         let identity = self.head.identity();
         let ready = if is_ready(&self.head) { "yes" } else { "no" };
         writeln!(out, "ready {ready}")?;
         writeln!(out, "node {}", name_text(&identity.node))?;
         writeln!(out, "cluster {}", name_text(&identity.cluster))?;
-        writeln!(out, "release {}", Spelled(text_of(&identity.release)))?;
+        writeln!(out, "release {}", Spelled(text_of(&identity.release)))
+    }
+
+    /// Adds its lines: those of the node, of its figures and of its peers. An error if there is no memory.
+    fn add_lines(&self, out: &mut Vec<u8>) -> std::io::Result<()> {
+        self.add_node(out)?;
         for figure in self.head.figures() {
             writeln!(out, "{}", FigureLine(figure))?;
         }
-        for peer in self.head.peers() {
-            add_peer(out, peer)?;
-        }
-        for peer in &self.rest {
-            add_peer(out, peer)?;
-        }
-        Ok(())
+        add_peers(out, self.head.peers())?;
+        add_peers(out, &self.rest)
     }
 
     /// Its lines. `NoMemory`.
@@ -191,6 +191,14 @@ fn add_peer(out: &mut Vec<u8>, peer: &PeerStatus) -> std::io::Result<()> {
     )
 }
 
+/// Adds a line for each of these peers. An error if there is no memory.
+fn add_peers(out: &mut Vec<u8>, peers: &[PeerStatus]) -> std::io::Result<()> {
+    for peer in peers {
+        add_peer(out, peer)?;
+    }
+    Ok(())
+}
+
 /// The value of a figure, as JSON.
 fn json_of(alloc: Global, figure: &Figure) -> Result<Value, AllocError> {
     match (figure.kind(), figure.value) {
@@ -217,24 +225,47 @@ fn peer_of(alloc: Global, peer: &PeerStatus) -> Result<Value, AllocError> {
     json!(in alloc; {"path": path, "round": round, "state": state.as_str()})
 }
 
-/// The object of a status. Its members are in the order of their names.
-fn object_of(alloc: Global, status: &WholeStatus) -> Result<Value, AllocError> {
-    let mut members = Map::new(alloc);
-    for figure in status.head.figures() {
-        // `peers` is the list, whose length is the figure.
+/// Adds a member for each figure but `peers`, which is the list that has so many.
+fn add_figures(
+    alloc: Global,
+    members: &mut Map<String, Value>,
+    figures: &[Figure],
+) -> Result<(), AllocError> {
+    for figure in figures {
         if figure.kind() != Some(FigureKind::Peers) {
             members.insert(member_of(alloc, figure)?, json_of(alloc, figure)?)?;
         }
     }
-    let mut peers = Vec::new(alloc);
-    for peer in status.head.peers() {
-        peers.push(peer_of(alloc, peer)?)?;
+    Ok(())
+}
+
+/// Adds an object for each of these peers.
+fn add_objects(
+    alloc: Global,
+    objects: &mut Vec<Value>,
+    peers: &[PeerStatus],
+) -> Result<(), AllocError> {
+    for peer in peers {
+        objects.push(peer_of(alloc, peer)?)?;
     }
-    for peer in &status.rest {
-        peers.push(peer_of(alloc, peer)?)?;
-    }
+    Ok(())
+}
+
+/// The list of the peers of a status.
+fn peers_of(alloc: Global, status: &WholeStatus) -> Result<Value, AllocError> {
+    let mut objects = Vec::new(alloc);
+    add_objects(alloc, &mut objects, status.head.peers())?;
+    add_objects(alloc, &mut objects, &status.rest)?;
+    Ok(Value::Array(objects))
+}
+
+/// The object of a status. Its members are in the order of their names.
+fn object_of(alloc: Global, status: &WholeStatus) -> Result<Value, AllocError> {
+    let mut members = Map::new(alloc);
+    add_figures(alloc, &mut members, status.head.figures())?;
     add_identity(alloc, &mut members, &status.head)?;
-    members.insert(String::from_str(alloc, "peers")?, Value::Array(peers))?;
+    let peers = peers_of(alloc, status)?;
+    members.insert(String::from_str(alloc, "peers")?, peers)?;
     Ok(Value::Object(members))
 }
 

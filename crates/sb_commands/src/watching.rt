@@ -84,9 +84,21 @@ fn print_difference(
     Ok(())
 }
 
+/// Prints what changed from the rows of the last listing to those of the next. After it comes the line `asked`, if
+/// `prints_asked` is true. `NoMemory`; `WriteFailed`.
+fn print_next(
+    rt: &HostRuntime,
+    last: &[Row],
+    next: &[Row],
+    prints_asked: bool,
+) -> Result<(), Fault> {
+    let told = changes(rt.alloc(), last, next)?;
+    print_difference(rt, &told, prints_asked)
+}
+
 /// Asks a node for rows each time that something may have changed, and prints what changed since the last asking. The first
-/// time it prints each row. The first fault of an asking ends it, also a later one, and it prints nothing of a listing whose pages did not
-/// all come. `WriteFailed`, also if standard output was closed since it asked.
+/// time it prints each row. The first fault of an asking ends it. It prints nothing of a listing whose pages did not all come.
+/// `WriteFailed`, also if standard output was closed since it asked.
 pub fn watch<'a>(
     rt: &HostRuntime,
     control: &'a str,
@@ -104,7 +116,7 @@ pub fn watch<'a>(
         }
         source.begin();
         let rows = listing(rt, control, &query.asked)?;
-        print_difference(rt, &changes(rt.alloc(), &last, &rows)?, query.prints_asked)?;
+        print_next(rt, &last, &rows, query.prints_asked)?;
         last = rows;
     }
     Ok(())
@@ -112,7 +124,6 @@ pub fn watch<'a>(
 
 /// The rows that were printed, and what the node has shown since its last start. If the watch is careful, they count as
 /// printed once it has them.
-#[derive(Drop)]
 struct PrintedRows<'a> {
     rows: Vec<Row>,
     /// What decides which of them are shown, if the watch is careful.
@@ -129,6 +140,23 @@ struct PrintedRows<'a> {
     is_away: bool,
     /// How many askings were answered.
     count: u64,
+}
+
+// It is written out, so that a caller does not prove again how each part is dropped.
+impl Drop for PrintedRows<'_> {
+    fn drop(self) {
+        let PrintedRows {
+            rows: _rows,
+            careful: _careful,
+            caught_up: _,
+            is_waiting: _,
+            stamp: _,
+            reaches: _reaches,
+            lag: _,
+            is_away: _,
+            count: _,
+        } = self;
+    }
 }
 
 impl<'a> PrintedRows<'a> {
@@ -254,6 +282,23 @@ impl<'a> PrintedRows<'a> {
         Ok(Some(listing(rt, control, asked)?))
     }
 
+    /// Takes a listing that came from this socket, shows it, and reports it if the node lags. `NoMemory`; `WriteFailed`.
+    fn take_and_show(
+        &mut self,
+        rt: &HostRuntime,
+        control: &str,
+        stamp: Option<SocketStamp>,
+        found: &[Row],
+        query: &WatchQuery,
+    ) -> Result<(), Fault> {
+        self.tell(rt, control, false);
+        self.take(rt, stamp, found, query.prints_asked)?;
+        self.show(rt, control, query.prints_asked)?;
+        let differing = differing_owners(rt.alloc(), &self.rows, found, &self.reaches)?;
+        self.lag.report(rt, control, differing);
+        Ok(())
+    }
+
     /// Asks once. If the node was started again in the meantime, it takes none of the rows. A fault of asking that may pass is reported,
     /// and ends nothing. The others are those of `found_rows`, then `NoMemory` and `WriteFailed`.
     fn ask<'b>(
@@ -267,16 +312,7 @@ impl<'a> PrintedRows<'a> {
             Ok(None) => Ok(()),
             Ok(Some(found)) => {
                 if stamp == stamp_of(rt, control) {
-                    self.tell(rt, control, false);
-                    self.take(rt, stamp, &found, query.prints_asked)?;
-                    self.show(rt, control, query.prints_asked)?;
-                    let differing = differing_owners(
-                        rt.alloc(),
-                        &self.rows,
-                        &found,
-                        &self.reaches,
-                    )?;
-                    self.lag.report(rt, control, differing);
+                    self.take_and_show(rt, control, stamp, &found, query)?;
                 }
                 Ok(())
             }
@@ -291,9 +327,9 @@ impl<'a> PrintedRows<'a> {
 
 /// Does what `watch` does, and goes on if the node does not answer. What was printed stays.
 ///
-/// It prints that a row is gone only if the node knows it. The node knows it if it showed a row of that owner with the same
-/// version or a later one, at an earlier asking since its last start. It does not print a row of an earlier version than
-/// it printed before, also of a key that is gone. It ends after `count` askings that were answered.
+/// It prints that a row is gone only if the node knows it. The node knows it if it showed that version of the
+/// owner, or a later one, at an earlier asking since its last start. It does not print a row of an earlier version than it
+/// printed before, also of a key that is gone. It ends after `count` askings that were answered.
 ///
 /// If the watch is careful, it takes no rows before the node is caught up. The faults of asking that cannot pass; `NoMemory`;
 /// `WriteFailed`, also if standard output was closed since it asked.

@@ -11,6 +11,20 @@ pub fn name_of<'a>(option: &'a str, word: &'a str) -> Result<Name, Failure<'a>> 
     }
 }
 
+/// Whose a log is: the names of its owner and of its cluster.
+#[derive(Clone, Copy)]
+pub struct LogNames {
+    pub owner: Name,
+    pub cluster: Name,
+}
+
+/// Reads the names that a log is opened with. `BadName` of either.
+pub(crate) fn names_of<'a>(owner: &'a str, cluster: &'a str) -> Result<LogNames, Failure<'a>> {
+    let owner = name_of("--name", owner)?;
+    let cluster = name_of("--cluster", cluster)?;
+    Ok(LogNames { owner, cluster })
+}
+
 /// Reads a key. `BadKey`.
 pub fn key_of(word: &str) -> Result<Key, Failure<'_>> {
     match Key::read(word.as_bytes()) {
