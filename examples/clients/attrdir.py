@@ -5,6 +5,7 @@ import io
 import json
 import os
 import re
+import signal
 import socket
 import time
 
@@ -198,6 +199,15 @@ class Node:
         return io.BytesIO(answer[1:])
 
 
+def show(item):
+    """Prints an item as a line of JSON. If nobody reads the output any more, the program ends by SIGPIPE."""
+    try:
+        print(json.dumps(item, ensure_ascii=False, sort_keys=True, separators=(",", ":")).replace("\x7f", r"\u007f"), flush=True)
+    except BrokenPipeError:
+        signal.signal(signal.SIGPIPE, signal.SIG_DFL)
+        signal.raise_signal(signal.SIGPIPE)
+
+
 def main():
     """Runs one command, and prints what it answers as lines of JSON."""
     parser, filters = argparse.ArgumentParser(description=__doc__), ["--owner", "--prefix", "--key"]
@@ -214,7 +224,7 @@ def main():
     try:
         answer = getattr(node, "delete" if command == "del" else command)(**given)
         for item in answer if command in ("get", "watch") else [answer]:
-            print(json.dumps(item, ensure_ascii=False, sort_keys=True, separators=(",", ":")).replace("\x7f", r"\u007f"), flush=True)
+            show(item)
     except Fault as fault:
         parser.exit(3, f"fault {fault.number}\n{fault.text}\n")
     except KeyboardInterrupt:

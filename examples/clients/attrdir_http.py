@@ -4,6 +4,7 @@ import argparse
 import http.client
 import json
 import re
+import signal
 import socket
 import time
 from urllib.parse import urlencode
@@ -143,6 +144,15 @@ class Node:
         raise Fault(answer.status, content.get("error", reason), content.get("fault"))
 
 
+def show(item):
+    """Prints an item as a line of JSON. If nobody reads the output any more, the program ends by SIGPIPE."""
+    try:
+        print(json.dumps(item, ensure_ascii=False, sort_keys=True, separators=(",", ":")).replace("\x7f", r"\u007f"), flush=True)
+    except BrokenPipeError:
+        signal.signal(signal.SIGPIPE, signal.SIG_DFL)
+        signal.raise_signal(signal.SIGPIPE)
+
+
 def main():
     parser, filters = argparse.ArgumentParser(description=__doc__), ["--owner", "--prefix"]
     parser.add_argument("--http", required=True, metavar="ADDRESS", help="what the option --http of the node has")
@@ -161,7 +171,7 @@ def main():
     try:
         answer = getattr(node, "delete" if command == "del" else command)(**given)
         for item in answer if command in ("get", "watch") else [answer]:
-            print(json.dumps(item, ensure_ascii=False, sort_keys=True, separators=(",", ":")).replace("\x7f", r"\u007f"), flush=True)
+            show(item)
     except (Fault, OSError) as fault:
         parser.exit(3, f"{fault}\n")
     except KeyboardInterrupt:

@@ -36,7 +36,7 @@ last() { printf '%s\n' "$body" | sed -n 's/.*[{,]"'"$1"'":"\{0,1\}\([^",}]*\).*/
 # Prints the rows of the page in $body, a line each, and those of all pages after it.
 pages() {
     while :; do
-        printf '%s\n' "$body" | sed -n 's/.*[{,]"rows":\[\(.*\)\].*/\1/p' | sed -e 's/},\({"[a-z_]*":\)/}\n\1/g' -e '/^$/d' | escape
+        printf '%s\n' "$body" | sed -n 's/.*[{,]"rows":\[\(.*\)\].*/\1/p' | sed -e 's/},\({"[a-z_]*":\)/}\n\1/g' -e '/^$/d' | escape || return
         [ "$(last more)" = true ] || return 0
         ask "/v1/rows?prefix=$1&after=$(last owner)/$(last key)" || return
     done
@@ -58,7 +58,7 @@ watch() {
         if ask "/v1/rows?prefix=$1&wait=30s${mark:+&seen=$mark}" 2> "$said" && seen=$(last seen) && pages "$1" > "$now" 2> "$said"; then
             tell answers info
             sort -o "$now" "$now"
-            comm -3 "$old" "$now" | sed -e 's/^\t/+ /' -e t -e 's/^/- /'
+            comm -3 "$old" "$now" | sed -e 's/^\t/+ /' -e t -e 's/^/- /' || return # nobody reads it any more
             cp "$now" "$old" && mark=$seen
         elif [ "${code:-503}" = 503 ]; then
             tell 'does not answer' warning "$(head -n 1 "$said")"

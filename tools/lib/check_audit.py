@@ -289,7 +289,8 @@ def peers_are_down(check):
         listener.bind(str(folder / "b.sock"))
         listener.listen()
         silent = [folder / "b.sock", folder / "nobody.sock"]
-        took = seconds_of_first_write(check.node("a", folder=check.folder(), peers=silent), True)
+        # (it would give up the silent peer much later)
+        took = seconds_of_first_write(check.node("a", "--dial-idle", "20000", folder=check.folder(), peers=silent), True)
         if not 1.9 < took < 2.9:
             raise Difference(f"a write was answered after {took:.3} s beside a silent peer")
         took = seconds_of_first_write(check.node("a", "--no-wait", folder=check.folder(), peers=silent), False)

@@ -184,11 +184,16 @@ def beats_in(rows, owner, key):
 
 
 def beats(check):
-    """A node with a beat writes it again and again, under the key that is given."""
+    """A node with a beat writes it again and again, under the key that is given, and never before its time."""
+    began = time.monotonic()
     node = check.node("a", "--beat", "1").start()
     other = check.node("b", "--beat", "1", "--beat-key", "lives").start()
     node.awaits("the third beat", lambda rows: beats_in(rows, "a", "beat") >= 3)
     other.awaits("the second beat", lambda rows: beats_in(rows, "b", "lives") >= 2)
+    # (the first is made at once)
+    made, seconds = beats_in(node.get(), "a", "beat"), time.monotonic() - began
+    if not 3 <= made <= 1 + seconds:
+        raise Difference(f"{made} beats were made in {seconds:.2f} s")
     silent = check.node("c").start()
     time.sleep(0.1)
     want("a node without", silent.get(), [])
@@ -213,4 +218,23 @@ def watched_beside_http(check):
         stream.close()
 
 
-PARTS = (notices, many, cleared, over_restarts, soon, owner_ages, beats, watched_beside_http)
+def polled_beside_callers(check):
+    """If 64 callers wait for a change, a poll over HTTP lacks a watch. It is refused at once, and not after its wait."""
+    folder = check.folder()
+    node, place = node_at(check, "a", folder / "a.http", folder=folder)
+
+    def rows(query):
+        status, _, body = place.bytes(f"GET /v1/rows?{query} HTTP/1.1\r\nhost: localhost\r\n\r\n".encode())
+        return status, json.loads(body)
+
+    mark = rows("wait=0s")[1]["seen"]
+    streams = [ask_for_change(node, wait=600_000) for _ in range(64)]
+    want("64 answers", {it for _, it in streams}, {(0x18, b"\x01")})
+    began = time.monotonic()
+    status, found = rows(f"wait=8s&seen={mark}")
+    want("a poll that lacks a watch", (status, found.get("fault"), time.monotonic() - began < 4), (503, 27, True))
+    for stream, _ in streams:
+        stream.close()
+
+
+PARTS = (notices, many, cleared, over_restarts, soon, owner_ages, beats, watched_beside_http, polled_beside_callers)

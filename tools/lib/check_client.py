@@ -15,7 +15,7 @@ from contextlib import suppress
 from queue import Empty, Queue
 
 from check_asking import MadeUp, done, refused, rows, texts
-from check_http import VALUE, free_port, lacks_curl, node_at
+from check_http import KEY, VALUE, free_port, lacks_curl, node_at
 from check_scripts import tell
 from check_status import ASK_STATUS, NODE_STATUS
 from check_watch import VALUES, Watching
@@ -375,7 +375,7 @@ def client_alone(check):
         kept += [ast.dump(it) for it in tree.body if getattr(it, "name", None) == "Kept"]
         imports = [alias.name for it in ast.walk(tree) if isinstance(it, ast.Import) for alias in it.names]
         imports += [it.module for it in ast.walk(tree) if isinstance(it, ast.ImportFrom)]
-        there = set("argparse http.client io json os re socket struct time typing collections urllib.parse".split())
+        there = set("argparse http.client io json os re signal socket struct time typing collections urllib.parse".split())
         want(f"what {path.name} imports", sorted(set(imports) - there), [])
     want("how both keep rows", kept, 2 * kept[:1])
 
@@ -469,7 +469,7 @@ def http_client_faults(check):
     """The clients over HTTP end with status 3 if the node refuses, and if no node answers with that or with the status of curl."""
     if lacks_curl(check):
         return
-    folder, told = check.folder(), {**texts(), 4: VALUE}
+    folder, told = check.folder(), {**texts(), 3: KEY, 4: VALUE}
     node, port = node_at(check, "a", folder / "a.http", folder=folder)[0], f"127.0.0.1:{free_port()}"
     check.node("b", "--http", port, folder=folder).start()
     asked = lambda *words: by_http(folder / "a.http", *words)
@@ -558,6 +558,24 @@ def http_client_watches(check):
     want("what the shell leaves", list((folder / "tmp").iterdir()), [])
 
 
+def client_unread(check):
+    """A client whose output nobody reads any more ends by the signal of a closed pipe, and prints nothing about that."""
+    if lacks_curl(check):
+        return
+    folder = check.folder()
+    node, _ = node_at(check, "a", folder / "a.http", folder=folder)
+    node.put("k", 1)
+    python = [[sys.executable, CLIENT, "--control", node.control], [sys.executable, HTTP_CLIENT, "--http", folder / "a.http"]]
+    asked = [(-signal.SIGPIPE, [*front, *words]) for front in python for words in (["get"], ["watch"], ["set", "l", "weight", "5"])]
+    asked += [(128 + signal.SIGPIPE, ["sh", SHELL_CLIENT, folder / "a.http", *words]) for words in (["rows"], ["row", "a", "k"], ["watch"])]
+    for status, words in asked:
+        reads, writes = os.pipe()
+        os.close(reads)
+        ran = subprocess.run(words, stdin=subprocess.DEVNULL, stdout=writes, stderr=subprocess.PIPE, text=True, timeout=SECONDS)
+        os.close(writes)
+        want(f"the end of {words[1:]}", (ran.returncode, ran.stderr), (status, ""))
+
+
 def client_page(check):
     """Each example of examples/clients/README.md, a command and the line below it, is what a node h prints that answers at h.http."""
     if lacks_curl(check):
@@ -574,5 +592,6 @@ def client_page(check):
 
 PARTS = (
     client_rows, client_commands, client_watches, client_watches_pages, client_watches_back, client_watch_rules, client_statuses, client_status_words,
-    client_faults, client_alone, http_client_rows, http_client_faults, http_client_answers, http_client_watches, client_page,
+    client_faults, client_alone, http_client_rows, http_client_faults, http_client_answers, http_client_watches, client_unread,
+    client_page,
 )

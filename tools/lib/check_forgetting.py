@@ -21,6 +21,7 @@ def names(count):
 def forget_names(check):
     """Which names a node forgets, and how many."""
     want_fault("its own name", started_with(check, "--forget", "w", "--forget", "a"), 5, "own name")
+    want_fault("its own name beside a peer", started_with(check, "--forget", "a", "nobody.sock"), 5, "own name")
     for name in ("", "W", "w.x", 33 * "w"):
         want_fault(f"the name '{name}'", started_with(check, f"--forget={name}"), 5, "1 to 32")
     want("a missing name", started_with(check, "--forget")[:2], (2, ""))

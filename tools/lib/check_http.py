@@ -18,9 +18,14 @@ from nodes import ROOT, SECONDS, Difference, connect, run, want
 FIELDS = [("connection", "close"), ("cache-control", "no-store"), ("x-content-type-options", "nosniff"), ("content-type", "application/json")]
 
 
-PARAMETERS = "the parameters are owner, prefix, after, wait and seen, or owner and key, or key for a write, each once"
+UNKNOWN = "there is no such parameter: rows take owner, prefix, after, wait and seen, or owner and key; a write takes key; each is NAME=VALUE"
+PARAMETERS = "each parameter comes once; key goes with owner alone, and in a write with no other"
+NO_KEY = "name the key: /v1/keys/KEY, or /v1/keys?key=KEY"
 WAIT = "wait is 0s to 60s, as in wait=30s; seen is a mark of an answer, and goes with wait"
-VALUE = "a value is addr with 1 to 128 printing bytes, weight below 2^63, flag true or false, or text of 1 to 512 UTF-8 bytes"
+KEY = "a key is 1 to 64 of the bytes a-z, 0-9, '.', '_', '/' and -; a prefix may be empty; an escape is % and two hex digits, as %2F"
+PLACE = "one row is at /v1/rows/OWNER/KEY, those of an owner at /v1/rows?owner=OWNER; after is OWNER/KEY"
+VALUE = "a value is addr with 1 to 128 printing bytes, weight a whole number from 0 to 2^63 - 1 without quotes, flag true or false, or text of 1 to 512 UTF-8 bytes"
+KIND = "the kind is addr, weight, flag or text"
 SPENT = "as many polls or writes wait at this node as may; a write was not made; ask again in a second, or give polls a shorter wait"
 
 
@@ -205,13 +210,15 @@ def http_writes(check):
         refused(at_port, "/v1/keys/k", 403, "writes are taken at a Unix socket only", None, *words)
     for method in ("GET", "POST"):
         status, fields, body = place.curl("/v1/keys/k", "-X", method)
-        want(f"{method} of a key", (status, dict(fields)["allow"], json.loads(body)), (405, "put, delete", {"error": "this path is only written"}))
+        want(f"{method} of a key", (status, dict(fields)["allow"], json.loads(body)), (405, "put, delete", {"error": "write by PUT, remove by DELETE; a row is read at /v1/rows/OWNER/KEY"}))
     form = 'the body is JSON of this form: {"kind":"weight","value":5}'
     for body in ("", "5", "{}", '{"kind":"weight"}', '{"kind":"weight","value":5,"x":1}', '{"kind":"weight","value":5', "\x01", 200 * "[", 900 * '{"value":'):
         refused(place, "/v1/keys/k", 400, form, None, "-X", "PUT", "-d", body)
-    for kind, word in (("x", 5), (5, 5), ("weight", "5"), ("weight", -1), ("weight", 2**63), ("weight", 1.5), ("flag", "true"), ("addr", "a b"), ("text", ""), ("text", 513 * "x"), ("text", None)):
+    for kind, word in (("weight", "5"), ("weight", -1), ("weight", 2**63), ("weight", 1.5), ("flag", "true"), ("addr", "a b"), ("text", ""), ("text", 513 * "x"), ("text", None)):
         status, found = put(place, "k", kind, word)
         want(f"the value {word!r} of {kind}", (status, found), (400, {"error": VALUE, "fault": 4}))
+    for kind in ("x", "adr", "Weight", "", 5):
+        want(f"the kind {kind!r}", put(place, "k", kind, 5), (400, {"error": KIND, "fault": 4}))
     want("the longest text", put(place, "k", "text", 512 * "x"), (200, {"version": 8}))
     head = b"PUT /v1/keys/k HTTP/1.1\r\nHost: x\r\n"
     want("a longer body", place.bytes(head + b"Content-Length: 8193\r\n\r\n" + 8193 * b" ")[0], 413)
@@ -220,10 +227,10 @@ def http_writes(check):
     want("half a body", place.bytes(head + b'Content-Length: 27\r\n\r\n{"kind":"weight"', ends=True)[0], 400)
     twice = b'{"kind":"flag","value":4,"kind":"weight","value":6}'
     want("members that come twice", place.bytes(head + b"Content-Length: 51\r\n\r\n" + twice)[::2], (200, b'{"version":10}\n'))
-    key = run(check.program, "get", "--control", str(node.control), "--prefix", "A")[2].splitlines()[1]
     for path in ("/v1/keys/K", "/v1/keys/", f"/v1/keys/{65 * 'k'}", "/v1/keys?key=K"):
-        refused(place, path, 400, key, 3, "-X", "DELETE")
-    refused(place, "/v1/keys?key=k&owner=a", 400, PARAMETERS, None, "-X", "DELETE")
+        refused(place, path, 400, KEY, 3, "-X", "DELETE")
+    for path, text in (("?key=k&owner=a", PARAMETERS), ("?key=k&key=k", PARAMETERS), ("", NO_KEY), ("?owner=a", NO_KEY), ("?ky=k", UNKNOWN), ("?key", UNKNOWN)):
+        refused(place, f"/v1/keys{path}", 400, text, None, "-X", "DELETE")
     many = [threading.Thread(target=lambda count=count: [put(place, f"many/{count}", "weight", it) for it in range(10)]) for count in range(7)]
     for it in many:
         it.start()
@@ -408,24 +415,25 @@ def http_refusals(check):
     folder = check.folder()
     node, place = node_at(check, "a", folder / "a.http", folder=folder)
     at_port = node_at(check, "b", free_port(), folder=folder)[1]
-    name, key = run(check.program, "get", "--control", str(node.control), "--owner", "A")[2], run(check.program, "get", "--control", str(node.control), "--prefix", "A")[2]
-    name, key = name.splitlines()[1], key.splitlines()[1]
+    name = run(check.program, "get", "--control", str(node.control), "--owner", "A")[2].splitlines()[1]
     for path in ("/v1", "/v1/row", "/v1/rows.json", "/healthz/", "/v1/key"):
         refused(place, path, 404, "there is no such path")
         refused(place, path, 404, "there is no such path", None, "-X", "PUT")
     for path in ("/", "/v1/rows", "/v1/rows/a/k", "/v1/owners", "/healthz", "/metrics"):
         for method in ("PUT", "POST", "DELETE", "PATCH", "OPTIONS"):
             status, fields, body = place.curl(path, "-X", method)
-            want(f"{method} {path}", (status, dict(fields)["allow"], json.loads(body)), (405, "get, head", {"error": "this path is only read"}))
+            want(f"{method} {path}", (status, dict(fields)["allow"], json.loads(body)), (405, "get, head", {"error": "this path is only read; a key is written at /v1/keys/KEY"}))
     for query in ("owner=A", "owner=", "owner=%61%20", "after=A/k", f"owner={33 * 'a'}"):
         refused(place, f"/v1/rows?{query}", 400, name, 2)
-    for query in ("prefix=A", "prefix=a+b", "after=a", "after=a/", "owner=a&key=", f"owner=a&key={65 * 'k'}"):
-        refused(place, f"/v1/rows?{query}", 400, key, 3)
-    for path, text, fault in (("/v1/rows/A/k", name, 2), ("/v1/rows/a", key, 3), ("/v1/rows/a/", key, 3), ("/v1/rows/a/K", key, 3)):
+    for query in ("prefix=A", "prefix=a+b", "prefix=%f", "after=a/", "owner=a&key=", f"owner=a&key={65 * 'k'}"):
+        refused(place, f"/v1/rows?{query}", 400, KEY, 3)
+    for path, text, fault in (("/v1/rows/A/k", name, 2), ("/v1/rows/a", PLACE, 3), ("/v1/rows/", PLACE, 3), ("/v1/rows?after=a", PLACE, 3), ("/v1/rows/a/", KEY, 3), ("/v1/rows/a/K", KEY, 3)):
         refused(place, path, 400, text, fault)
     for query in ("wait=61s", "wait=1", "wait=500ms", "wait=1m", "wait=", "seen=x", "wait=1s&seen=A"):
         refused(place, f"/v1/rows?{query}", 400, WAIT)
-    for query in ("x=1", "owner", "wait=1s&wait=1s", "owner=a&owner=a", "prefix=&prefix=", "key=k", "owner=a&key=k&prefix=k", "owner=a&key=k&after=a/k", "Owner=a"):
+    for query in ("x=1", "owner", "prefx=web/", "Owner=a", "owner=a&x=1"):
+        refused(place, f"/v1/rows?{query}", 400, UNKNOWN)
+    for query in ("wait=1s&wait=1s", "owner=a&owner=a", "prefix=&prefix=", "key=k", "owner=a&key=k&prefix=k", "owner=a&key=k&after=a/k"):
         refused(place, f"/v1/rows?{query}", 400, PARAMETERS)
     for query in ("", "&", "owner=a&", "&&prefix="):
         want(f"rows by {query!r}", place.json(f"/v1/rows?{query}")[0], 200)

@@ -172,7 +172,7 @@ def metrics(check):
 
 def metrics_of_state(check):
     """The file says how many peers called and that another node writes under the name; it is written at most once a second, and a node that ends
-    removes it."""
+    removes it. A turn of a node without peers counts as one round."""
     folder = check.folder()
     path = folder / "a.prom"
     began = time.time()
@@ -209,6 +209,11 @@ def metrics_of_state(check):
     # (another file takes its place, so that whoever reads it has a whole one)
     want("a file that was written again", [one for one, other in zip(files, files[1:]) if one[0] == other[0]], [])
     node.kill()
+    path.unlink()
+    node.options = ("--pause", "60000", "--metrics", str(path))
+    node.start()
+    want("the rounds after the first turn", awaits(path, "a", {})["attrdir_rounds_total",], 1)
+    node.kill()
     node.options = ("--rounds", "2", "--metrics", str(path))
     want("an end", node.start().ended()[:2], (0, "rounds 2 faults 0 events 0\n"))
     want("the files at the end", sorted(it.name for it in folder.iterdir() if not it.name.endswith("-wal")), ["a.log"])
@@ -240,6 +245,13 @@ def metrics_elsewhere(check):
         want(f"metrics at {taken.name}", (status, printed, said.splitlines()[:2]), (3, "", ["fault 17", not_metrics if taken in (folder, other) else over]))
         want("the path that is named", f"metrics {taken}: " in said, True)
     want("what is there still", other.read_text(), "no metrics\n")
+    # (metrics go to FILE with .new first)
+    beside = check.node("b", "--metrics", str(folder / "b"), folder=folder)
+    beside.log = folder / "b.new"
+    beside.log.touch()
+    status, printed, said = run(*map(str, beside.words()))
+    want("metrics that would be written to the log first", (status, printed, said.splitlines()[:2]), (3, "", ["fault 17", over]))
+    want("that log", beside.log.read_bytes(), b"")
     want("its log", run(check.program, "log", "--log", str(node.log), "--name", "a", "--cluster", "c")[1].splitlines()[-1], "last 2")
 
 

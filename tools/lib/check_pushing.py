@@ -7,7 +7,7 @@ import time
 from check_metrics import awaits
 from check_releases import RELEASES, turns
 from check_waking import seconds_until
-from nodes import BYE, SECONDS, Difference, ask, block, connect, delta, exchange, frame, hello, number, read_frame, want, weight
+from nodes import BYE, SECONDS, Difference, ask, block, connect, delta, exchange, frame, hello, long_text, number, read_frame, want, weight
 
 # how many bytes a write of one weight may take over a connection, both ways: Hellos, a delta and a Bye
 MOST = 300
@@ -231,6 +231,29 @@ def streams(check):
         raise Difference(f"there were {len(peer.pushed())} pushes, which is more than {most:.0f}")
 
 
+def long_news(check):
+    """News of more than 1,024 bytes is pushed if it is no longer than the node's own digests. If it is longer, a round brings it."""
+    # (a digest has 35 bytes for each of these owners, and the news has some 1,600)
+    for owners, wanted in ((100, [1, 3, 4]), (0, [1, 2, 3, 4])):
+        folder = check.folder()
+        peer = LatePeer(folder / "b.sock", 0)
+        node = check.node("a", "--pause", "60000", "--audit", "0", "--no-wait", folder=folder, peers=[peer.path]).start()
+        answers(node, peer.path)
+        fill(node, owners)
+        if owners:
+            until("the news of all owners", lambda: kinds_with(peer, b"owner-0099"))
+        push(node, delta("y", 0, [(f"k{at}", at, long_text(500 * "x")) for at in (1, 2, 3)]))
+        until("the long news", lambda: kinds_with(peer, b"\x02k3" + number(3)))
+        want(f"the session that brings it beside {owners} owners", kinds_with(peer, b"\x02k3" + number(3)), [wanted])
+        node.kill()
+
+
+def kinds_with(peer, content):
+    """The kinds of the messages of each session that has ended and had this in a delta."""
+    talks = [list(talk) for talk in list(peer.heard)]
+    return [[it[0] for it in talk] for talk in talks if talk[-1:] == [(4, b"\x01")] and any(kind == 3 and content in body for kind, body in talk)]
+
+
 def endless_peers(check):
     """A peer that takes a push and never ends it is told again, all at once; behind two such sessions it is dialed in its turns alone."""
     folder, path = check.folder(), None
@@ -276,4 +299,4 @@ def pushes_beside_releases(check):
         want("how the news of it begins", peer.pushed()[1][:4], number(1, 2) + b"\x01b")
 
 
-PARTS = (pushes, gaps, late_peers, streams, endless_peers, pushes_beside_releases)
+PARTS = (pushes, gaps, late_peers, streams, long_news, endless_peers, pushes_beside_releases)

@@ -93,9 +93,10 @@ def texts_of_scripts(check):
     want("lines of texts", (status, printed, said.splitlines()[0]), (3, "version 7\nversion 8\nversion 9\n", "fault 9"))
     want("their rows", node.get("--prefix", "l/"), ["a l/a 7 text  x  y ", "a l/b 8 text removed", r"a l/c 9 text \5c\7f"])
     for line, quote, about in (("k text", "'k text'", "give a kind"), ("k text ", "'k text '", "a text has 1"), ("k  text x", "'k  text x'", "give a kind"),
-                               (r"k text \5C", r"'k text \5c5C'", "a text has 1"), ("k text x\r", r"'k text x\0d'", "the line ends with a carriage return, \\0d: "),
-                               ("k addr \té\x7f~", r"'k addr \09\c3\a9\7f~'", "give a kind"), (f"k weight {71 * '9'}", f"'k weight {71 * '9'}'", "give a kind"),
-                               (f"k weight {72 * '9'}", f"'k weight {71 * '9'}'..", "give a kind"), (f"k text {513 * 'x'}", f"'k text {73 * 'x'}'..", "a text has 1")):
+                               (r"k text \5C", r"'k text \5c5C'", "a text has 1"), ("k text a\tb", r"'k text a\09b'", r"a text has 1 to 512 bytes of UTF-8; write a backslash as \5c, a newline as \0a and a tab as \09"),
+                               ("k text x\r", r"'k text x\0d'", "the line ends with a carriage return, \\0d: "),
+                               ("k addr \té\x7f~", r"'k addr \09\c3\a9\7f~'", "give a kind"), (f"k weight {71 * '9'}", f"'k weight {71 * '9'}'", "a weight is"),
+                               (f"k weight {72 * '9'}", f"'k weight {71 * '9'}'..", "a weight is"), (f"k text {513 * 'x'}", f"'k text {73 * 'x'}'..", "a text has 1")):
         wrong(f"a line {line!r}", ended(check.program, words, f"{line}\n"), 3, "fault 4", f"line 1: {quote}: {about}")
     wrong("a key in a line", ended(check.program, words, "\nk\x7f weight 5\n"), 3, "fault 3", r"line 2: 'k\7f weight 5': give at most 64 ")
 

@@ -137,6 +137,21 @@ def permissions(check):
     ends([program, "get", "--control", closed / "a.ctl"], 16, "no node could be reached: not permitted")
     ends([program, "owners", "--sock", closed / "a.sock", "--cluster", "c"], 16, "no node could be reached: not permitted")
     ends([program, "log", "--log", closed / "a.log", "--name", "a", "--cluster", "c"], 18, "the log cannot be opened")
+    of_log = lambda path: [program, "log", "--log", path, "--name", "a", "--cluster", "c"]
+    place, second = folder / "place", folder / "second.log"
+    place.mkdir()
+    (place / "a.log").touch()
+    os.chmod(place / "a.log", 0o666)
+    os.chmod(place, 0o555)
+    ends(of_log(place), 18, "the path of the log is not that of a file")
+    ends(of_log(place / "a.log"), 18, "a file of the log cannot be made")
+    os.chmod(place / "a.log", 0o444)
+    ends(of_log(place / "a.log"), 18, "the file of the log cannot be written: not permitted")
+    os.chmod(place, 0o755)
+    second.touch()
+    os.chmod(second, 0o666)
+    os.link(second, folder / "first.log")
+    ends(of_log(second), 18, "the file of the log has a second name")
     os.chmod(folder, 0o777)
     node.sock = closed / "a.sock"
     ends(node.words(), 16, "a socket could not be made: not permitted")

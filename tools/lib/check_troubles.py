@@ -84,10 +84,19 @@ def full_disks_at_a_start(check):
         node.kill()
 
 
+def replaces(path, content):
+    """Puts another file at a path in one step: a node that looks in between would find it removed. The first one is kept beside it."""
+    os.link(path, path.with_name("moved"))
+    path.with_name("other").write_bytes(content)
+    path.with_name("other").replace(path)
+
+
 def lost_logs(check):
     """A node whose log is removed, replaced or emptied says so once, and takes no more writes, or ends."""
     for cause, lose in (
         ("removed", lambda log: log.unlink()),
+        ("replaced", lambda log: replaces(log, log.read_bytes())),
+        ("replaced", lambda log: replaces(log, b"another file\n")),
         ("replaced", lambda log: (log.unlink(), log.touch())),
         ("replaced", lambda log: log.write_bytes(b"")),
     ):
@@ -103,6 +112,8 @@ def lost_logs(check):
         front = f"attrdir: error log {node.log}: fault 18: its file was {cause}; no more writes are taken: "
         awaits_line(node, front + "put the file back, or see RUNBOOK, A removed log; then start the node again")
         want("its rows", node.get(), ["a k 1 weight 5"])
+        status, printed, _ = node.command("status")
+        want("its status", (status, [it for it in printed.splitlines() if it.startswith("log_fault")]), (1, [f"log_fault {cause}"]))
         promtool_takes(check, path)
         node.kill()
         node = check.node("a", "--pause", "50", "--on-log-fault", "exit").start()
@@ -111,6 +122,42 @@ def lost_logs(check):
         status, printed, said = node.ended()
         want(f"its end by a log that is {cause}", (status, printed, said[-3]), (3, "", "fault 18"))
         want("its sockets", (node.sock.exists(), node.control.exists()), (False, False))
+
+
+def copies_with_number(source, target):
+    """Copies a file to another disk, as a file that has the same number there. Whether that could be done."""
+    for _ in range(100):
+        target.write_bytes(source.read_bytes())
+        if target.stat().st_ino == source.stat().st_ino:
+            return True
+        target.unlink()
+    return False
+
+
+def logs_on_other_disks(check):
+    """Another disk takes the place of that of a log, with copies of both files that have the same numbers there. The node says that its log was
+    replaced, and takes no more writes."""
+    folder = check.folder()
+    with disk_in(folder / "first") as first, disk_in(folder / "second") as second:
+        if not (isinstance(first, SmallDisk) and isinstance(second, SmallDisk)):
+            check.lacking.add("a disk can be mounted, so no other one took the place of that of a log")
+            return
+        link, other = folder / "disk", folder / "other"
+        link.symlink_to("first")
+        other.symlink_to("second")
+        node = check.node("a", "--pause", "50", folder=folder)
+        node.log = link / "a.log"
+        node.log.touch()
+        node.start()
+        want("a write", node.put("k", 5), 1)
+        if not all(copies_with_number(first.folder / it, second.folder / it) for it in ("a.log", "a.log-wal")):
+            check.lacking.add("two disks give their files the same numbers, so no such file took the place of a log")
+            return
+        other.replace(link)
+        refuses_a_write(node, 15)
+        front = f"attrdir: error log {node.log}: fault 18: its file was replaced; no more writes are taken: "
+        awaits_line(node, front + "put the file back, or see RUNBOOK, A removed log; then start the node again")
+        node.kill()
 
 
 def wal_of(node):
@@ -136,13 +183,6 @@ def is_shown(node, answered):
 def lost_wals(check):
     """A node whose -wal is removed, moved, replaced, emptied or cut says so within two seconds, and refuses writes from then on. It shows each write
     that it answered until then. If the -wal was only moved, and is put back, a start finds each of them."""
-
-    def replaces(wal, content):
-        # (in one step: a node that looks in between would find it removed)
-        os.link(wal, wal.with_name("moved"))
-        wal.with_name("other").write_bytes(content)
-        wal.with_name("other").replace(wal)
-
     for cause, lose in (
         ("removed", lambda wal: wal.unlink()),
         ("removed", lambda wal: wal.rename(wal.with_name("moved"))),
@@ -306,4 +346,4 @@ def callers_turned_away(check):
     awaits(path, "a", {("attrdir_turned_away_total",): 1})
 
 
-PARTS = (full_disks_at_a_start, lost_logs, lost_wals, quiet_wals, whole_wals, faults_of_sessions, busy_workers, callers_turned_away)
+PARTS = (full_disks_at_a_start, lost_logs, logs_on_other_disks, lost_wals, quiet_wals, whole_wals, faults_of_sessions, busy_workers, callers_turned_away)
