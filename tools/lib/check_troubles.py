@@ -241,11 +241,17 @@ def quiet_wals(check):
 
 def whole_wals(check):
     """A node whose -wal was copied into its log several times, and written from its front again, says nothing of its log. So too one whose log is a
-    link, and one whose folder is renamed, with a log that is named from there."""
+    link, and one whose folder is renamed again and again while it writes, with a log that is named from there."""
 
     def says_nothing(node):
         want("what it says of its log", [it for it in node.lines() if "fault 18" in it], [])
         node.kill()
+
+    def renames(place):
+        # (no name comes twice, so that a look in between finds nothing at an earlier one)
+        for at in range(5000 if check.is_long else 500):
+            place = place.rename(place.with_name(f"renamed{at}"))
+            time.sleep(0.001)
 
     folder = check.folder()
     path = folder / "a.prom"
@@ -259,7 +265,7 @@ def whole_wals(check):
     says_nothing(node)
     folder = check.folder()
     (folder / "inner").mkdir()
-    node = check.node("a", "--pause", "50", folder=folder)
+    node = check.node("a", "--pause", "1", folder=folder)
     node.log.rename(folder / "inner/a.log")
     node.log.symlink_to(folder / "inner/a.log")
     node.start()
@@ -269,9 +275,12 @@ def whole_wals(check):
     node.log.unlink()
     node.how["cwd"], node.log = str(folder / "inner"), Path("a.log")
     node.start()
-    (folder / "inner").rename(folder / "renamed")
-    time.sleep(0.5)
-    want("a later write", node.put("k", 6), 6)
+    renaming = threading.Thread(target=renames, args=(folder / "inner",))
+    renaming.start()
+    version = 5
+    while renaming.is_alive():
+        version += 1
+        want("a write while the folder is renamed", node.put("k", version), version)
     says_nothing(node)
 
 

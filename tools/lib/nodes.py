@@ -255,7 +255,11 @@ class Node:
         return self.ran.returncode, printed, self.lines()
 
     def put(self, key, value):
-        return version_of(exchange(self.control, put(key, weight(value))))
+        """Writes a weight: its version. If it is refused, the difference has the last lines of the node."""
+        try:
+            return version_of(exchange(self.control, put(key, weight(value))))
+        except Difference as difference:
+            raise Difference(f"{difference}, after the lines {self.lines()[-2:]}") from None
 
     def last(self):
         """The last version of its log, while it does not run; 0 where that can't be read."""

@@ -21,15 +21,28 @@ impl FileNumbers {
     }
 }
 
+/// Looks at the `-wal` beside the log at a path without links. None without memory.
+fn look_beside(rt: &HostRuntime, real: &str) -> Option<io::Result<Metadata>> {
+    let Ok(wal) = format!(in rt.alloc(); "{real}-wal") else {
+        return None;
+    };
+    Some(metadata(rt, wal.as_str()))
+}
+
 /// Looks at the `-wal` of a log, which is beside the file to which a link leads. None if that cannot be seen.
 fn look_at_wal(rt: &HostRuntime, path: &str) -> Option<io::Result<Metadata>> {
     let Ok(real) = canonicalize(rt, path) else {
         return None;
     };
-    let Ok(wal) = format!(in rt.alloc(); "{}-wal", real.as_str()) else {
-        return None;
-    };
-    Some(metadata(rt, wal.as_str()))
+    look_beside(rt, real.as_str())
+}
+
+/// Whether a path leads to this one, which has no links.
+fn leads_to(rt: &HostRuntime, path: &str, real: &str) -> bool {
+    match canonicalize(rt, path) {
+        Ok(found) => found.as_str() == real,
+        Err(_) => false,
+    }
 }
 
 /// How a file was lost, by the error of a look at it. None if the error does not show that.
@@ -91,14 +104,19 @@ impl<'a> LogWatch<'a> {
         let opened = self.opened_wal?;
         // It is read before the look, since another thread may look at a longer one meanwhile.
         let length = self.wal_length.load(Ordering::SeqCst);
-        let loss = match look_at_wal(rt, self.path)? {
+        let Ok(real) = canonicalize(rt, self.path) else {
+            return None;
+        };
+        let loss = match look_beside(rt, real.as_str())? {
             Ok(found) => self.compare_wal(&found, opened, length),
             Err(error) => loss_by(&error),
-        };
-        if loss.is_some() {
-            self.has_lost_wal.store(true, Ordering::SeqCst);
+        }?;
+        // If a folder was renamed meanwhile, the look was at the wrong place.
+        if !leads_to(rt, self.path, real.as_str()) {
+            return None;
         }
-        loss
+        self.has_lost_wal.store(true, Ordering::SeqCst);
+        Some(loss)
     }
 
     /// How the `-wal` was lost, by what is at its path. None if it is there, and then its length is kept for the next look.
