@@ -250,8 +250,9 @@ def whole_wals(check):
     def renames(place):
         # (no name comes twice, so that a look in between finds nothing at an earlier one)
         for at in range(5000 if check.is_long else 500):
+            if ended.wait(0.001):
+                return
             place = place.rename(place.with_name(f"renamed{at}"))
-            time.sleep(0.001)
 
     folder = check.folder()
     path = folder / "a.prom"
@@ -275,12 +276,17 @@ def whole_wals(check):
     node.log.unlink()
     node.how["cwd"], node.log = str(folder / "inner"), Path("a.log")
     node.start()
+    ended = threading.Event()
     renaming = threading.Thread(target=renames, args=(folder / "inner",))
     renaming.start()
     version = 5
-    while renaming.is_alive():
-        version += 1
-        want("a write while the folder is renamed", node.put("k", version), version)
+    try:
+        while renaming.is_alive():
+            version += 1
+            want("a write while the folder is renamed", node.put("k", version), version)
+    finally:
+        ended.set()
+        renaming.join()
     says_nothing(node)
 
 
