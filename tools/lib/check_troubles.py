@@ -165,13 +165,16 @@ def wal_of(node):
     return node.log.with_name(node.log.name + "-wal")
 
 
-def writes_until_refused(node, answered):
-    """Writes one key after another, and notes the version of each that was answered, until the node refuses one."""
+def writes_until_refused(node, answered, writing):
+    """Writes one key after another, each under a lock, and notes the version of each that was answered, until the node refuses one."""
     while True:
-        answer = exchange(node.control, put(f"k{len(answered) % 50:02}", weight(len(answered))))
+        with writing:
+            answer = exchange(node.control, put(f"k{len(answered) % 50:02}", weight(len(answered))))
         if answer is None or answer[0] != DONE:
             return
         answered.append(int.from_bytes(answer[1], "big"))
+        # (another one that waits for the lock gets it)
+        time.sleep(0.001)
 
 
 def is_shown(node, answered):
@@ -183,19 +186,34 @@ def is_shown(node, answered):
 def lost_wals(check):
     """A node whose -wal is removed, moved, replaced, emptied or cut says so within two seconds, and refuses writes from then on. It shows each write
     that it answered until then. If the -wal was only moved, and is put back, a start finds each of them."""
+    writing = threading.Lock()
+
+    def cut(wal):
+        # (not beside a write, which may make it longer again)
+        with writing:
+            os.truncate(wal, 5000)
+
+    def blank(wal):
+        """Leaves zeros, and more than there were bytes: so it is if a write that grows the file comes right after it was emptied."""
+        with writing:
+            length = wal.stat().st_size
+            os.truncate(wal, 0)
+            os.truncate(wal, length + 300_000)
+
     for cause, lose in (
         ("removed", lambda wal: wal.unlink()),
         ("removed", lambda wal: wal.rename(wal.with_name("moved"))),
         ("replaced", lambda wal: replaces(wal, b"")),
         ("replaced", lambda wal: replaces(wal, wal.read_bytes())),
         ("replaced", lambda wal: wal.write_bytes(b"")),
-        ("replaced", lambda wal: os.truncate(wal, 5000)),
+        ("replaced", blank),
+        ("replaced", cut),
     ):
         folder = check.folder()
         path = folder / "a.prom"
         node = check.node("a", "--pause", "50", "--metrics", str(path), folder=folder).start()
         answered, wal = [], wal_of(node)
-        writer = threading.Thread(target=writes_until_refused, args=(node, answered), daemon=True)
+        writer = threading.Thread(target=writes_until_refused, args=(node, answered, writing), daemon=True)
         writer.start()
         time.sleep(0.3)
         lose(wal)

@@ -1,7 +1,7 @@
 //! Looks whether the two files of a log are still at their paths while the node runs.
 use sb_control::LogLoss;
-use std::fs::{Metadata, canonicalize, metadata};
-use std::io::{self, ErrorKind};
+use std::fs::{Metadata, canonicalize, metadata, open};
+use std::io::{self, ErrorKind, Read};
 use std::os::unix::fs::MetadataExt;
 use std::sync::atomic::{AtomicBool, AtomicU64, Ordering};
 
@@ -21,27 +21,26 @@ impl FileNumbers {
     }
 }
 
-/// Looks at the `-wal` beside the log at a path without links. None without memory.
-fn look_beside(rt: &HostRuntime, real: &str) -> Option<io::Result<Metadata>> {
-    let Ok(wal) = format!(in rt.alloc(); "{real}-wal") else {
-        return None;
-    };
-    Some(metadata(rt, wal.as_str()))
-}
-
-/// Looks at the `-wal` of a log, which is beside the file to which a link leads. None if that cannot be seen.
-fn look_at_wal(rt: &HostRuntime, path: &str) -> Option<io::Result<Metadata>> {
+/// The path of the `-wal` of a log, which is beside the file to which a link leads. None if that cannot be seen.
+fn wal_of(rt: &HostRuntime, path: &str) -> Option<String> {
     let Ok(real) = canonicalize(rt, path) else {
         return None;
     };
-    look_beside(rt, real.as_str())
+    match format!(in rt.alloc(); "{}-wal", real.as_str()) {
+        Ok(wal) => Some(wal),
+        Err(_) => None,
+    }
 }
 
-/// Whether a path leads to this one, which has no links.
-fn leads_to(rt: &HostRuntime, path: &str, real: &str) -> bool {
-    match canonicalize(rt, path) {
-        Ok(found) => found.as_str() == real,
-        Err(_) => false,
+/// The first bytes of a file. None if it has fewer, or cannot be read.
+fn front_of(rt: &HostRuntime, path: &str) -> Option<[u8; 4]> {
+    let Ok(mut file) = open(rt, path) else {
+        return None;
+    };
+    let mut front = [0u8; 4];
+    match file.read(&mut front) {
+        Ok(4) => Some(front),
+        _ => None,
     }
 }
 
@@ -63,6 +62,8 @@ pub(crate) struct LogWatch<'a> {
     opened_wal: Option<FileNumbers>,
     /// How many bytes the `-wal` had at the last look. An open log never makes it shorter, and makes no other one.
     wal_length: AtomicU64,
+    /// Whether a look found that the `-wal` begins with other bytes than zeros. An open log never makes all of the first four zeros again.
+    has_front: AtomicBool,
     /// Whether the `-wal` was found lost.
     has_lost_wal: AtomicBool,
 }
@@ -70,9 +71,13 @@ pub(crate) struct LogWatch<'a> {
 impl<'a> LogWatch<'a> {
     /// Watches the files that are at a path and beside it now.
     pub(crate) fn new(rt: &HostRuntime, path: &'a str) -> LogWatch<'a> {
-        let (opened_wal, length) = match look_at_wal(rt, path) {
-            Some(Ok(found)) => (Some(FileNumbers::of(&found)), found.len()),
-            _ => (None, 0),
+        let found_wal = match wal_of(rt, path) {
+            Some(wal) => metadata(rt, wal.as_str()).ok(),
+            None => None,
+        };
+        let (opened_wal, length) = match found_wal {
+            Some(found) => (Some(FileNumbers::of(&found)), found.len()),
+            None => (None, 0),
         };
         LogWatch {
             path,
@@ -82,6 +87,7 @@ impl<'a> LogWatch<'a> {
             },
             opened_wal,
             wal_length: AtomicU64::new(length),
+            has_front: AtomicBool::new(false),
             has_lost_wal: AtomicBool::new(false),
         }
     }
@@ -104,28 +110,38 @@ impl<'a> LogWatch<'a> {
         let opened = self.opened_wal?;
         // It is read before the look, since another thread may look at a longer one meanwhile.
         let length = self.wal_length.load(Ordering::SeqCst);
-        let Ok(real) = canonicalize(rt, self.path) else {
-            return None;
-        };
-        let loss = match look_beside(rt, real.as_str())? {
-            Ok(found) => self.compare_wal(&found, opened, length),
+        let wal = wal_of(rt, self.path)?;
+        let found = match metadata(rt, wal.as_str()) {
+            Ok(found) if FileNumbers::of(&found) != opened || found.len() < length => {
+                Some(LogLoss::Replaced)
+            }
+            Ok(found) => {
+                self.wal_length.store(found.len(), Ordering::SeqCst);
+                self.loss_by_front(front_of(rt, wal.as_str())?)
+            }
             Err(error) => loss_by(&error),
-        }?;
+        };
+        let loss = found?;
         // If a folder was renamed meanwhile, the look was at the wrong place.
-        if !leads_to(rt, self.path, real.as_str()) {
+        if wal_of(rt, self.path)? != wal {
             return None;
         }
         self.has_lost_wal.store(true, Ordering::SeqCst);
         Some(loss)
     }
 
-    /// How the `-wal` was lost, by what is at its path. None if it is there, and then its length is kept for the next look.
-    fn compare_wal(&self, found: &Metadata, opened: FileNumbers, length: u64) -> Option<LogLoss> {
-        if FileNumbers::of(found) != opened || found.len() < length {
-            return Some(LogLoss::Replaced);
+    /// How the `-wal` was lost, by its first bytes. It was emptied if all are zeros now, and were not before: the log wrote behind them
+    /// since.
+    fn loss_by_front(&self, front: [u8; 4]) -> Option<LogLoss> {
+        if front != [0u8; 4] {
+            self.has_front.store(true, Ordering::SeqCst);
+            return None;
         }
-        self.wal_length.store(found.len(), Ordering::SeqCst);
-        None
+        if self.has_front.load(Ordering::SeqCst) {
+            Some(LogLoss::Replaced)
+        } else {
+            None
+        }
     }
 
     /// What the path of the lost file adds to that of the log.
