@@ -130,7 +130,7 @@ impl<'a> LogWatch<'a> {
         Some(loss)
     }
 
-    /// How the `-wal` was lost, by its first bytes. It was emptied if all are zeros now, and were not before: the log wrote behind them
+    /// How the `-wal` was lost, by its first bytes. If all are zeros now, and were not before, it was emptied, and a write made it longer
     /// since.
     fn loss_by_front(&self, front: [u8; 4]) -> Option<LogLoss> {
         if front != [0u8; 4] {
