@@ -7,6 +7,7 @@ import os
 import re
 import signal
 import socket
+import sys
 import time
 
 ASK, PUT, REFUSED, ASK_STATUS = 0x10, 0x12, 0x14, 0x15  # a request is answered by the kind after its own, or by REFUSED
@@ -144,11 +145,12 @@ class Node:
             after = more and part(row["owner"], *NAME) + part(row["key"], *KEY)
         return [row for row in rows if key in (None, row["key"])]
 
-    def watch(self, owner=None, prefix="", key=None, pause=0.2):
-        """Yields ("set", row) for each new or changed row, and ("gone", row) for each that is gone, without end."""
-        kept, start = Kept(), None
+    def watch(self, owner=None, prefix="", key=None, pause=0.2, tell=lambda fault: None):
+        """Yields ("set", row) for each new or changed row, and ("gone", row) for each that is gone, without end. If the node does not answer, it calls
+        tell with the fault, and with None once the node answers again."""
+        kept, start, is_away = Kept(), None, False
         while True:
-            changes = []
+            changes, met = [], None
             try:
                 before = self._start()
                 rows = {(row["owner"], row["key"]): row for row in self.get(owner, prefix, key)}
@@ -159,6 +161,10 @@ class Node:
             except (Fault, OSError) as fault:
                 if getattr(fault, "number", 16) not in (1, 15, 16, 28):
                     raise
+                met = fault
+            if is_away != (met is not None):
+                tell(met)
+            is_away = met is not None
             yield from changes
             time.sleep(pause)
 
@@ -208,6 +214,12 @@ def show(item):
         signal.raise_signal(signal.SIGPIPE)
 
 
+def tell(program, path, fault):
+    """Prints on standard error that the node does not answer, or that it answers again."""
+    what = f"warning {path}: does not answer: {getattr(fault, 'strerror', None) or fault}" if fault else f"info {path}: answers"
+    print(f"{program}: {what}", file=sys.stderr, flush=True)
+
+
 def main():
     """Runs one command, and prints what it answers as lines of JSON."""
     parser, filters = argparse.ArgumentParser(description=__doc__), ["--owner", "--prefix", "--key"]
@@ -222,6 +234,8 @@ def main():
     if given.get("kind") in ("weight", "flag") and re.fullmatch("0|[1-9][0-9]*|true|false", given["value"]):
         given["value"] = json.loads(given["value"])
     try:
+        if command == "watch":
+            given["tell"] = lambda fault: tell(parser.prog, node.path, fault)
         answer = getattr(node, "delete" if command == "del" else command)(**given)
         for item in answer if command in ("get", "watch") else [answer]:
             show(item)

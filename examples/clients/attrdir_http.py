@@ -6,6 +6,7 @@ import json
 import re
 import signal
 import socket
+import sys
 import time
 from urllib.parse import urlencode
 
@@ -85,9 +86,10 @@ class Node:
         """Returns a list of rows from all pages. A row is a dict, as `attrdir get --format json` prints it."""
         return list(self._rows({"owner": owner, "prefix": prefix})[0].values())
 
-    def watch(self, owner=None, prefix=""):
-        """Yields ("set", row) for each new or changed row, and ("gone", row) for each that is gone, without end."""
-        kept, run, seen, wait = Kept(), None, None, "30s"
+    def watch(self, owner=None, prefix="", tell=lambda fault: None):
+        """Yields ("set", row) for each new or changed row, and ("gone", row) for each that is gone, without end. If the node does not answer, it calls
+        tell with the fault, and with None once the node answers again."""
+        kept, run, seen, wait, is_away = Kept(), None, None, "30s", False
         while True:
             try:
                 rows, mark = self._rows({"owner": owner, "prefix": prefix}, wait=wait, seen=seen)
@@ -95,8 +97,14 @@ class Node:
             except (Fault, OSError) as fault:
                 if getattr(fault, "status", 503) != 503:
                     raise
+                if not is_away:
+                    tell(fault)
+                is_away = True
                 time.sleep(1)  # the node does not run, or others wait in all its places
                 continue
+            if is_away:
+                tell(None)
+            is_away = False
             if found == run:
                 yield from kept.take(rows)
                 seen, wait = mark, "30s" if rows == kept.rows else "10s"  # a later asking may show that a row is gone
@@ -153,6 +161,12 @@ def show(item):
         signal.raise_signal(signal.SIGPIPE)
 
 
+def tell(program, address, fault):
+    """Prints on standard error that the node does not answer, or that it answers again."""
+    what = f"warning {address}: does not answer: {getattr(fault, 'strerror', None) or fault}" if fault else f"info {address}: answers"
+    print(f"{program}: {what}", file=sys.stderr, flush=True)
+
+
 def main():
     parser, filters = argparse.ArgumentParser(description=__doc__), ["--owner", "--prefix"]
     parser.add_argument("--http", required=True, metavar="ADDRESS", help="what the option --http of the node has")
@@ -169,11 +183,15 @@ def main():
     if given.get("kind") in ("weight", "flag") and re.fullmatch("0|[1-9][0-9]*|true|false", given["value"]):
         given["value"] = json.loads(given["value"])
     try:
+        if command == "watch":
+            given["tell"] = lambda fault: tell(parser.prog, node.address, fault)
         answer = getattr(node, "delete" if command == "del" else command)(**given)
         for item in answer if command in ("get", "watch") else [answer]:
             show(item)
-    except (Fault, OSError) as fault:
+    except Fault as fault:
         parser.exit(3, f"{fault}\n")
+    except OSError as error:
+        parser.exit(3, f"{node.address}: {error.strerror or error}\n")
     except KeyboardInterrupt:
         parser.exit(130)
 

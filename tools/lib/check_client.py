@@ -170,11 +170,19 @@ def client_watches(check):
     watch.awaits(("set", "a", "own", 1, 1), ("set", "p", "x", 1, 10), ("set", "p", "y", 2, 20), ("set", "p", "z", 3, 30))
     asked.set("own", "weight", 2)
     watch.awaits(("set", "a", "own", 2, 2))
-    node.kill()
-    want("a node that ended", fault_of(asked.get)[0], 16)
-    node.start()
-    asked.set("own", "weight", 3)
-    watch.awaits(("set", "a", "own", 3, 3))
+    printing = ClientWatching(sys.executable, CLIENT, "--control", node.control, "watch", "--prefix", "own")
+    line = '["set",{{"key":"own","kind":"weight","owner":"a","value":{0},"version":{0}}}]'
+    try:
+        printing.awaits([line.format(2)])
+        node.kill()
+        want("a node that ended", fault_of(asked.get)[0], 16)
+        node.start()
+        asked.set("own", "weight", 3)
+        watch.awaits(("set", "a", "own", 3, 3))
+        printing.awaits([line.format(3)])
+    finally:
+        printing.stop()
+    says_it_was_away(printing, "attrdir.py", node.control)
     want("that p is not known", asked.get("p"), [])
     # y was removed meanwhile, and a later row of p shows that the node knows
     tell(node, "p", 0, ("x", 1, 10), ("z", 3, 30), ("v", 5, 50))
@@ -375,7 +383,7 @@ def client_alone(check):
         kept += [ast.dump(it) for it in tree.body if getattr(it, "name", None) == "Kept"]
         imports = [alias.name for it in ast.walk(tree) if isinstance(it, ast.Import) for alias in it.names]
         imports += [it.module for it in ast.walk(tree) if isinstance(it, ast.ImportFrom)]
-        there = set("argparse http.client io json os re signal socket struct time typing collections urllib.parse".split())
+        there = set("argparse http.client io json os re signal socket struct sys time typing collections urllib.parse".split())
         want(f"what {path.name} imports", sorted(set(imports) - there), [])
     want("how both keep rows", kept, 2 * kept[:1])
 
@@ -421,8 +429,14 @@ def http_answer(content, length=None):
     return b"HTTP/1.1 200 OK\r\nContent-Length: %d\r\n\r\n%s" % (len(body) if length is None else length, body)
 
 
-class WatchingByHttp(Watching):
-    """A client over HTTP that watches."""
+def says_it_was_away(watching, program, address):
+    """A client in Python that has ended said once that the node did not answer, and once that it answered again."""
+    said, away = watching.ran.stderr.read().splitlines(), f"{program}: warning {address}: does not answer: "
+    want(f"what {program} says", [said[0][: len(away)] if said else "", *said[1:]], [away, f"{program}: info {address}: answers"])
+
+
+class ClientWatching(Watching):
+    """A client that watches."""
 
     def __init__(self, *words, **how):
         self.start(list(map(str, words)), start_new_session=True, **how)
@@ -528,8 +542,8 @@ def http_client_watches(check):
     for at in range(30):
         node.put(f"w/z{at:02}", at)
     first = [row("a", "w/k", 1, 5), *(row("a", f"w/z{at:02}", at + 3, at) for at in range(30))]
-    shell = WatchingByHttp("sh", SHELL_CLIENT, folder / "a.http", "watch", "w/", env={**os.environ, "TMPDIR": str(folder / "tmp")})
-    python = WatchingByHttp(sys.executable, HTTP_CLIENT, "--http", folder / "a.http", "watch", "--prefix", "w/")
+    shell = ClientWatching("sh", SHELL_CLIENT, folder / "a.http", "watch", "w/", env={**os.environ, "TMPDIR": str(folder / "tmp")})
+    python = ClientWatching(sys.executable, HTTP_CLIENT, "--http", folder / "a.http", "watch", "--prefix", "w/")
 
     def print_both(gone, came):
         """The row that a write replaced or removed, and the one that it made."""
@@ -555,6 +569,7 @@ def http_client_watches(check):
     front, said = f"attrdir_http.sh: {{}} {folder / 'a.http'}: {{}}", [it for it in shell.ran.stderr.read().splitlines() if it != "Terminated"]
     away = front.format("warning", "does not answer: curl: (")
     want("what the shell says", [said[0][: len(away)], *said[1:]], [away, front.format("info", "answers")])
+    says_it_was_away(python, "attrdir_http.py", folder / "a.http")
     want("what the shell leaves", list((folder / "tmp").iterdir()), [])
 
 
