@@ -1,14 +1,13 @@
 """A part of tools/check-node: what a careful watch shows. It runs `attrdir watch` with --hold, --floor, --settle, --listings and --render against
 nodes that run, and compares lines and files with what was written and removed meanwhile."""
 import json
-import select
 import subprocess
 import threading
 import time
 
 from check_waking import Swallower
 from check_watch import Watching
-from nodes import ROOT, SECONDS, Difference, want
+from nodes import ROOT, SECONDS, Difference, until, want
 
 EXAMPLE = ROOT / "examples" / "balancer"
 # the rows of two owners, as `attrdir set -` takes them
@@ -117,7 +116,7 @@ def file_replaced(check):
     node.put("web/x", 0)
     watch = Watching(node, "--render", str(template), "--to", str(path), "--every", "5")
     try:
-        select.select([watch.ran.stderr], [], [], SECONDS)
+        watch.awaits_said("cannot be written")
         want("a file without a folder", (path.exists(), watch.lines), (False, []))
         path.parent.mkdir()
         watch.awaits(["written 1"])
@@ -133,6 +132,7 @@ def file_replaced(check):
         for at in range(1, 21):
             node.put("web/x", at)
             watch.awaits(["written 1"])
+        until("a look at the file", lambda: found)
         stop.set()
         reader.join()
         want("what a reader found", set(found), {(5002, 1)})
@@ -143,7 +143,7 @@ def file_replaced(check):
         watch.awaits(["written 2"])
         want("the file", path.read_text().splitlines()[-1], "last 21")
         node.kill()
-        time.sleep(0.2)
+        watch.awaits_said("does not answer")
         want("that it goes on", watch.ran.poll(), None)
     finally:
         watch.stop()
@@ -163,7 +163,7 @@ def listings(check):
         watch.awaits(["[" + ",".join(node.get("--prefix", "web/", "--format", "json")) + "]"])
         for line in SERVERS["b"]:
             node.command("del", line.split()[0])
-        time.sleep(0.2)
+        watch.awaits_last("[" + ",".join(node.get("--prefix", "web/", "--format", "json")) + "]")
     finally:
         watch.stop()
     rows = [json.loads(it) for it in watch.ended()[1]]
@@ -253,12 +253,17 @@ def not_caught_up(check):
     """Nothing is shown before the node is caught up, and that is said."""
     folder = check.folder()
     silent = Swallower(folder / "silent.sock")
-    node = check.node("a", "--dial-idle", "6000", folder=folder, peers=[folder / "silent.sock"]).start()
+    # (it waits for the silent peer until that ends the connection)
+    node = check.node("a", "--dial-idle", "600000", folder=folder, peers=[folder / "silent.sock"]).start()
     node.put("k", 1)
     want("a watch that is not careful", node.command("watch", "--retry", "--count", "1"), (0, "set a k 1 weight 1\n", ""))
     watch = Watching(node, "--listings", "--every", "10", "--count", "1")
+    watch.awaits_said("not caught up yet")
     time.sleep(0.3)
     want("nothing before the node is caught up", watch.lines, [])
+    until("the first dial of the silent peer", lambda: silent.streams)
+    for stream in silent.streams:
+        stream.close()
     status, lines, said = watch.ended()
     want("the end", (status, lines), (0, ["[" + node.get("--format", "json")[0] + "]"]))
     front = f"attrdir: info control socket {node.control}: the node is "
@@ -295,11 +300,14 @@ def upgrade_in_part(check):
         for name in ("w3", "w4"):
             nodes[name].start()
         hub.awaits("four rows", lambda rows: len(rows) == 4)
-        # (the watch has to see the row before it can be gone)
-        time.sleep(0.3)
+        # (the watch has to see the row of w4 before it can be gone; it has, once it shows a later change of another)
+        want("w3 moves", nodes["w3"].command("set", "web/addr", "addr", "10.0.0.8:80")[0], 0)
+        watch.awaits(["written 4"])
+        moved = whole.replace("0.1:", "0.9:").replace("0.3:", "0.8:")
+        want("the map after that change", path.read_text(), moved)
         want("w4 goes", nodes["w4"].command("del", "web/addr")[0], 0)
         watch.awaits(["written 3"])
-        want("the map without w4", path.read_text(), whole.replace("0.1:", "0.9:")[: -len("w4 10.0.0.4:80\n")])
+        want("the map without w4", path.read_text(), moved[: -len("w4 10.0.0.4:80\n")])
     finally:
         watch.stop()
 
@@ -319,8 +327,7 @@ def command_after(check):
         watch.awaits(["written 1"])
         after.stdin.write("written 1\n")
         after.stdin.flush()
-        time.sleep(1.5)
-        want("what ran", done.read_text(), "a 1\na 1\n")
+        until("the second run", lambda: done.exists() and done.read_text() == "a 1\na 1\n")
         node.put("k", 2)
         watch.awaits(["written 1"])
         _, said = after.communicate("written 1\n", timeout=SECONDS)

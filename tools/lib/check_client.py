@@ -566,7 +566,7 @@ def http_client_watches(check):
         print_both([row("a", "w/k", 33, 7)], [row("a", "w/k", 35, 9)])
     finally:
         shell.stop(), python.stop()
-    front, said = f"attrdir_http.sh: {{}} {folder / 'a.http'}: {{}}", [it for it in shell.ran.stderr.read().splitlines() if it != "Terminated"]
+    front, said = f"attrdir_http.sh: {{}} {folder / 'a.http'}: {{}}", [it for it in shell.all_said() if it != "Terminated"]
     away = front.format("warning", "does not answer: curl: (")
     want("what the shell says", [said[0][: len(away)], *said[1:]], [away, front.format("info", "answers")])
     says_it_was_away(python, "attrdir_http.py", folder / "a.http")

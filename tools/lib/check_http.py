@@ -12,7 +12,7 @@ import threading
 import time
 
 import check_metrics
-from nodes import ROOT, SECONDS, Difference, connect, run, want
+from nodes import ROOT, SECONDS, Difference, connect, run, send_in_pieces, until, want
 
 # the fields that each answer has, in their order, before the length of its body
 FIELDS = [("connection", "close"), ("cache-control", "no-store"), ("x-content-type-options", "nosniff"), ("content-type", "application/json")]
@@ -63,10 +63,7 @@ class Asked:
             stream.sendall(content)
             if ends:
                 stream.shutdown(socket.SHUT_WR)
-            got = b""
-            while piece := stream.recv(65536):
-                got += piece
-        return parsed(got)
+            return parsed(read_all(stream))
 
     def json(self, path, *words):
         """The status and the object of an answer."""
@@ -85,6 +82,11 @@ class Asked:
             if not found["more"]:
                 return rows
             after = f"&after={found['rows'][-1]['owner']}/{found['rows'][-1]['key']}"
+
+
+def read_all(stream):
+    """What comes up to the end of a connection."""
+    return b"".join(iter(lambda: stream.recv(65536), b""))
 
 
 def parsed(answer):
@@ -180,10 +182,14 @@ def put(place, key, kind, value, *words):
     return place.json(f"/v1/keys/{key}", "-X", "PUT", "-d", json.dumps({"kind": kind, "value": value}), *words)
 
 
+def bytes_of_put(key, weight):
+    body = json.dumps({"kind": "weight", "value": weight})
+    return f"PUT /v1/keys/{key} HTTP/1.1\r\nHost: x\r\nContent-Length: {len(body)}\r\n\r\n{body}".encode()
+
+
 def put_by_bytes(place, key, weight):
     """The status and the object of the answer to a PUT of a weight, without a process of its own."""
-    body = json.dumps({"kind": "weight", "value": weight})
-    status, _, found = place.bytes(f"PUT /v1/keys/{key} HTTP/1.1\r\nHost: x\r\nContent-Length: {len(body)}\r\n\r\n{body}".encode())
+    status, _, found = place.bytes(bytes_of_put(key, weight))
     return status, json.loads(found)
 
 
@@ -258,17 +264,19 @@ def http_first_writes(check):
         while len(answers) < 2 and time.monotonic() < end:
             time.sleep(0.01)
         want("who was turned away before the others were answered", answers[:2], 2 * [(503, {"error": SPENT, "fault": 29})])
-        want("an answer beside those that wait", place.curl("/v1/owners")[2], b'{"owners":[]}\n')
+        found = place.curl("/v1/owners")[2]
+        # (on a slow machine their time may be over by then)
+        want("an answer beside those that wait", found == b'{"owners":[]}\n' or len(answers) > 2, True)
         for it in callers:
             it.join()
         want("the writes that waited", sorted((status, found.get("version")) for status, found in answers[2:]), [(200, version) for version in range(1, 8)])
         node, place = node_at(check, "c", folder / "c.http", "--dial-idle", "60000", "--pause", "200", "--rounds", "1", folder=folder, peers=[folder / "b.sock"])
-        answers.clear()
-        caller = threading.Thread(target=lambda: answers.append(put_by_bytes(place, "k", 1)))
-        caller.start()
-        time.sleep(0.3)
-    caller.join()
-    want("a PUT at the end of its node", [(status, found.get("fault")) in ((503, 15), (200, None)) for status, found in answers], [True])
+        stream = place.connect()
+        # (the node has read all of it before it may end)
+        send_in_pieces(stream, bytes_of_put("k", 1), 64)
+    with stream:
+        status, _, found = parsed(read_all(stream))
+    want("a PUT at the end of its node", (status, json.loads(found).get("fault")) in ((503, 15), (200, None)), True)
     want("the end of that node", node.ended()[0], 0)
 
 
@@ -377,13 +385,15 @@ def http_polls(check):
     (status, page), took = poll(first["seen"], 2)
     want("a poll beside another write", (status, page, 1.9 < took < 4), (200, first, True))
     found = []
-    callers = [threading.Thread(target=lambda: found.append(poll(first["seen"], 3))) for _ in range(6)]
+    callers = [threading.Thread(target=lambda: found.append(poll(first["seen"]))) for _ in range(6)]
     for it in callers:
         it.start()
-    time.sleep(0.8)
+    until("the polls that are turned away", lambda: len(found) >= 2)
     want("who was turned away at once", [it[0] for it in found], 2 * [(503, {"error": SPENT, "fault": 29})])
     want("an answer beside four polls", place.curl("/v1/owners")[0], 200)
     want("a write beside four polls", put(place, "other/k", "weight", 2)[0], 200)
+    # (the others wait until then)
+    node.put("web/k", 7)
     for it in callers:
         it.join()
     want("the polls that waited", sorted(it[0][0] for it in found), [200, 200, 200, 200, 503, 503])

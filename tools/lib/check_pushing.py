@@ -165,7 +165,9 @@ class LatePeer:
     """A peer of a release, which says its Hello and otherwise only hears: it accepts after so many seconds, and ends each session or leaves it open."""
 
     def __init__(self, path, seconds, greeting=hello("b"), ends=True):
-        self.path, self.seconds, self.greeting, self.ends, self.heard, self.open = path, seconds, greeting, ends, [], []
+        self.path, self.seconds, self.greeting, self.ends = path, seconds, greeting, ends
+        # what came in each session, and the streams that were left open and those that were closed
+        self.heard, self.open, self.closed = [], [], []
         self.door = socket.socket(socket.AF_UNIX, socket.SOCK_STREAM)
         self.door.bind(str(path))
         self.door.listen(8)
@@ -190,7 +192,9 @@ class LatePeer:
                 break
         if self.ends:
             stream.close()
+            self.closed.append(stream)
         else:
+            stream.settimeout(SECONDS)
             self.open.append(stream)
 
     def pushed(self):
@@ -259,12 +263,16 @@ def endless_peers(check):
     folder, path = check.folder(), None
     peer = LatePeer(folder / "b.sock", 0)
     path = folder / "a.prom"
-    node = check.node("a", "--pause", "4000", "--dial-idle", "300", "--audit", "0", "--no-wait", "--metrics", str(path), folder=folder, peers=[peer.path]).start()
+    node = check.node("a", "--pause", "6000", "--dial-idle", "1000", "--audit", "0", "--no-wait", "--metrics", str(path), folder=folder, peers=[peer.path]).start()
     answers(node, peer.path)
+    until("the end of the first round", lambda: peer.closed)
     peer.ends = False
-    for at in (1, 2, 3):
+    for at in (1, 2):
         node.put("k", at)
-        time.sleep(0.6)
+        until("a session that is left open", lambda: len(peer.open) == at)
+        want("the end of that session by the node", peer.open[-1].recv(1), b"")
+    node.put("k", 3)
+    time.sleep(0.6)
     entries = [[("k", at, weight(at))] for at in (1, 2)]
     want("what it was pushed", peer.pushed(), [delta("a", 0, it)[7:] for it in entries])
     peer.ends = True

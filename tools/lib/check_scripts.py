@@ -259,8 +259,7 @@ def outlasting(check):
         want("that it runs", watch.ran.poll(), None)
     finally:
         watch.stop()
-    said = watch.ran.stderr.read().splitlines()
-    want("what it said", set(said) - set(away_and_back(node.control)), set())
+    want("what it said", set(watch.all_said()) - set(away_and_back(node.control)), set())
     want("without --retry", node.command("watch", "--count", "1"), (0, "set p x 6 weight 60\n", ""))
 
 
@@ -302,7 +301,7 @@ def removed_rows(check):
         want("that it runs", watch.ran.poll(), None)
     finally:
         watch.stop()
-    want("what it said", set(watch.ran.stderr.read().splitlines()) - set(away_and_back(node.control)), set())
+    want("what it said", set(watch.all_said()) - set(away_and_back(node.control)), set())
 
 
 def rows_in_pieces(check):
@@ -344,7 +343,7 @@ def rows_in_pieces(check):
         want("that it runs", watch.ran.poll(), None)
     finally:
         watch.stop()
-    want("what it said", set(watch.ran.stderr.read().splitlines()) - set(away_and_back(node.control)), set())
+    want("what it said", set(watch.all_said()) - set(away_and_back(node.control)), set())
     whole, part = rows(("b", "k", 2, 1), ("b", "l", 3, 1)), rows(("b", "l", 3, 1))
     made = MadeUp(check.folder() / "made.ctl", [whole, part, whole])
     found = run(check.program, "watch", "--retry", "--every", "0", "--count", "3", "--control", str(made.path))
@@ -376,11 +375,12 @@ def earlier_versions(check):
         tell(node, "q", 2, ("z", 4, 40), ("x", 5, 50), ("y", 6, 60))
         watch.awaits(["set q x 5 weight 50", "set q y 6 weight 60"])
         want("the rows", node.get("--owner", "p"), ["p v 4 weight 40", "p x 1 weight 10", "p y 2 weight 20", "p z 3 weight 30"])
-        time.sleep(0.2)
+        # (it prints the rows before it says so)
+        watch.awaits_said("shows again what was printed")
         want("that it runs", watch.ran.poll(), None)
     finally:
         watch.stop()
-    said = [it for it in watch.ran.stderr.read().splitlines() if it not in away_and_back(node.control)]
+    said = [it for it in watch.all_said() if it not in away_and_back(node.control)]
     front = f"control socket {node.control}: "
     want("what it said", said, [
         f"attrdir: warning {front}since its start the node has shown less of 2 owners than was printed, the first is p; their printed rows stay",
@@ -393,7 +393,8 @@ def waiting(check):
     node = check.node("a")
     watch = Watching(node, "--retry", "--mark", "--count", "1", "--every", "20")
     try:
-        time.sleep(0.3)
+        # (a node that was there at its first asking would never have been away)
+        watch.awaits_said("does not answer")
         want("that it waits", watch.ran.poll(), None)
         node.start()
         want("its end", watch.ended(), (0, ["asked"], away_and_back(node.control)))

@@ -4,7 +4,7 @@ import socket
 import subprocess
 import time
 
-from nodes import BYE, REFUSED, SECONDS, Difference, Reader, connect, delta, exchange, frame, hello, number, pieces, read_frame, throw, want, weight
+from nodes import BYE, REFUSED, SECONDS, Difference, Reader, connect, delta, exchange, frame, hello, number, pieces, read_frame, throw, until, want, weight
 
 ASK_STATUS, NODE_STATUS = 0x15, 0x16
 UNREACHABLE, UNREADABLE = 2, 4
@@ -39,6 +39,16 @@ def words_of(printed):
     return {word: value for word, value in lines if word != "peer"}, [value.split(" ", 1) for word, value in lines if word == "peer"]
 
 
+def has_frames(content, count):
+    """Whether these bytes begin with so many whole frames."""
+    for _ in range(count):
+        length = 6 + int.from_bytes(content[2:6], "big")
+        if len(content) < max(7, length):
+            return False
+        content = content[length:]
+    return True
+
+
 def awaits_status(node, test):
     """Asks until the object is as it should be, and gives it."""
     end = time.monotonic() + SECONDS
@@ -65,6 +75,8 @@ def statuses(check):
         caller, _ = silent.accept()
         with caller:
             want("its status beside a silent peer", status_of(node)[1]["ready"], False)
+            # (a connection that is closed with bytes in it is reset, and the node is to read by then)
+            until("the Hello and the digest of the node", lambda: has_frames(caller.recv(4096, socket.MSG_PEEK), 2))
     node.put("k", 5), node.put("l", 6)
     want("a removal", node.command("del", "l")[0], 0)
     want("its exit status", node.command("status", "--wait", "10000")[0], 0)

@@ -8,7 +8,7 @@ from pathlib import Path
 
 from check_metrics import awaits, awaits_line, promtool_takes
 from check_waking import Place, fill
-from nodes import BYE, DONE, SECONDS, Difference, connect, exchange, hello, put, read_frame, run, throw, want, weight
+from nodes import BYE, DONE, SECONDS, Difference, connect, exchange, hello, put, read_frame, run, throw, until, want, weight
 from small_disk import SmallDisk, disk_in
 
 # from so many removals in its log on a node here purges it at a start
@@ -215,7 +215,8 @@ def lost_wals(check):
         answered, wal = [], wal_of(node)
         writer = threading.Thread(target=writes_until_refused, args=(node, answered, writing), daemon=True)
         writer.start()
-        time.sleep(0.3)
+        # (the node has looked at a -wal that has more than is cut off)
+        until("some writes", lambda: len(answered) >= 20)
         lose(wal)
         began = time.monotonic()
         writer.join(SECONDS)

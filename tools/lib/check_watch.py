@@ -28,7 +28,7 @@ VALUES = [
 
 
 class Watching:
-    """A watch that runs, and the lines that it printed, as they come."""
+    """A watch that runs, and the lines that it printed and those that it said, as they come."""
 
     def __init__(self, node, *words):
         self.start([node.program, "watch", "--control", str(node.control), *words])
@@ -36,15 +36,17 @@ class Watching:
     def start(self, words, **more):
         how = {"stdin": subprocess.DEVNULL, "stdout": subprocess.PIPE, "stderr": subprocess.PIPE, "text": True, **more}
         self.ran = subprocess.Popen(words, **how)
-        self.lines, self.came = [], threading.Condition()
-        self.reader = threading.Thread(target=self.read, daemon=True)
-        self.reader.start()
+        self.lines, self.said, self.came = [], [], threading.Condition()
+        self.readers = [threading.Thread(target=self.read, args=it, daemon=True) for it in ((self.ran.stdout, "lines"), (self.ran.stderr, "said"))]
+        for reader in self.readers:
+            reader.start()
 
-    def read(self):
-        for line in self.ran.stdout:
+    def read(self, stream, name):
+        """Adds each line of a stream to the list of this name, which may be another one each time."""
+        for line in stream:
             with self.came:
-                self.lines.append(line.rstrip("\n"))
-                self.came.notify()
+                getattr(self, name).append(line.rstrip("\n"))
+                self.came.notify_all()
 
     def awaits(self, wanted):
         """The next lines are these, and no others have come."""
@@ -53,11 +55,29 @@ class Watching:
             found, self.lines = self.lines, []
         want("the lines of a watch", found, wanted)
 
+    def awaits_last(self, wanted):
+        """This line comes; others may come before it. All of them are left."""
+        with self.came:
+            self.came.wait_for(lambda: self.lines[-1:] == [wanted], SECONDS)
+            want("the last line of a watch", self.lines[-1:], [wanted])
+
+    def awaits_said(self, words):
+        """Waits until it has said a line with these words on standard error."""
+        with self.came:
+            if not self.came.wait_for(lambda: any(words in it for it in self.said), SECONDS):
+                raise Difference(f"a watch did not say {words!r}: {self.said}")
+
+    def all_said(self):
+        """The lines that it said, once it has ended."""
+        for reader in self.readers:
+            reader.join(SECONDS)
+        return self.said
+
     def ended(self):
         """Its exit status, the lines that were left, and those that it said."""
         status = self.ran.wait(SECONDS)
-        self.reader.join(SECONDS)
-        return status, self.lines, self.ran.stderr.read().splitlines()
+        said = self.all_said()
+        return status, self.lines, said
 
     def stop(self):
         self.ran.kill()

@@ -23,6 +23,15 @@ def want(what, found, wanted):
         raise Difference(f"{what}: {repr(found)[:300]} in place of {repr(wanted)[:300]}")
 
 
+def until(what, test):
+    """Looks again and again until something is so."""
+    end = time.monotonic() + SECONDS
+    while not test():
+        if time.monotonic() > end:
+            raise Difference(f"{what} did not come about in {SECONDS} s")
+        time.sleep(0.002)
+
+
 # ---- frames
 
 
