@@ -577,7 +577,8 @@ def http_places(check):
         said = run(check.program, *[str(it) for it in node.words()[1:]])[2].splitlines()
         want(f"too many workers beside HTTP, with {options}", (said[0], said[2]), ("fault 5", "--workers: give 1 to 61 with --http"))
     path = folder / "a.http"
-    node, place = node_at(check, "a", path, "--rounds", "3", "--pause", "100", folder=folder)
+    # (it is asked before it ends by itself)
+    node, place = node_at(check, "a", path, "--rounds", "3", "--pause", "1000", folder=folder)
     if not lacks_curl(check):
         want("an answer at the socket", place.curl("/v1/owners")[0], 200)
     want("the end of a node", (node.ended()[0], path.exists()), (0, False))

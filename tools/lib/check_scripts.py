@@ -440,11 +440,11 @@ def owners(check):
 
 def whole_sessions(check):
     """A node that owners asks counts no fault, and of each session an event, as of any delta that brings nothing."""
-    node = check.node("a", "--rounds", "10", "--pause", "300").start()
+    node = check.node("a", "--rounds", "5", "--pause", "1000").start()
     want("set", node.put("k", 5), 1)
     for _ in range(3):
         want("owners", run(check.program, "owners", "--sock", str(node.sock), "--cluster", "c"), (0, "a 1\n", ""))
-    want("what it did", node.ended()[1], "rounds 10 faults 0 events 4\n")
+    want("what it did", node.ended()[1], "rounds 5 faults 0 events 4\n")
 
 
 class MadeUpPeer:

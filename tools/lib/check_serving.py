@@ -252,13 +252,14 @@ def paces(check):
 
 
 class SlowPeer(Peer):
-    """A peer that says this in so many pieces, and hears what comes."""
+    """A peer that says this in so many pieces, once it may, and hears what comes."""
 
     def __init__(self, path, says, pieces):
-        self.pieces = pieces
+        self.pieces, self.may_speak = pieces, threading.Event()
         super().__init__(path, 0, [], says)
 
     def say(self, stream):
+        self.may_speak.wait(SECONDS)
         slowly(stream, self.says, self.pieces)
 
 
@@ -280,10 +281,13 @@ def read_from_all(check, pieces, max_reads, ends_well):
     serves each to its end, or ends each with a fault."""
     folder = check.folder()
     peer = SlowPeer(folder / "peer", hello("b") + digest(0), pieces)
-    node = check.node("a", "--max-reads", str(max_reads), "--rounds", "1", "--pause", "2000", folder=folder, peers=[peer.path]).start()
+    # (its only round lasts until the peer speaks, and then it ends)
+    given = ("--max-reads", str(max_reads), "--rounds", "1", "--pause", "0", "--dial-idle", "60000")
+    node = check.node("a", *given, folder=folder, peers=[peer.path]).start()
     for path, asked, kind in ((node.sock, hello("zz") + digest(0) + BYE, 3), (node.control, ask(), ROWS)):
         with connect(path) as stream:
             want(f"whether {pieces} pieces are answered at {path.name}", kind in slowly(stream, asked, pieces), ends_well)
+    peer.may_speak.set()
     status, printed, said = node.ended()
     want(f"the end after {pieces} pieces", (status, printed), (0, f"rounds 1 faults {0 if ends_well else 3} events 0\n"))
     level, end = ("info", "answers") if ends_well else ("warning", "fault 29: the reads, calls or events that were allowed are spent")
