@@ -7,7 +7,7 @@ import subprocess
 import threading
 import time
 
-from nodes import SECONDS, exchange, long_text, put, run, want
+from nodes import SECONDS, exchange, long_text, put, run, until, want
 
 # what --from adds to the last version that a node heard of
 MORE = 1_048_576
@@ -138,6 +138,7 @@ def ended_name(check):
     ended.lose()
     want("what begin prints of the greatest version", begin(check, ended, "--after", GREATEST)[:2], (0, f"begun {GREATEST}\n"))
     want("its end", ended.start().ended()[0], 0)
+    until("the end of the name at a peer", lambda: f"old {GREATEST}\n" in run(check.program, "owners", "--sock", str(peer.sock), "--cluster", "c")[1])
     want_fault("a log for which no version is left", begin(check, ended, "--from", peer.sock, log=ended.log.with_name("none.log")), 5, "1,048,576")
 
 
@@ -170,6 +171,7 @@ def without_a_gap(check):
     looking = threading.Thread(target=lambda: [looks.append(len(versions())) for _ in iter(is_over.is_set, True)])
     looking.start()
     try:
+        until("a look at the old rows", lambda: looks)
         lost.start()
         peer.awaits("the new rows", lambda _: versions() == list(range(count + MORE + 1, 2 * count + MORE + 1)))
     finally:
@@ -277,6 +279,7 @@ def restored_log(check):
     looking = threading.Thread(target=lambda: [looks.append(len(versions())) for _ in iter(is_over.is_set, True)])
     looking.start()
     try:
+        until("a look at the old rows", lambda: looks)
         lost.start()
         peer.awaits("the new rows", lambda _: versions() == list(range(count + MORE + 1, 2 * count + MORE + 1)))
     finally:

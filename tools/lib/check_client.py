@@ -305,7 +305,7 @@ def client_statuses(check):
     while True:
         found, printed = asked.status(), json.loads(node.command("status", "--format", "json")[1])
         same = [{name: value for name, value in it.items() if name not in moving} for it in (found, printed)]
-        if same[0] == same[1] and found["peers"][1]["state"] != "not_dialed":
+        if same[0] == same[1] and "not_dialed" not in [it["state"] for it in found["peers"][:2]]:
             break
         if time.monotonic() > end:
             want("the status", *same)

@@ -34,8 +34,11 @@ def await_row(dialer, reader, row):
     """The row comes to the reader while the dialer makes a few rounds."""
     end = time.monotonic() + SECONDS
     before = rounds_of(dialer)
-    while row not in reader.get():
+    while True:
+        # (they are counted before the look: it may bring the row by one that comes in between)
         made = rounds_of(dialer) - before
+        if row in reader.get():
+            return
         if made > ROUNDS_MOST or time.monotonic() > end:
             raise Difference(f"{row!r} did not come to {reader.name} in {made} rounds of {dialer.name}: {reader.get()[:3]}")
         time.sleep(0.02)

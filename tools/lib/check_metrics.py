@@ -149,7 +149,7 @@ def metrics(check):
         ("attrdir_owners_limit", 1024), ("attrdir_sessions_total", 0), ("attrdir_removals", 1), ("attrdir_workers", 4), ("attrdir_workers_busy", 0),
     )}
     wanted.update({("attrdir_held_version", "a"): 4, ("attrdir_held_version", "b"): 2, ("attrdir_rows", "a"): 2, ("attrdir_rows", "b"): 2})
-    up, fault = ({(f"attrdir_peer_{it}", str(other.sock)): value for it, value in pair} for pair in ((("up", 1), ("fault", 0)), (("up", 0), ("fault", 16))))
+    up = {("attrdir_peer_up", str(other.sock)): 1, ("attrdir_peer_fault", str(other.sock)): 0}
     nobody = {("attrdir_peer_up", named): 0, ("attrdir_peer_fault", named): 16}
     found = awaits(path, "a", {**wanted, **up, **nobody})
     for name in "attrdir_held_version", "attrdir_owner_age_seconds":
@@ -164,7 +164,8 @@ def metrics(check):
     since = [later["attrdir_peer_rounds_since", it] for it in (str(other.sock), named)]
     want(f"how many rounds ago each peer was dialed ({since})", (len(set(since)), max(since) <= 3), (2, True))
     other.kill()
-    awaits(path, "a", fault)
+    # (it may have ended during a session, which is another fault, or none)
+    awaits(path, "a", {("attrdir_peer_up", str(other.sock)): 0})
     other.start()
     awaits(path, "a", up)
     promtool_takes(check, path)

@@ -7,7 +7,7 @@ import time
 from pathlib import Path
 
 from check_metrics import awaits, awaits_line, promtool_takes
-from check_waking import Place, fill
+from check_waking import Place, fill, take_descriptors
 from nodes import BYE, DONE, SECONDS, Difference, connect, exchange, hello, put, read_frame, run, throw, until, want, weight
 from small_disk import SmallDisk, disk_in
 
@@ -97,7 +97,7 @@ def lost_logs(check):
         ("removed", lambda log: log.unlink()),
         ("replaced", lambda log: replaces(log, log.read_bytes())),
         ("replaced", lambda log: replaces(log, b"another file\n")),
-        ("replaced", lambda log: (log.unlink(), log.touch())),
+        ("replaced", lambda log: replaces(log, b"")),
         ("replaced", lambda log: log.write_bytes(b"")),
     ):
         folder = check.folder()
@@ -364,10 +364,7 @@ def callers_turned_away(check):
     path = folder / "a.prom"
     node = check.node("a", "--pause", "10", "--metrics", str(path), folder=folder).start()
     awaits(path, "a", {("attrdir_turned_away_total",): 0})
-    pid = node.ran.pid
-    soft, hard = resource.prlimit(pid, resource.RLIMIT_NOFILE)
-    open_ones = os.listdir(f"/proc/{pid}/fd")
-    resource.prlimit(pid, resource.RLIMIT_NOFILE, (next(it for it in range(hard) if str(it) not in open_ones), hard))
+    limits = take_descriptors(node.ran.pid)
     connect(node.sock).close()
     end = time.monotonic() + SECONDS
     said = "warning node a: callers turned away, or times that none could be accepted: 1; let the process open more files"
@@ -376,7 +373,7 @@ def callers_turned_away(check):
             raise Difference(f"no failure to accept is said in {node.lines()}")
         time.sleep(0.02)
     time.sleep(0.5)
-    resource.prlimit(pid, resource.RLIMIT_NOFILE, (soft, hard))
+    resource.prlimit(node.ran.pid, resource.RLIMIT_NOFILE, limits)
     awaits(path, "a", {("attrdir_turned_away_total",): 1})
 
 

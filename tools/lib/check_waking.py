@@ -194,18 +194,28 @@ class Place:
         self.node = node
 
 
+def take_descriptors(pid):
+    """Leaves a process no descriptor for more than it has open, and gives the limits of before. It may have a file open for a moment, which is not to
+    count: so it is looked at again and again, and the least descriptor that was free is the first that it may not have."""
+    soft, hard = resource.prlimit(pid, resource.RLIMIT_NOFILE)
+    least = soft
+    for _ in range(20):
+        open_ones = os.listdir(f"/proc/{pid}/fd")
+        least = min(least, next(it for it in range(soft) if str(it) not in open_ones))
+        time.sleep(0.02)
+    resource.prlimit(pid, resource.RLIMIT_NOFILE, (least, hard))
+    return soft, hard
+
+
 def no_descriptors(check):
     """A node that has no descriptor left for a while goes on with all its workers, and at its control socket."""
     node = check.node("a", "--workers", "3").start()
-    pid = node.ran.pid
-    soft, hard = resource.prlimit(pid, resource.RLIMIT_NOFILE)
-    open_ones = os.listdir(f"/proc/{pid}/fd")
-    resource.prlimit(pid, resource.RLIMIT_NOFILE, (next(it for it in range(hard) if str(it) not in open_ones), hard))
+    limits = take_descriptors(node.ran.pid)
     for _ in range(20):
         for path in (node.sock, node.control):
             connect(path).close()
         time.sleep(0.02)
-    resource.prlimit(pid, resource.RLIMIT_NOFILE, (soft, hard))
+    resource.prlimit(node.ran.pid, resource.RLIMIT_NOFILE, limits)
     # (each of these holds a worker until it says Bye)
     peers = [connect(node.sock) for _ in range(3)]
     for at, peer in enumerate(peers):
