@@ -12,7 +12,7 @@ import threading
 import time
 
 import check_metrics
-from nodes import ROOT, SECONDS, Difference, connect, run, send_in_pieces, until, want
+from nodes import ROOT, SECONDS, Difference, connect, read_exactly, run, send_in_pieces, until, want
 
 # the fields that each answer has, in their order, before the length of its body
 FIELDS = [("connection", "close"), ("cache-control", "no-store"), ("x-content-type-options", "nosniff"), ("content-type", "application/json")]
@@ -482,9 +482,10 @@ def http_bounds(check):
         want(f"what comes to {content}", place.bytes(content)[0], 400)
     with place.connect() as stream:
         stream.sendall(head + b"Expect: 100-continue\r\nContent-Length: 1\r\n\r\n")
-        want("what comes before a body that waits", stream.recv(65536), b"HTTP/1.1 100 Continue\r\n\r\n")
+        wanted = b"HTTP/1.1 100 Continue\r\n\r\n"
+        want("what comes before a body that waits", read_exactly(stream, len(wanted)), wanted)
         stream.sendall(b"x")
-        want("what comes after it", stream.recv(65536).split(b"\r\n")[0], b"HTTP/1.1 200 OK")
+        want("what comes after it", parsed(read_all(stream))[0], 200)
     want("an answer after all that", place.curl("/v1/owners")[0], 200)
     at_port = node_at(check, "b", free_port(), folder=folder)[1]
     for _ in range(20):
@@ -509,7 +510,7 @@ def http_silence(check):
             pass
         streams[0].close()
         ninth.settimeout(SECONDS)
-        want("an answer once one of them is gone", ninth.recv(65536).split(b"\r\n")[0], b"HTTP/1.1 200 OK")
+        want("an answer once one of them is gone", parsed(read_all(ninth))[0], 200)
     for stream in streams:
         stream.close()
     other, at_other = node_at(check, "b", folder / "b.http", "--request", "600000", "--idle", "500", folder=folder)
