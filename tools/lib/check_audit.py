@@ -1,5 +1,6 @@
 """The parts of tools/check-node that look at audits: a node that compares what its peers hold of its own name with its log. It finds an older copy of its
 log and a twin, and never its own writes, whatever was purged, begun anew or restored since."""
+import select
 import shutil
 import signal
 import socket
@@ -7,7 +8,7 @@ import time
 
 from check_metrics import awaits
 from check_purging import come_and_go
-from nodes import DONE, REFUSED, SECONDS, Difference, delta, digest, exchange, frame, hello, put, read_frame, run, want, weight
+from nodes import DONE, REFUSED, SECONDS, TRIES, Difference, connect, delta, digest, exchange, frame, hello, put, read_frame, run, want, weight
 
 OWNER_CONFLICT = 21
 OFTEN = ("--audit", "300", "--pause", "50")
@@ -188,7 +189,7 @@ def asks_for_its_name_alone(check):
     with socket.socket(socket.AF_UNIX, socket.SOCK_STREAM) as listener:
         listener.bind(str(folder / "b.sock"))
         listener.listen()
-        node = check.node("a", *OFTEN, "--no-wait", folder=folder, peers=[folder / "b.sock"]).start()
+        node = check.node("a", *OFTEN, "--no-wait", "--dial-idle", "20000", folder=folder, peers=[folder / "b.sock"]).start()
         want("a write", node.put("x", 1), 1)
         end = time.monotonic() + SECONDS
         while time.monotonic() < end:
@@ -219,9 +220,16 @@ def put_at_once(node):
 
 
 def refused_at_once(node):
-    """The first write after a start is refused, since the peer is heard before."""
-    node.start()
-    want("the kind of the first answer", put_at_once(node)[0], REFUSED)
+    """The first write after a start is refused, since the peer is heard before. A node that does not hear it in two seconds may take the write, and is
+    started again."""
+    for _ in range(TRIES):
+        began = time.monotonic()
+        node.start()
+        kind = put_at_once(node)[0]
+        if kind == REFUSED or time.monotonic() - began < 2:
+            break
+        node.kill()
+    want("the kind of the first answer", kind, REFUSED)
     want("a write after it", exchange(node.control, put("more", weight(1)))[1][0], OWNER_CONFLICT)
     node.kill()
 
@@ -242,6 +250,7 @@ def first_write(check):
     moved_back(kept, node.log)
     for turn in range(5):
         refused_at_once(node)
+    moved_back(kept, node.log)
     alone = check.node("a", folder=folder).start()
     want("the version once more", alone.put("new4", 4), 4)
     alone.kill()
@@ -254,27 +263,41 @@ def first_write(check):
     refused_at_once(twin)
 
 
-def told_soon(node):
-    """Questions are answered while the first write waits: after how many seconds the last was."""
-    began = time.monotonic()
-    want("the rows", node.get(), [])
+def told_before(node, stream):
+    """Whether questions are answered while the first write waits, whose answer comes over a stream."""
+    rows = node.get()
     # (1 if a peer did not answer)
     want("the status", node.command("status")[0] in (0, 1), True)
-    return time.monotonic() - began
+    is_before = not select.select([stream], [], [], 0)[0]
+    if is_before:
+        want("the rows", rows, [])
+    return is_before
 
 
-def seconds_of_first_write(node, begins):
-    """Starts a node, and writes at once: after how many seconds that was answered."""
+def first_write_of(node, asks):
+    """Starts a node, and writes at once: after how many seconds that was answered, and whether questions were answered before, if some are asked."""
     began = time.monotonic()
     node.start()
-    with socket.socket(socket.AF_UNIX, socket.SOCK_STREAM) as stream:
-        stream.settimeout(SECONDS)
-        stream.connect(str(node.control))
+    with connect(node.control) as stream:
         stream.sendall(put("x", weight(1)))
-        if begins and (took := told_soon(node)) > 1:
-            raise Difference(f"questions were answered after {took:.3} s")
+        is_before = not asks or told_before(node, stream)
         want("the write", read_frame(stream), (DONE, (1).to_bytes(8, "big")))
-    return time.monotonic() - began
+    took = time.monotonic() - began
+    node.kill()
+    return took, is_before
+
+
+def first_writes(check, what, peers, options, least, most, asks=False):
+    """First writes of new nodes beside these peers are answered no sooner than so many seconds after the start, and not later than so many: not each, since
+    a busy machine may stop a node, but one of some. If questions are asked, they are answered before that one."""
+    found = []
+    for _ in range(TRIES):
+        found.append(first_write_of(check.node("a", *options, folder=check.folder(), peers=peers), asks))
+        if found[-1][0] < least:
+            break
+        if found[-1][0] < most and found[-1][1]:
+            return
+    raise Difference(f"first writes {what} were answered after so many seconds, and behind questions or not: {found}")
 
 
 def peers_are_down(check):
@@ -282,20 +305,14 @@ def peers_are_down(check):
     answered meanwhile. With --no-wait it waits for nobody."""
     folder = check.folder()
     nobody = [folder / "nobody.sock", folder / "none.sock"]
-    took = seconds_of_first_write(check.node("a", folder=check.folder(), peers=nobody), False)
-    if took > 1.5:
-        raise Difference(f"a write was answered after {took:.3} s beside peers that cannot be reached")
+    first_writes(check, "beside peers that cannot be reached", nobody, (), 0, 1.5)
     with socket.socket(socket.AF_UNIX, socket.SOCK_STREAM) as listener:
         listener.bind(str(folder / "b.sock"))
         listener.listen()
         silent = [folder / "b.sock", folder / "nobody.sock"]
         # (it would give up the silent peer much later)
-        took = seconds_of_first_write(check.node("a", "--dial-idle", "20000", folder=check.folder(), peers=silent), True)
-        if not 1.9 < took < 2.9:
-            raise Difference(f"a write was answered after {took:.3} s beside a silent peer")
-        took = seconds_of_first_write(check.node("a", "--no-wait", folder=check.folder(), peers=silent), False)
-        if took > 1.5:
-            raise Difference(f"a write was answered after {took:.3} s with --no-wait")
+        first_writes(check, "beside a silent peer", silent, ("--dial-idle", "20000"), 1.9, 2.9, asks=True)
+        first_writes(check, "with --no-wait", silent, ("--no-wait",), 0, 1.5)
 
 
 PARTS = (older_copy, first_write, peers_are_down, twins, twin_while_running, no_false_alarm, never, asks_for_its_name_alone)

@@ -144,7 +144,8 @@ def ended_name(check):
 
 def written_back(node, lines):
     """How many writes `set -` made of these lines at a node."""
-    back = subprocess.run([node.program, "set", "--control", str(node.control), "-"], input=lines, capture_output=True, text=True, timeout=SECONDS)
+    # (each is a write to the disk)
+    back = subprocess.run([node.program, "set", "--control", str(node.control), "-"], input=lines, capture_output=True, text=True, timeout=4 * SECONDS)
     want("the status of set -", (back.returncode, back.stderr), (0, ""))
     return len(back.stdout.splitlines())
 

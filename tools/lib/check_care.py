@@ -5,6 +5,7 @@ import subprocess
 import threading
 import time
 
+from check_beginning import written_back
 from check_waking import Swallower
 from check_watch import Watching
 from nodes import ROOT, SECONDS, Difference, until, want
@@ -178,23 +179,23 @@ def hold(check):
     node = check.node("a").start()
     want("rows", [node.put("k", 1), node.put("l", 2)], [1, 2])
     began = time.monotonic()
-    watch = Watching(node, "--hold", "1", "--every", "10")
+    watch = Watching(node, "--hold", "2", "--every", "10")
     try:
         watch.awaits(["set a k 1 weight 1", "set a l 2 weight 2"])
-        if time.monotonic() - began < 1:
+        if time.monotonic() - began < 2:
             raise Difference(f"the first lines came after {time.monotonic() - began:.2f} s")
         node.command("del", "k")
-        time.sleep(0.4)
+        time.sleep(0.3)
         node.put("k", 3)
         watch.awaits(["set a k 4 weight 3"])
         removed = time.monotonic()
         node.command("del", "k")
         node.put("l", 4)
+        # (a change that waited for a row that went would come after it)
         watch.awaits(["set a l 6 weight 4"])
-        if time.monotonic() - removed > 0.8:
-            raise Difference("a change waited for a row that went")
         watch.awaits(["gone a k"])
-        if not 1 <= time.monotonic() - removed <= 3:
+        # (a watch that only asks when its node tells it something asks again after ten seconds)
+        if not 2 <= time.monotonic() - removed <= 8:
             raise Difference(f"a row was gone after {time.monotonic() - removed:.2f} s")
     finally:
         watch.stop()
@@ -235,13 +236,12 @@ def settle(check):
     """Changes that come within the time go together, and a row that was there meanwhile alone is never shown."""
     node = check.node("a").start()
     node.put("k", 1)
-    watch = Watching(node, "--settle", "1500", "--listings", "--every", "10")
+    watch = Watching(node, "--settle", "3000", "--listings", "--every", "10")
     try:
         watch.awaits(["[" + node.get("--format", "json")[0] + "]"])
-        for at in range(5):
-            node.put(f"l{at}", at)
-        node.put("m", 1)
-        node.command("del", "m")
+        # (all by one command, so that they come within the time)
+        lines = "".join(f"l{at} weight {at}\n" for at in range(5)) + "m weight 1\nm removed\n"
+        want("how many changes there are", written_back(node, lines), 7)
         watch.awaits(["[" + ",".join(node.get("--format", "json")) + "]"])
         want("all changes", len(node.get()), 6)
     finally:

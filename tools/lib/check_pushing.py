@@ -7,7 +7,7 @@ import time
 from check_metrics import awaits
 from check_releases import RELEASES, turns
 from check_waking import seconds_until
-from nodes import BYE, SECONDS, Difference, ask, block, connect, delta, exchange, frame, hello, long_text, number, read_frame, want, weight
+from nodes import BYE, SECONDS, Difference, ask, block, connect, delta, exchange, frame, hello, long_text, number, read_frame, until, want, weight
 
 # how many bytes a write of one weight may take over a connection, both ways: Hellos, a delta and a Bye
 MOST = 300
@@ -61,14 +61,6 @@ def kinds_of(content):
         kinds.append(content[6])
         content = content[6 + int.from_bytes(content[2:6], "big") :]
     return kinds
-
-
-def until(what, test):
-    end = time.monotonic() + SECONDS
-    while not test():
-        if time.monotonic() > end:
-            raise Difference(f"{what} did not come about")
-        time.sleep(0.002)
 
 
 def answers(node, *peers):
@@ -158,7 +150,8 @@ def gaps(check):
     push(other, *(delta("y", it - 1, [("k", it, weight(it))]) for it in range(1, 7)))
     want("what the node says to a gap", push(node, delta("y", 5, [("k", 6, weight(6))])), [(1, b"\x01c\x01b")])
     seconds = seconds_until(node, "y", 6)
-    if seconds > 1:
+    # (the next round in turn comes some five seconds later)
+    if seconds > 3:
         raise Difference(f"a gap was mended after {seconds:.2f} s")
     push(other, *(delta("y", it - 1, [("k", it, weight(it))]) for it in (7, 8)))
     push(node, delta("y", 7, [("k", 8, weight(8))]))
@@ -214,7 +207,8 @@ def late_peers(check):
     """A peer that accepts late is told, and once."""
     folder = check.folder()
     peer = LatePeer(folder / "b.sock", 0.7)
-    node = check.node("a", "--pause", "8000", "--audit", "0", "--no-wait", folder=folder, peers=[peer.path]).start()
+    given = ("--pause", "20000", "--dial-idle", "10000", "--audit", "0", "--no-wait")
+    node = check.node("a", *given, folder=folder, peers=[peer.path]).start()
     answers(node, peer.path)
     node.put("k", 5)
     until("the push", lambda: len(peer.heard) == 2 and len(peer.heard[1]) == 3)
@@ -271,7 +265,8 @@ def endless_peers(check):
     folder, path = check.folder(), None
     peer = LatePeer(folder / "b.sock", 0)
     path = folder / "a.prom"
-    node = check.node("a", "--pause", "6000", "--dial-idle", "1000", "--audit", "0", "--no-wait", "--metrics", str(path), folder=folder, peers=[peer.path]).start()
+    given = ("--pause", "6000", "--dial-idle", "1000", "--audit", "0", "--no-wait", "--metrics", str(path))
+    node = check.node("a", *given, folder=folder, peers=[peer.path]).start()
     answers(node, peer.path)
     until("the end of the first round", lambda: peer.closed)
     peer.ends = False

@@ -5,7 +5,7 @@ import threading
 import time
 
 from check_metrics import awaits
-from nodes import SECONDS, Difference, exchange, put, version_of, want, weight
+from nodes import SECONDS, Difference, exchange, put, until, version_of, want, weight
 from slow_proxy import SlowProxy
 
 # in seconds, from one write to the next
@@ -31,14 +31,6 @@ def steady_writes(node):
     finally:
         over.set()
         writer.join()
-
-
-def until(what, test):
-    end = time.monotonic() + SECONDS
-    while not test():
-        if time.monotonic() > end:
-            raise Difference(f"{what} did not come")
-        time.sleep(0.01)
 
 
 # one thread makes all rounds and brings all news

@@ -13,6 +13,8 @@ from small_disk import SmallDisk, disk_in
 
 # from so many removals in its log on a node here purges it at a start
 REMOVALS = 32
+# how many seconds may pass, at most, until a node with a pause of 50 ms says that its -wal is lost: a hundred looks, also on a busy machine
+SOON = 5
 # the Hello of a peer of the version before
 HELLO_OF_BEFORE = b"\xa7\x02" + hello("b")[2:]
 
@@ -184,7 +186,7 @@ def is_shown(node, answered):
 
 
 def lost_wals(check):
-    """A node whose -wal is removed, moved, replaced, emptied or cut says so within two seconds, and refuses writes from then on. It shows each write
+    """A node whose -wal is removed, moved, replaced, emptied or cut says so soon, and refuses writes from then on. It shows each write
     that it answered until then. If the -wal was only moved, and is put back, a start finds each of them."""
     writing = threading.Lock()
 
@@ -220,7 +222,7 @@ def lost_wals(check):
         lose(wal)
         began = time.monotonic()
         writer.join(SECONDS)
-        if writer.is_alive() or time.monotonic() - began > 2:
+        if writer.is_alive() or time.monotonic() - began > SOON:
             raise Difference(f"with a -wal that is {cause} the node took {len(answered)} writes, for {time.monotonic() - began:.2f} s")
         refuses_a_write(node, 15)
         front = f"attrdir: error log {node.log}-wal: fault 18: its file was {cause}; no more writes are taken: "
@@ -237,12 +239,12 @@ def lost_wals(check):
 
 
 def quiet_wals(check):
-    """A node without a write and without a caller says within two seconds that its -wal is gone. One with --on-log-fault exit ends."""
+    """A node without a write and without a caller says soon that its -wal is gone. One with --on-log-fault exit ends."""
     node = check.node("a", "--pause", "50").start()
     wal_of(node).unlink()
     began = time.monotonic()
     while not any("-wal: fault 18: its file was removed" in it for it in node.lines()):
-        if time.monotonic() - began > 2:
+        if time.monotonic() - began > SOON:
             raise Difference(f"a removed -wal is not said in {node.lines()}")
         time.sleep(0.01)
     refuses_a_write(node, 15)
@@ -339,7 +341,7 @@ def busy_workers(check):
     """Workers that all wait for silent peers for longer than a second are said, and counted once, as long as that lasts."""
     folder = check.folder()
     path = folder / "a.prom"
-    node = check.node("a", "--pause", "10", "--workers", "2", "--metrics", str(path), folder=folder).start()
+    node = check.node("a", "--pause", "10", "--workers", "2", "--idle", "60000", "--metrics", str(path), folder=folder).start()
     peers = [connect(node.sock) for _ in range(2)]
     for at, peer in enumerate(peers):
         peer.sendall(hello(f"b{at}"))

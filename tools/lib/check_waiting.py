@@ -5,12 +5,12 @@ import threading
 import time
 
 from check_waking import seconds_until
-from nodes import BYE, FRAME_FRONT, ROWS, SECONDS, Difference, ask, connect, digest, exchange, hello, number, put, read_frame, version_of, want, weight
+from nodes import BYE, FRAME_FRONT, ROWS, SECONDS, TRIES, Difference, ask, connect, digest, exchange, hello, number, put, read_frame, version_of, want, weight
 
 # how many connections may wait at a socket
 MOST = 1024
-# what no answer may take beside them, in seconds
-SOON = 1.0
+# what no answer may take beside them, in seconds: less than any of them may hold up another
+SOON = 2.0
 # how a message begins that is never whole, since it would have 60,000 bytes
 LONG_FRAME = FRAME_FRONT + number(60_000, 4)
 
@@ -56,23 +56,26 @@ def close_all(streams):
 
 def silent_callers(check):
     """Callers and peers that say nothing delay nobody, and are closed once --request or --idle is over; so is a caller that sends a byte now and then."""
-    node = check.node("a", "--request", "1500", "--idle", "2500", "--workers", "1").start()
+    node = check.node("a", "--request", "3000", "--idle", "6000", "--workers", "1").start()
+    began = time.monotonic()
     callers, peers = ([connect(path) for _ in range(40)] for path in (node.control, node.sock))
     is_served(node, 1)
-    want("who is closed at once", [it for it in callers + peers if is_closed(it)], [])
+    closed = [it for it in callers + peers if is_closed(it)]
+    if time.monotonic() - began < 2.5:
+        want("who is closed at once", closed, [])
     request, began = put("k", weight(6)), time.monotonic()
     with connect(node.control) as slow:
         try:
             for at in range(len(request)):
                 slow.sendall(request[at : at + 1])
-                time.sleep(0.2)
-            raise Difference("a request that took 3.6 s was taken whole")
+                time.sleep(0.4)
+            raise Difference("a request that took 7.2 s was taken whole")
         except OSError:
             pass
-    if not 1 <= time.monotonic() - began <= 3:
+    if not 2.5 <= time.monotonic() - began <= 6.5:
         raise Difference(f"a slow caller was closed after {time.monotonic() - began:.2f} s")
     want("who is closed behind --request", [is_closed(it) for it in callers], 40 * [True])
-    want("who is closed behind --idle", [is_closed(it, 3) for it in peers], 40 * [True])
+    want("who is closed behind --idle", [is_closed(it, 10) for it in peers], 40 * [True])
     is_served(node, 2)
     close_all(callers + peers)
 
@@ -95,7 +98,7 @@ def slow_requests(check):
 
 def slow_peers(check):
     """Peers that send a byte now and then hold the workers for --session at most. Meanwhile callers are answered, by the owner's thread if need be."""
-    node = check.node("a", "--workers", "2", "--idle", "1000", "--session", "2000").start()
+    node = check.node("a", "--workers", "2", "--idle", "3000", "--session", "6000").start()
     began, ended = time.monotonic(), []
 
     def dribble():
@@ -118,14 +121,14 @@ def slow_peers(check):
     for thread in threads:
         thread.join()
     want("how many slow peers were ended", len(ended), 2)
-    if not 1.8 <= min(ended) <= max(ended) <= 5:
+    if not 5.8 <= min(ended) <= max(ended) <= 12:
         raise Difference(f"slow peers were ended after {ended} s")
 
 
 def slow_hellos(check):
     """Peers that are silent, or send a byte of their Hello now and then, hold no worker. Writes of another node arrive soon, and they are closed behind --idle."""
     folder = check.folder()
-    hub = check.node("a", "--workers", "4", "--idle", "4000", folder=folder).start()
+    hub = check.node("a", "--workers", "4", "--idle", "6000", folder=folder).start()
     leaf = check.node("b", "--pause", "1000", folder=folder, peers=[hub.sock]).start()
     hub.awaits("a row of b", lambda rows: leaf.put("k", 0) and any(it.startswith("b ") for it in rows))
     peers, began = [connect(hub.sock) for _ in range(8)], time.monotonic()
@@ -138,9 +141,10 @@ def slow_hellos(check):
             raise Difference(f"a write of another node took {seconds:.2f} s")
         time.sleep(0.1)
     is_served(hub, 1)
-    if time.monotonic() - began < 3.5:
-        want("who is closed at once", [it for it in peers if is_closed(it)], [])
-    want("who is closed behind --idle", [is_closed(it, 5) for it in peers], 8 * [True])
+    closed = [it for it in peers if is_closed(it)]
+    if time.monotonic() - began < 5.5:
+        want("who is closed at once", closed, [])
+    want("who is closed behind --idle", [is_closed(it, 10) for it in peers], 8 * [True])
     close_all(peers)
 
 
@@ -199,6 +203,19 @@ def reads_beside_writes(check):
     node = check.node("a", "--workers", "2").start()
     for at in range(100):
         node.put(f"k{at}", at)
+    found = []
+    # (a machine may be busy for a while, but not each time)
+    while len(found) < TRIES:
+        found.append(halves_beside_listings(node))
+        alone, beside = found[-1]
+        # (a machine that has much else to do is slow at both)
+        if beside <= max(0.1, 5 * alone):
+            return
+    raise Difference(f"what half of the writes took without listings, and beside them, in seconds: {found}")
+
+
+def halves_beside_listings(node):
+    """What half of some writes took at most, without listings, and beside them."""
     alone = half_of(writes(node))
     is_over = threading.Event()
 
@@ -213,9 +230,7 @@ def reads_beside_writes(check):
     is_over.set()
     for thread in threads:
         thread.join()
-    # (a machine that has much else to do is slow at both)
-    if beside > max(0.1, 5 * alone):
-        raise Difference(f"half of the writes took {beside:.3f} s beside listings, and {alone:.3f} s without")
+    return alone, beside
 
 
 PARTS = (silent_callers, slow_requests, slow_peers, slow_hellos, full_list, reads_beside_writes)

@@ -43,22 +43,23 @@ def chain(check, *options):
 
 def news(check):
     """A write is at a node two hops away long before the next pause is over; with --fanout 0 it is not."""
-    nodes = chain(check, "--pause", "3000")
+    nodes = chain(check, "--pause", "6000")
     nodes[0].awaits("a row of c", lambda rows: nodes[2].put("hello", 1) and any(it.startswith("c ") for it in rows))
     for at in range(5):
         seconds = seconds_until(nodes[2], "a", nodes[0].put("k", at))
-        if seconds > 1.5:
+        if seconds > 3:
             raise Difference(f"a write took {seconds:.2f} s over two hops")
     check.stop()
     folder = check.folder()
     other = check.node("b", folder=folder).start()
-    node = check.node("a", "--pause", "3000", "--fanout", "0", folder=folder, peers=[other.sock]).start()
+    node = check.node("a", "--pause", "60000", "--fanout", "0", folder=folder, peers=[other.sock]).start()
     end = time.monotonic() + SECONDS
     while len(node.lines()) < 2 and time.monotonic() < end:
         time.sleep(0.01)
-    seconds = seconds_until(other, "a", node.put("k", 1))
-    if seconds < 1:
-        raise Difference(f"with --fanout 0 a write took {seconds:.2f} s")
+    # (it is answered once the first round has ended, and the next is far away)
+    version = node.put("k", 1)
+    time.sleep(1.5)
+    want("whether a write is pushed with --fanout 0", number(version) in exchange(other.control, ask("a"))[1], False)
 
 
 def faulty_peers(check):
@@ -101,16 +102,22 @@ def silent_peers(check):
     folder = check.folder()
     silent, other = Swallower(folder / "silent.sock"), check.node("b", folder=folder).start()
     peers = [folder / "silent.sock", other.sock]
-    node = check.node("a", "--pause", "50", "--dial-idle", "400", "--no-wait", folder=folder, peers=peers).start()
     began, count = time.monotonic(), 0
-    while time.monotonic() - began < 4:
+    node = check.node("a", "--pause", "50", "--dial-idle", "400", "--no-wait", folder=folder, peers=peers).start()
+    while time.monotonic() - began < 6:
         seconds = seconds_until(node, "b", other.put("k", count))
         count += 1
         if seconds > 2:
             raise Difference(f"a write took {seconds:.2f} s beside a silent peer")
-    # (a turn in eight of some fifty a second at most, each with a wait of 0.4 s)
-    if not 2 <= len(silent.streams) <= 7:
-        raise Difference(f"a silent peer was dialed {len(silent.streams)} times in 4 s")
+    dialed, seconds = len(silent.streams), time.monotonic() - began
+    # (three times at most before it is passed over, and then once in a wait of 0.4 s and eight pauses of 0.05 s)
+    if dialed > 3 + seconds / 0.8:
+        raise Difference(f"a silent peer was dialed {dialed} times in {seconds:.2f} s")
+    end = time.monotonic() + SECONDS
+    while len(silent.streams) < 2:
+        if time.monotonic() > end:
+            raise Difference(f"a silent peer was dialed {len(silent.streams)} times")
+        time.sleep(0.02)
     silent.door.close()
 
 

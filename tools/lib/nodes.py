@@ -11,6 +11,8 @@ from pathlib import Path
 
 ROOT = Path(__file__).resolve().parent.parent.parent
 SECONDS = 30
+# how often it is looked whether something is in time, until it is
+TRIES = 5
 DONE, ROWS, REFUSED = 0x13, 0x11, 0x14
 
 
@@ -21,6 +23,19 @@ class Difference(Exception):
 def want(what, found, wanted):
     if found != wanted:
         raise Difference(f"{what}: {repr(found)[:300]} in place of {repr(wanted)[:300]}")
+
+
+def in_time(what, seconds, call):
+    """What a call gives, which is to take so many seconds at most. A busy machine may stop anybody for a moment, so it is made again if it took longer:
+    what is always late is late each time."""
+    times = []
+    for _ in range(TRIES):
+        began = time.monotonic()
+        found = call()
+        times.append(time.monotonic() - began)
+        if times[-1] <= seconds:
+            return found
+    raise Difference(f"{what} took {', '.join(f'{it:.2f}' for it in times)} s, each time more than {seconds}")
 
 
 def until(what, test):
