@@ -44,16 +44,19 @@ def texts():
 
 class MadeUp:
     """A control socket that keeps each request, and sends the next of these answers, in pieces of so many bytes. It ends behind the last. It
-    tells nobody of changes, as a node of release 0.2.0, and keeps no request for that."""
+    tells nobody of changes, as a node of release 0.2.0, and keeps no request for that. If it takes the place of another, it closes its first connection:
+    a watch that looked at the path before may make it, and would take no answer from it."""
 
-    def __init__(self, path, answers, piece=1 << 20):
-        self.path, self.answers, self.piece, self.requests = path, answers, piece, []
+    def __init__(self, path, answers, piece=1 << 20, is_another=False):
+        self.path, self.answers, self.piece, self.is_another, self.requests = path, answers, piece, is_another, []
         self.door = socket.socket(socket.AF_UNIX, socket.SOCK_STREAM)
         self.door.bind(str(path))
         self.door.listen(8)
         threading.Thread(target=self.serve, daemon=True).start()
 
     def serve(self):
+        if self.is_another:
+            self.door.accept()[0].close()
         for at, answer in enumerate(self.answers, 1):
             stream, request = self.take()
             if at == len(self.answers):

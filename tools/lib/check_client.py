@@ -212,7 +212,7 @@ def client_watches_pages(check):
     watch.awaits(("set", "a", "b1", 5, 1), ("set", "a", "z", 6, 1))
     place.control.unlink()
     whole = rows(("a", "c1", 1, 1), ("a", "z", 100, 1))
-    MadeUp(place.control, [rows(("a", "c1", 1, 1), more=1), rows(("a", "z", 100, 1)), whole])
+    MadeUp(place.control, [rows(("a", "c1", 1, 1), more=1), rows(("a", "z", 100, 1)), whole], is_another=True)
     # (c1 may be a row that was removed: it is yielded once the node has shown a as far as before)
     watch.awaits(("set", "a", "z", 100, 1), ("gone", "a", "b1", 5, 1), ("set", "a", "c1", 1, 1))
     # a row of an earlier version is passed over

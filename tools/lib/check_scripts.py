@@ -221,7 +221,7 @@ def pages_apart(check):
         watch.awaits(["set a b1 5 weight 1", "set a z 6 weight 1"])
         node.control.unlink()
         whole = rows(("a", "b1", 5, 1), ("a", "c1", 1, 1), ("a", "z", 100, 1))
-        MadeUp(node.control, [rows(("a", "c1", 1, 1), more=1), rows(("a", "z", 100, 1)), whole])
+        MadeUp(node.control, [rows(("a", "c1", 1, 1), more=1), rows(("a", "z", 100, 1)), whole], is_another=True)
         # (the first page was as early as c1, which a later write may have removed: it is printed once the node has shown a as far as before)
         want("its end", watch.ended()[:2], (0, ["set a z 100 weight 1", "set a c1 1 weight 1"]))
     finally:
