@@ -6,7 +6,7 @@ import sqlite3
 import subprocess
 import time
 
-from nodes import BYE, SECONDS, Difference, block, connect, delta, frame, hello, number, read_frame, run, want, weight
+from nodes import BYE, SECONDS, Difference, block, connect, delta, frame, hello, number, read_frame, run, until, want, weight
 
 # each metric, in the order of the file, with its type and the labels of its values beside that of the node
 METRICS = {
@@ -236,7 +236,8 @@ def metrics_elsewhere(check):
     node.start()
     want("a write", node.put("l", 5), 2)
     awaits(path, "a", {("attrdir_keys",): 2})
-    want("what is beside it", [it.name for it in path.parent.iterdir()], ["a.prom"])
+    # (a file that is just being written is beside it for a moment)
+    until("that it is alone in its folder", lambda: [it.name for it in path.parent.iterdir()] == ["a.prom"])
     node.kill()
     other = folder / "other"
     other.write_text("no metrics\n")
