@@ -239,9 +239,10 @@ def settle(check):
     watch = Watching(node, "--settle", "3000", "--listings", "--every", "10")
     try:
         watch.awaits(["[" + node.get("--format", "json")[0] + "]"])
-        # (all by one command, so that they come within the time)
-        lines = "".join(f"l{at} weight {at}\n" for at in range(5)) + "m weight 1\nm removed\n"
-        want("how many changes there are", written_back(node, lines), 7)
+        # (by one command, so that they come within the time; the watch sees m meanwhile)
+        want("how many changes there are", written_back(node, "".join(f"l{at} weight {at}\n" for at in range(5)) + "m weight 1\n"), 6)
+        time.sleep(0.1)
+        want("a removal", node.command("del", "m")[0], 0)
         watch.awaits(["[" + ",".join(node.get("--format", "json")) + "]"])
         want("all changes", len(node.get()), 6)
     finally:
