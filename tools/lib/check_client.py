@@ -431,7 +431,7 @@ def http_answer(content, length=None):
 
 def says_it_was_away(watching, program, address):
     """A client in Python that has ended said once that the node did not answer, and once that it answered again."""
-    said, away = watching.ran.stderr.read().splitlines(), f"{program}: warning {address}: does not answer: "
+    said, away = watching.all_said(), f"{program}: warning {address}: does not answer: "
     want(f"what {program} says", [said[0][: len(away)] if said else "", *said[1:]], [away, f"{program}: info {address}: answers"])
 
 
