@@ -1,0 +1,1 @@
+cd /work/watch && rm -rf /tmp/w4/crates/sb_directory/proofs /tmp/w4/crates/sb_directory/src /tmp/w4/crates/sb_directory/specs && for d in proofs src specs; do cp -r crates/sb_directory/$d /tmp/w4/crates/sb_directory/; done
