@@ -1,5 +1,5 @@
 -- The answer to the question how a node is.
-use Rattle.std.specs.Prelude.{◌≡◌, ◌⊎◌, ℕ, Bool, nat_lt, if◌then◌else◌, List, length, codes}
+use Rattle.std.specs.Prelude.{◌≡◌, ◌⊎◌, ℕ, Bool, nat_lt, if◌then◌else◌, List, length, map, codes}
 use Rattle.std.specs.List.{list_all}
 use mathlib.Core.List.{IsPrefix}
 use Rattle.sb_types.specs.declared.fault.Fault.TheVariants.{NoMemory}
@@ -49,9 +49,11 @@ IsCounted opening last_call keys = (history : List Event) × IsPrefix history la
 abbrev pub IsShownUpTo : Node → List Event → ℕ → Type 0
 IsShownUpTo opening seen version = (view : NodeView) × IsView (node_after opening seen) view × (version ≡ upto_of view opening.held.me)
 
--- What a node says of itself, with a seat that is so afterwards. It is caught up if and only if each of its peers has had a round. The
--- conflict is that of the last call, the keys are those of a call before, and the version is what the seat has seen.
-pub record AreFacts (opening : Node) (peers : List Peer) (after : Seat) (facts : Facts) : Type 0 where
+-- What a node says of itself, with a seat that is so afterwards. The peers are all those that a schedule dials, as they are. It is caught up
+-- if and only if each of them has had a round. The conflict is that of the last call, the keys are those of a call before, and the version is
+-- what the seat has seen.
+pub record AreFacts (opening : Node) (own : List dialed.Peer) (peers : List Peer) (after : Seat) (facts : Facts) : Type 0 where
+  pub statuses : peers ≡ map peer_status own
   pub caught_up : facts.is_caught_up ≡ have_had_rounds peers
   pub count : facts.peers ≡ length peers
   pub conflict : facts.conflict ≡ (node_after opening after.last_call).conflict
@@ -61,9 +63,10 @@ pub record AreFacts (opening : Node) (peers : List Peer) (after : Seat) (facts :
 -- the page of a status with facts of the node
 pub record IsStatusPage (opening : Node) (settings : Settings) (after : Seat) (asked : ℕ) (reply : Message) : Type 0 where
   pub facts : Facts
+  pub own : List dialed.Peer
   pub peers : List Peer
   pub release : List ℕ
-  pub are_facts : AreFacts opening peers after facts
+  pub are_facts : AreFacts opening own peers after facts
   pub page : reply ≡ kinds.NodeStatus (status_page (identity_of opening.held.me settings.cluster release) (figures_of facts) peers asked settings.budget)
 
 -- such a page, or that there was no memory; the seat may have seen more

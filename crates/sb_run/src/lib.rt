@@ -109,8 +109,10 @@
 //! - `serve_control` answers each question with the number of `Closed`. No clause promises that a seat may enter.
 //!   Tests and `tools/check-node` refuse it.
 //! - The status of a node has a wrong uptime, or counts its owners, rows, busy workers or troubles wrongly. Clauses cover
-//!   its version, its keys, its conflict, its rounds, its workers, and whether it is caught up. Tests and `tools/check-node`
-//!   refuse it.
+//!   its version, its keys, its conflict, its rounds, its workers, its peers, and whether it is caught up. Tests and
+//!   `tools/check-node` refuse it.
+//! - A status has the peers of another schedule, or another cause of a closed log than was noted: no fact spans a lock.
+//!   `tools/check-node` refuses it.
 //! - A session takes blocks of an owner that the node is to forget, since it has no `ForgettingHandler`. Or the observer
 //!   learns of another owner, or never. The tests of `sb_run` and `tools/check-node` refuse it.
 //! - A node audits nobody, another peer, too seldom or too often, or does not report what it found. Or an audit asks for too

@@ -1,7 +1,7 @@
 //! Whom to dial next, and the rounds that were made: what the threads that dial share, under one lock.
-ghost use Rattle.std.specs.Prelude.{◌≡◌, ◌<◌, ◌≤◌, true, false, None, Some, IfSome, IsSomeAnd, MatchOption, IfOk, IfErr, ◌+◌, slice_get, vec_len, replicate, ℕ, List, length, nat_lt};
+ghost use Rattle.std.specs.Prelude.{◌≡◌, ◌<◌, ◌≤◌, true, false, None, Some, IfSome, IsSomeAnd, MatchOption, IfOk, IfErr, ◌+◌, map, slice_get, vec_len, replicate, ℕ, List, length, nat_lt};
 ghost use Rattle.sb_run.specs.Deliveries as spec;
-ghost use Rattle.sb_run.specs.StatusReplies.{have_had_rounds};
+ghost use Rattle.sb_run.specs.StatusReplies.{have_had_rounds, peer_status};
 ghost use Rattle.sb_run.specs.Turns.{one_more, with_more, turn_of, number_of_state, misses_after, takes_news};
 
 use crate::bell::Bell;
@@ -487,6 +487,8 @@ impl<'a> Schedule<'a> {
     /// What the status of a node reports of its rounds and its peers. `NoMemory`.
     pub(crate) fn peers_report(&self, alloc: Global) -> Result<PeersReport, Fault>
         ensures counts { IfOk result (λ report. report.counts ≡ self.now.counts) }
+        // Each peer is reported, as it is.
+        ensures peers { IfOk result (λ report. report.peers.items ≡ map peer_status self.now.peers.all.items) }
         ensures caught_up { IfOk result (λ report. report.is_caught_up ≡ have_had_rounds report.peers.items) }
         ensures memory { IfErr result (λ fault. fault ≡ Fault.NoMemory) }
     {

@@ -19,6 +19,7 @@ use crate::schedule::PeersReport;
 use crate::status_texts::short_text;
 use crate::threads::NodeContext;
 use sb_codec::{Ages, AskStatus, Message, NodeIdentity, NodeStatus};
+use sb_control::LogCause;
 use sb_directory::ReaderSeat;
 use sb_query::status_page;
 use sb_types::{Fault, Name, Settings};
@@ -136,19 +137,25 @@ impl<S: RoundsTag, H: Wait + Drop, Q: Wait + Clock> NodeContext<'_, S, H, Q> {
         }
     }
 
-    /// All that the node reports of itself: of what it holds, of its peers, and what its threads counted.
-    fn facts(&self, held: &HeldCounts, report: &PeersReport) -> Facts
+    /// All that the node reports of itself: of what it holds, of its peers, why its log takes no writes, and what its threads counted.
+    fn facts(
+        &self,
+        held: &HeldCounts,
+        report: &PeersReport,
+        log_cause: Option<LogCause>,
+    ) -> Facts
         ensures held { (result.version ≡ held.now.version) × (result.keys ≡ held.now.keys) × (result.conflict ≡ held.now.conflict) }
         ensures rows { (result.rows ≡ held.now.rows) × (result.owners ≡ held.now.owners) }
         ensures rounds { result.rounds ≡ report.now.counts }
         ensures workers { result.workers ≡ S.settings.workers }
         ensures peers { (result.peers ≡ vec_len report.now.peers) × (result.is_caught_up ≡ report.now.is_caught_up) }
+        ensures log { result.log_cause ≡ log_cause }
     {
         let uptime = self.counts.uptime(self.rt);
         Facts {
             uptime,
             is_caught_up: report.is_caught_up,
-            log_cause: self.counts.log_cause(),
+            log_cause,
             conflict: held.conflict,
             version: held.version,
             keys: held.keys,
@@ -208,7 +215,7 @@ impl<S: RoundsTag, H: Wait + Drop, Q: Wait + Clock> NodeContext<'_, S, H, Q> {
             Ok(held) => held,
             Err(fault) => return (seat, refused_by(fault)),
         };
-        let facts = self.facts(&held, &report);
+        let facts = self.facts(&held, &report, self.counts.log_cause());
         match self.page_with(&facts, &report, dialing.observer().release(), asked) {
             Ok(page) => (seat, Message::NodeStatus(page)),
             Err(fault) => (seat, refused_by(fault)),
