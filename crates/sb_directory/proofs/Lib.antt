@@ -10,3 +10,4 @@ pub mod Sharing
 pub mod Entering
 pub mod Purging
 pub mod Marking
+pub mod Refusing

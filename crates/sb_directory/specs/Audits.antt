@@ -1,6 +1,8 @@
 -- Audits: what a peer holds of the node's own name, compared with the node's own table, and what they leave of the seat.
-use Rattle.std.specs.Prelude.{◌≡◌, ℕ, ◌+◌, ◌++◌, nat_eq, MatchBool, List, [], ◌∷◌, length, Option, Some, None}
+use Rattle.std.specs.Prelude.{◌≡◌, ◌≢◌, ℕ, ◌+◌, ◌-◌, ◌^◌, ◌++◌, ◌==◌, nat_eq, Bool, MatchBool, if◌then◌else◌, List, [], ◌∷◌, length, Option, Some, None, Result, Ok, Err}
 use Rattle.std.specs.Cmp.Lexicographic.{pointwise}
+use Rattle.sb_types.specs.declared.fault.Fault.{Fault}
+use Rattle.sb_types.specs.declared.fault.Fault.TheVariants.{NoMemory, TurnsSpent}
 use Rattle.sb_types.specs.Records.{Entry, Table, Block}
 use Rattle.sb_types.specs.Runs.{Stands}
 use Rattle.sb_holdings.specs.declared.ends.BlockEnd.TheVariants.{OwnAhead}
@@ -16,7 +18,7 @@ use Rattle.sb_views.specs.Histories.{node_after}
 use Rattle.sb_directory.specs.declared.difference.Difference.{Difference}
 use Rattle.sb_directory.specs.declared.difference.Difference.TheVariants.{Foreign, Missing}
 use Rattle.sb_directory.specs.declared.difference.ForeignEntry.{ForeignEntry}
-use Rattle.sb_directory.specs.Seats.{Seat, Begins}
+use Rattle.sb_directory.specs.Seats.{Seat, Begins, delta_due_after}
 
 -- the entry with the own one beside it
 abbrev pub foreign_entry : Table → Entry → Reason → ForeignEntry
@@ -56,6 +58,31 @@ marking_unless node None = marking node ∷ []
 abbrev pub audit_events : Node → Option Difference → List Event
 audit_events node None = []
 audit_events node (Some d) = marking_unless node node.conflict
+
+-- no version is left after the own held one
+abbrev pub is_last : Node → Bool
+is_last node = own_held node == 2 ^ 64 - 1
+
+-- this answer, unless no version is left
+abbrev pub unless_last : Bool → Result (Unit {0}) Fault → Result (Unit {0}) Fault
+unless_last last answer = if last then Err TurnsSpent else answer
+
+-- whether there is a block by which the node can mark its own name, where there is memory
+abbrev pub version_due : Node → Result (Unit {0}) Fault
+version_due node = unless_last (is_last node) (Ok tt)
+
+-- a name in conflict is not marked; a mark needs a version and an event that are left
+abbrev pub mark_due_unless : List Event → Node → Option ℕ → Result (Unit {0}) Fault
+mark_due_unless history node (Some version) = Ok tt
+mark_due_unless history node None = unless_last (is_last node) (delta_due_after history)
+
+-- what the mark of the own name is answered after these events, where there is memory
+abbrev pub mark_due_after : Node → List Event → Result (Unit {0}) Fault
+mark_due_after opening history = mark_due_unless history (node_after opening history) (node_after opening history).conflict
+
+-- another fault than want of memory is what the mark is answered
+abbrev pub RefusesMark : Node → List Event → Fault → Type 0
+RefusesMark opening history fault = fault ≢ NoMemory → mark_due_after opening history ≡ Err fault
 
 -- The audit was answered so after this history, which begins with what the seat had seen and with its last call. That history, and
 -- the event by which the name was marked, if it was, is the seat's last call from then on.

@@ -1,10 +1,11 @@
 //! What a peer holds of the node's own name otherwise than the node's log gave it.
-ghost use Rattle.std.specs.Prelude.{◌≡◌, ◌≢◌, ◌+◌, ◌∷◌, [], None, IfOk, IfErr};
+ghost use Rattle.std.specs.Prelude.{◌≡◌, ◌≢◌, ◌+◌, ◌∷◌, [], None, Ok, OnOk, IfOk, IfErr};
 ghost use Rattle.std.specs.Option.{option_copied};
 ghost use Rattle.sb_types.specs.Faults.{Gives};
 ghost use Rattle.sb_holdings.specs.Held.{shown_of};
 ghost use Rattle.sb_session.specs.Handlers.{IsRefusal};
 ghost use Rattle.sb_directory.specs.Audits as spec;
+ghost use Rattle.sb_directory.specs.Seats.{Refuses};
 
 use sb_audit::{Foreign, Reason, find_foreign, find_missing, find_own};
 use sb_node::NodeCore;
@@ -90,23 +91,27 @@ pub(crate) fn difference_of(
 }
 
 /// The delta by which a node marks its own name as that of another node too: a block without entries, from its own held version
-/// to the next. `NoMemory`; `TurnsSpent` if there is no next version.
+/// to the next. `TurnsSpent` if there is no next version; `NoMemory`.
+#[tactic(auto, using(crate::proofs::Refusing::version_spent, crate::proofs::Refusing::version_left, crate::proofs::Refusing::version_memory))]
 pub(crate) fn mark_of(alloc: Global, core: &NodeCore) -> Result<Delta, Fault>
     ensures mark { IfOk result (λ delta. delta ≡ spec.mark_of core.now.node ∷ []) }
+    ensures left { OnOk result (spec.version_due core.now.node ≡ Ok tt) }
+    ensures refused { IfErr result (Refuses (spec.version_due core.now.node)) }
     ensures fault { IfErr result IsRefusal }
 {
     let me = *core.name();
     let held = core.upto(&me);
-    let Some(next) = held.checked_add(1) else {
+    if held == u64::MAX {
         return Err(Fault::TurnsSpent);
-    };
+    }
     let mut blocks = Vec::with_capacity(alloc, 1)?;
-    match Block::new(me, 0, held, next, Vec::new(alloc)) {
+    match Block::new(me, 0, held, held + 1, Vec::new(alloc)) {
         Ok(block) => blocks.push(block)?,
-        Err(_) => return Err(Fault::TurnsSpent),
+        // Never: these are the parts of a block, and it is short.
+        Err(_) => return Err(Fault::NoMemory),
     }
     match Delta::new(blocks) {
         Ok(delta) => Ok(delta),
-        Err(_) => Err(Fault::TurnsSpent),
+        Err(_) => Err(Fault::NoMemory),
     }
 }

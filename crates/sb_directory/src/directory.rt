@@ -15,7 +15,7 @@ ghost use Rattle.sb_watch.specs.declared.note.Polled.TheVariants as answers;
 ghost use Rattle.sb_watch.specs.declared.note.Note.{Note};
 ghost use Rattle.sb_watch.specs.Records.{Hub};
 ghost use Rattle.sb_watch.specs.Hubs.{new_hub, has_watch, answer_at, with_answer};
-ghost use Rattle.sb_directory.specs.Audits.{Audits};
+ghost use Rattle.sb_directory.specs.Audits.{Audits, RefusesMark};
 ghost use Rattle.sb_directory.specs.Purging as purging;
 ghost use Rattle.sb_directory.specs.Seats as spec;
 ghost use Rattle.sb_directory.specs.Serving.{AnswersAfter};
@@ -234,7 +234,7 @@ impl<S: DirectoryTag, R: Wait + Drop> Directory<S, R> {
     /// from the own held version to the next. This enters nothing, and the version of the conflict is that next one. Its faults, which
     /// change nothing but the seat's last call:
     ///
-    /// - `TurnsSpent` after 2^64 - 1 events, or if the own held version is 2^64 - 1.
+    /// - `TurnsSpent` after 2^64 - 1 events, or if the own held version is 2^64 - 1. A name that is in conflict has neither.
     /// - `NoMemory`.
     ///
     /// Each entry of the block takes two look-ups, and so does each own entry in its range.
@@ -246,6 +246,7 @@ impl<S: DirectoryTag, R: Wait + Drop> Directory<S, R> {
     ) -> Result<Option<Difference>, Fault>
         ensures audits { IfOk result (λ found. Audits S.opening block.now seat.old found seat.new) }
         ensures disputed { IfOk result (λ found. IfSome found (λ _. IsSome (node_after S.opening seat.new.last_call).conflict)) }
+        ensures refused { IfErr result (RefusesMark S.opening seat.new.last_call) }
         ensures fault { IfErr result IsRefusal }
         ensures still { result ≡ Ok None → seat.new ≡ spec.with_last_call seat.old seat.new.last_call }
         ensures begins { OnErr result (spec.Begins seat.new.last_call seat.old) }

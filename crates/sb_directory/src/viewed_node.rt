@@ -285,6 +285,7 @@ impl<S: DirectoryTag, R: Wait + Drop> ViewedNode<S, R> {
         ensures disputed { IfOk result (λ found. IfSome found (λ _. IsSome (node_after S.opening seat.new.last_call).conflict)) }
         ensures none { result ≡ Ok None → self.new ≡ self.old }
         ensures err { OnErr result (self.new ≡ self.old) }
+        ensures refused { IfErr result (audits.RefusesMark S.opening self.old.history) }
         ensures fault { IfErr result IsRefusal }
         ensures still { result ≡ Ok None → seat.new ≡ spec.with_last_call seat.old self.old.history }
         ensures seat { OnErr result (seat.new ≡ spec.with_last_call seat.old self.old.history) }
@@ -311,6 +312,7 @@ impl<S: DirectoryTag, R: Wait + Drop> ViewedNode<S, R> {
         ensures count { OnOk result (seat.new.events ≡ seat.old.events + length (audits.marking_unless (node_after S.opening self.old.history) (node_after S.opening self.old.history).conflict)) }
         ensures disputed { OnOk result (IsSome (node_after S.opening seat.new.last_call).conflict) }
         ensures err { OnErr result (self.new ≡ self.old) }
+        ensures refused { IfErr result (audits.RefusesMark S.opening self.old.history) }
         ensures fault { IfErr result IsRefusal }
         ensures seat { OnErr result (seat.new ≡ spec.with_last_call seat.old self.old.history) }
         ensures begins { spec.Begins self.old.history seat.old }
