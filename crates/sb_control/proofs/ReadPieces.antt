@@ -1,11 +1,11 @@
 -- What one read of a request brings.
-use Rattle.std.proofs.Common.{◌≡◌, ℕ, true, false, List, ◌++◌, Option, Err, ap}
+use Rattle.std.proofs.Common.{◌≡◌, ℕ, true, false, List, ◌++◌, Option, None, Ok, Err, inl, inr, refl, sym, ap, subst}
 use Rattle.sb_types.specs.declared.fault.Fault.{Fault}
-use Rattle.sb_types.specs.declared.fault.Fault.TheVariants.{ReadFailed, TurnsSpent}
+use Rattle.sb_types.specs.declared.fault.Fault.TheVariants.{ReadFailed, Truncated, TurnsSpent}
 use Rattle.sb_frames.specs.Frames.{bad, front_of}
 use Rattle.sb_frames.specs.Streams.{Stream, open_with, shut}
 use Rattle.sb_frames.specs.Receiving.{is_frame_fault, Stops, is_bad, no_memory, read_failed, cut_short, turns_spent, Receives}
-use Rattle.sb_control.specs.Pieces.{HasGrown}
+use Rattle.sb_control.specs.Pieces.{HasGrown, FailsPiece}
 
 -- only the five faults of frames are of the bytes
 abbrev pub AreOfFrames : Type 0
@@ -34,3 +34,13 @@ has_waited are fault old new from to before left is call = has_grown are fault o
 pub has_missed : AreOfFrames → (fault : Fault) (old new : Stream) (from to : Option (List ℕ)) (before left : ℕ)
     → Receives old new from to before left (Err fault) → fault ≡ ReadFailed → HasGrown old new from to
 has_missed are fault old new from to before left call is = has_grown are fault old new from to before left (ap is_frame_fault is) call
+
+-- the bytes ended before the request
+pub fails_at_end : (old new : Stream) (from to : Option (List ℕ)) (before rest : ℕ) → Receives old new from to 1 rest (Ok None) → FailsPiece old new from to before Truncated
+fails_at_end old new from to before rest call = inr (inl (refl, (rest, call)))
+
+-- the call met this fault
+pub fails_with : (old new : Stream) (from to : Option (List ℕ)) (before rest : ℕ) (given fault : Fault) → given ≡ fault → Receives old new from to 1 rest (Err fault)
+    → FailsPiece old new from to before given
+fails_with old new from to before rest given fault is call =
+    inr (inr (rest, subst (λ (met : Fault). Receives old new from to 1 rest (Err met)) (sym is) call))

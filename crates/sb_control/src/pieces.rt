@@ -1,6 +1,6 @@
 //! A request that comes in pieces.
-ghost use Rattle.std.specs.Prelude.{◌+◌, ◌≤◌};
-ghost use Rattle.sb_control.specs.Pieces.{ReadsPiece};
+ghost use Rattle.std.specs.Prelude.{◌+◌, ◌≤◌, IfErr};
+ghost use Rattle.sb_control.specs.Pieces.{ReadsPiece, FailsPiece};
 
 use crate::request::ControlRequest;
 use sb_frames::{Frames, Steps, faults_are_of_the_bytes, receive};
@@ -18,6 +18,8 @@ pub fn read_piece<R: Read, K: Ledger>(
     steps: &mut Steps<K>,
 ) -> Result<Option<ControlRequest>, Fault>
     ensures reads { ReadsPiece frames.old frames.new (R.remaining reader.old) (R.remaining reader.new) result }
+    // What came is no reason for a fault unless it is one for `receive`.
+    ensures faults { IfErr result (FailsPiece frames.old frames.new (R.remaining reader.old) (R.remaining reader.new) left.old) }
     ensures counted { steps.new + left.new ≤ steps.old + left.old }
 {
     faults_are_of_the_bytes();
