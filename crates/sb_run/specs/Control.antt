@@ -60,6 +60,11 @@ IsPageReply opening budget before ask after reply =
     (IsPrefix before.seen after.seen × (after.last_call ≡ before.last_call) × (after.events ≡ before.events) × IsLookedUp opening budget after.seen ask reply)
     ⊎ ((after ≡ before) × (reply ≡ kinds.Refused (number_of NoMemory)))
 
+-- a page or a refusal answers the question, and it is written: all of it, or its first bytes
+abbrev pub AnswersAsk : Node → ℕ → Seat → asking.Ask → Seat → Option (List ℕ) → Option (List ℕ) → Type 0
+AnswersAsk opening budget before ask after from to =
+    (reply : Message) × IsPageReply opening budget before ask after reply × ((sent : Result (Unit {0}) Fault) × Sends from to (frame reply) sent)
+
 -- any other message is none that is answered here
 abbrev pub IsUnknown : Message → Type 0
 IsUnknown reply = reply ≡ kinds.Refused 13

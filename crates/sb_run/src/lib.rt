@@ -106,6 +106,8 @@
 //! - Workers give a session another limit of reads, or `run_node` gives them another. `tools/check-node` refuses
 //!   more reads.
 //! - A worker asks the gate for another session than its own. `a_session_waits_for_another` refuses it.
+//! - A worker writes something before or after `answer_counted`, or the owner's thread before or after `write_answer`.
+//!   The tests of `sb_run` and `tools/check-node` refuse it.
 //! - `serve_control` answers each question with the number of `Closed`. No clause promises that a seat may enter.
 //!   Tests and `tools/check-node` refuse it.
 //! - The status of a node has a wrong uptime, or counts its owners, rows, busy workers or troubles wrongly. Clauses cover

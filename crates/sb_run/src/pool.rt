@@ -2,6 +2,7 @@
 ghost use Rattle.std.specs.Prelude.{◌≡◌, ◌+◌, ◌<◌, ◌≤◌, length, IfSome, IfNone, IfOk, IsOk};
 ghost use Rattle.std.specs.Thread.{IsSend};
 ghost use Rattle.sb_handlers.specs.Gates.{IsShut, AreShut};
+ghost use Rattle.sb_run.specs.Control.{AnswersAsk};
 ghost use Rattle.sb_run.specs.Hellos.{Greets};
 ghost use Rattle.sb_directory.specs.Serving.{IsLater};
 ghost use Rattle.sb_run.specs.Pools.{IsKept, AreKept};
@@ -139,19 +140,19 @@ impl<S: DirectoryTag, H: Wait + Drop, Q: Wait> Serving<'_, S, H, Q> {
         seat
     }
 
-    /// Answers a question, and counts whether that ended with a fault.
-    fn answer_counted<O: Write + Drop>(
+    /// Answers a question, and counts whether that ended with a fault. The answer is all that it writes.
+    fn answer_counted<O: Write>(
         &self,
         tally: &Tally,
         ask: &Ask,
-        output: O,
+        output: &mut O,
         seat: ReaderSeat<S>,
     ) -> ReaderSeat<S>
+        ensures answers { AnswersAsk S.opening S.settings.budget seat ask.now result (O.contents output.old) (O.contents output.new) }
         ensures later { IsLater seat result }
         ensures entered { IsLooking seat result }
     {
-        let mut output = output;
-        let (seat, sent) = self.answer_ask(&mut output, seat, ask);
+        let (seat, sent) = self.answer_ask(output, seat, ask);
         if sent.is_err() {
             tally.faults.fetch_add(1, Ordering::SeqCst);
         }
@@ -182,7 +183,10 @@ impl<S: DirectoryTag, H: Wait + Drop, Q: Wait> Serving<'_, S, H, Q> {
                     Blank::new(1),
                 )
             }
-            Taken::Question(ask, output) => self.answer_counted(tally, &ask, output, seat),
+            Taken::Question(ask, output) => {
+                let mut output = output;
+                self.answer_counted(tally, &ask, &mut output, seat)
+            }
         }
     }
 
