@@ -173,10 +173,22 @@ names_too owner cluster old mid read db all kept none names =
 
 -- ---- what is accepted is raised, and cleared
 
-module _ (form : ℕ) (owner cluster : List ℕ) (last floor : ℕ) (metas rows : List Row) (named : IsNamedIn form owner cluster last floor metas) where
+module _ (form : ℕ) (owner cluster : List ℕ) (last floor : ℕ) (metas rows : List Row) (named : IsNamedIn form owner cluster last floor metas)
+    (t : Table) (are : AreRowsOf t rows) (fits : IsFormOf form t) (can : CanSay last floor t.entries) where
   pub raised_in : (db : Trees) → (form ≡ 1) × IsSound log_schema db × (db 1 ≡ rows) × IsNamedIn newest_form owner cluster last floor (db 0) → IsRaised owner cluster metas rows db
   raised_in db did =
-      record { last = last; floor = floor; older = subst (λ (n : ℕ). IsNamedIn n owner cluster last floor metas) did.0 named; sound = did.1; meta = did.3; same = did.2 }
+      record {
+        last = last;
+        floor = floor;
+        table = t;
+        was = are;
+        fits = subst (λ (n : ℕ). IsFormOf n t) did.0 fits;
+        can = can;
+        older = subst (λ (n : ℕ). IsNamedIn n owner cluster last floor metas) did.0 named;
+        sound = did.1;
+        meta = did.3;
+        same = did.2;
+      }
 
   pub cleared_in : (mid db : Trees) → mid 1 ≡ rows → IsNamedIn newest_form owner cluster last floor (mid 0) → IsSound log_schema db × (Drops floor (mid 1) (db 1) × (db 0 ≡ mid 0)) → IsCleared owner cluster metas rows db
   cleared_in mid db same raised did =
@@ -184,6 +196,10 @@ module _ (form : ℕ) (owner cluster : List ℕ) (last floor : ℕ) (metas rows 
         form = form;
         last = last;
         floor = floor;
+        table = t;
+        was = are;
+        fits = fits;
+        can = can;
         said = named;
         sound = did.0;
         meta = subst (IsNamedIn newest_form owner cluster last floor) (sym did.1.1) raised;

@@ -108,26 +108,34 @@ pub record Names (owner cluster : List ℕ) (found : Database) (db : Trees) : Ty
   pub meta : IsNamedIn newest_form owner cluster 0 0 (db 0)
   pub rows : db 1 ≡ writes_found made found.trees
 
--- the owner's log of these rows, which was of form 1, is of form 2
+-- the owner's log of these rows, which was whole and of form 1, is of form 2
 pub record IsRaised (owner cluster : List ℕ) (metas rows : List Row) (db : Trees) : Type 0 where
   pub last : ℕ
   pub floor : ℕ
+  pub table : Table
+  pub was : AreRowsOf table rows
+  pub fits : IsFormOf 1 table
+  pub can : CanSay last floor table.entries
   pub older : IsNamedIn 1 owner cluster last floor metas
   pub sound : IsSound log_schema db
   pub meta : IsNamedIn newest_form owner cluster last floor (db 0)
   pub same : db 1 ≡ rows
 
--- the owner's log of these rows has none of removals up to the floor that it says, and is of form 2
+-- the owner's log of these rows, which was whole, has none of removals up to the floor that it says, and is of form 2
 pub record IsCleared (owner cluster : List ℕ) (metas rows : List Row) (db : Trees) : Type 0 where
   pub form : ℕ
   pub last : ℕ
   pub floor : ℕ
+  pub table : Table
+  pub was : AreRowsOf table rows
+  pub fits : IsFormOf form table
+  pub can : CanSay last floor table.entries
   pub said : IsNamedIn form owner cluster last floor metas
   pub sound : IsSound log_schema db
   pub meta : IsNamedIn newest_form owner cluster last floor (db 0)
   pub left : Drops floor rows (db 1)
 
--- an owner's log of these rows was accepted, in part or in whole
+-- an owner's log of these rows, which was whole, was accepted, in part or in whole
 abbrev pub IsAccepted : List ℕ → List ℕ → List Row → List Row → Trees → Type 0
 IsAccepted owner cluster metas rows db = IsRaised owner cluster metas rows db ⊎ IsCleared owner cluster metas rows db
 

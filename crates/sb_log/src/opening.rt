@@ -178,6 +178,7 @@ fn accept_from<S: Alter>(
     ensures meta { AfterReady S.Store conn.old conn.new (λ old new. IsForm form → (last : ℕ) (owner cluster : List ℕ) → IsNamedIn form owner cluster last floor (old.now.trees 0)
         → OnOk result (IsNamedIn newest_form owner cluster last floor (new.now.trees 0))) }
     ensures crash { AfterReady S.Store conn.old conn.new (λ old new. IsForm form → (last : ℕ) (owner cluster : List ℕ) → IsNamedIn form owner cluster last floor (old.now.trees 0)
+        → (t : records.Table) → AreRowsOf t (old.now.trees 1) → IsFormOf form t → CanSay last floor t.entries
         → Leaves old new (IsAccepted owner cluster (old.now.trees 0) (old.now.trees 1))) }
     ensures clean { KeepsDoubt S.Store conn.old conn.new }
 {

@@ -44,7 +44,9 @@ returns-in-Ok-clause-crash g c clean ready one db left =
     let clean1 : HasCleanDisk mid = was_clean _ _ clean c.accept_from.ensures.clean in
     let ready1 = c.in_ok-found.ensures.ready clean1 ready tt in
     let named = ap (λ (d : Database). map meta_cells (d.trees 0)) ready1.1 ∙ one ∙ ap (λ (r : Row). r ∷ []) c.in_ok-meta.ensures.row in
-    elim (c.in-Ok.ensures.crash clean ready1.0 c.in_ok-meta.ensures.form m.last c.args.owner.now c.args.cluster.now named db left) [
+    let are = subst (λ (d : Database). AreRowsOf found (d.trees 1)) (sym ready1.1) (c.in_ok-found.ensures.rows clean1 ready) in
+    let fits = c.in_ok-found.ensures.form c.in_ok-meta.ensures.form in
+    elim (c.in-Ok.ensures.crash clean ready1.0 c.in_ok-meta.ensures.form m.last c.args.owner.now c.args.cluster.now named found are fits c.in_ok-table.ensures.can db left) [
       | inl was ↦ inl (c.read_whole.ensures.crash clean1 ready db was)
       | inr did ↦ inr (subst (λ (d : Database). IsRaised c.args.owner.now c.args.cluster.now (d.trees 0) (d.trees 1) db ⊎ IsCleared c.args.owner.now c.args.cluster.now (d.trees 0) (d.trees 1) db) ready1.1 did)
     ]
@@ -57,7 +59,9 @@ returns-in-Err-clause-crash g c clean ready one db left =
     let clean1 : HasCleanDisk mid = was_clean _ _ clean c.accept_from.ensures.clean in
     let ready1 = c.in_ok-found.ensures.ready clean1 ready tt in
     let named = ap (λ (d : Database). map meta_cells (d.trees 0)) ready1.1 ∙ one ∙ ap (λ (r : Row). r ∷ []) c.in_ok-meta.ensures.row in
-    elim (c.in-Err.ensures.crash clean ready1.0 c.in_ok-meta.ensures.form m.last c.args.owner.now c.args.cluster.now named db left) [
+    let are = subst (λ (d : Database). AreRowsOf found (d.trees 1)) (sym ready1.1) (c.in_ok-found.ensures.rows clean1 ready) in
+    let fits = c.in_ok-found.ensures.form c.in_ok-meta.ensures.form in
+    elim (c.in-Err.ensures.crash clean ready1.0 c.in_ok-meta.ensures.form m.last c.args.owner.now c.args.cluster.now named found are fits c.in_ok-table.ensures.can db left) [
       | inl was ↦ inl (c.read_whole.ensures.crash clean1 ready db was)
       | inr did ↦ inr (subst (λ (d : Database). IsRaised c.args.owner.now c.args.cluster.now (d.trees 0) (d.trees 1) db ⊎ IsCleared c.args.owner.now c.args.cluster.now (d.trees 0) (d.trees 1) db) ready1.1 did)
     ]
