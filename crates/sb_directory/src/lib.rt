@@ -77,6 +77,8 @@
 //!   lock.
 //! - Two threads do not take turns. No clause can state it.
 //! - `Directory::audit` answers for a past moment, as above, or marks the name twice. Private clauses and tests refuse it.
+//! - `Directory::audit` reports `TurnsSpent` for a block without a difference, once no event or no version is left. Nothing
+//!   refuses it.
 //! - A call that takes the lock never returns. The clauses hold if it returns, and tests end.
 #![tactic(auto)]
 

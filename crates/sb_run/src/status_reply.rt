@@ -138,12 +138,7 @@ impl<S: RoundsTag, H: Wait + Drop, Q: Wait + Clock> NodeContext<'_, S, H, Q> {
     }
 
     /// All that the node reports of itself: of what it holds, of its peers, why its log takes no writes, and what its threads counted.
-    fn facts(
-        &self,
-        held: &HeldCounts,
-        report: &PeersReport,
-        log_cause: Option<LogCause>,
-    ) -> Facts
+    fn facts(&self, held: &HeldCounts, report: &PeersReport, log_cause: Option<LogCause>) -> Facts
         ensures held { (result.version ≡ held.now.version) × (result.keys ≡ held.now.keys) × (result.conflict ≡ held.now.conflict) }
         ensures rows { (result.rows ≡ held.now.rows) × (result.owners ≡ held.now.owners) }
         ensures rounds { result.rounds ≡ report.now.counts }
