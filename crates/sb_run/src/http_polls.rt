@@ -8,6 +8,7 @@ ghost use Rattle.sb_run.specs.HttpReads.{IsPolled};
 use crate::accepting::deadline_after;
 use crate::control::look_up;
 use crate::dialer::{RoundsTag, has_come};
+use crate::http_caller::HttpCaller;
 use crate::threads::NodeContext;
 use sb_codec::Ask;
 use sb_directory::{DirectoryWatch, EnteredSeat, ReaderSeat};
@@ -21,11 +22,18 @@ use std::sync::Wait;
 use std::thread;
 use std::time::{Clock, Duration, Instant};
 
-/// After how long a poll that waits looks whether something changed, in milliseconds.
+/// After how long a poll that waits looks whether something changed, and whether its caller is still there, in milliseconds.
 const CHANGE_PAUSE: u64 = 5;
 
 /// How many notes the watch of a poll has room for: one says that something changed.
 const NOTES_OF_ONE: usize = 1;
+
+/// How long a poll waits: until this moment at most, and while its caller is there.
+#[derive(Drop)]
+struct PollWait<'c> {
+    until: Option<Instant>,
+    caller: &'c HttpCaller,
+}
 
 /// The hash of the owner, the key and the version of each row.
 fn hash_of(keys: RandomState, rows: LiveRows<'_>) -> u64
@@ -106,15 +114,19 @@ impl<S: RoundsTag, H: Wait + Drop, Q: Wait + Clock> NodeContext<'_, S, H, Q> {
         }
     }
 
-    /// Whether a poll waits no longer: its time is over, or the node is to end.
-    fn has_waited(&self, until: Option<Instant>) -> bool {
-        until.is_none() || has_come(self.rt, until) || self.ending.is_raised()
+    /// Whether a poll waits no longer: its time is over, the node is to end, or its caller has left.
+    fn has_waited(&self, wait: &PollWait<'_>) -> bool {
+        let until = wait.until;
+        until.is_none()
+            || has_come(self.rt, until)
+            || self.ending.is_raised()
+            || wait.caller.has_left()
     }
 
-    /// Waits until something changed that a watch is for, until this moment, or until the node is to end.
-    fn await_change(&self, watch: &DirectoryWatch<S>, until: Option<Instant>) {
+    /// Waits until something changed that a watch is for, or until the poll waits no longer.
+    fn await_change(&self, watch: &DirectoryWatch<S>, wait: &PollWait<'_>) {
         for _ in self.rt.forever() {
-            if self.has_waited(until) {
+            if self.has_waited(wait) {
                 return;
             }
             // What has no memory to be published is waited for.
@@ -126,15 +138,15 @@ impl<S: RoundsTag, H: Wait + Drop, Q: Wait + Clock> NodeContext<'_, S, H, Q> {
         }
     }
 
-    /// Looks from a seat. If these are the rows that were seen, it then waits until one of them changes, or until this moment. The
-    /// faults of `watch`; `NoMemory`, also if the seat cannot enter.
+    /// Looks from a seat. If these are the rows that were seen, it then waits until one of them changes, or until the poll waits no
+    /// longer. The faults of `watch`; `NoMemory`, also if the seat cannot enter.
     fn look_and_wait(
         &self,
         keys: RandomState,
         seat: ReaderSeat<S>,
         ask: &Ask,
         seen: Key,
-        until: Option<Instant>,
+        wait: &PollWait<'_>,
     ) -> (ReaderSeat<S>, Result<MarkedReply, Fault>)
         ensures polled { IfOk result.1 (λ found. IsPolled S.opening S.settings.budget keys seat ask.now result.0 found.reply found.mark) }
         ensures later { IsLater seat result.0 }
@@ -150,28 +162,28 @@ impl<S: RoundsTag, H: Wait + Drop, Q: Wait + Clock> NodeContext<'_, S, H, Q> {
         };
         let (seat, found) = self.look_from_seat(keys, seat, ask);
         if shows(&found, seen) {
-            self.await_change(&watch, until);
+            self.await_change(&watch, wait);
         }
         let _ = self.directory.unwatch(self.rt, &watch);
         (seat, found)
     }
 
-    /// Looks after each change, until the rows are others than those that were seen, or until this moment.
+    /// Looks after each change, until the rows are others than those that were seen, or until the poll waits no longer.
     fn look_until(
         &self,
         keys: RandomState,
         seat: ReaderSeat<S>,
         ask: &Ask,
         seen: Key,
-        until: Option<Instant>,
+        wait: &PollWait<'_>,
     ) -> (ReaderSeat<S>, Result<MarkedReply, Fault>)
         ensures polled { IfOk result.1 (λ found. IsPolled S.opening S.settings.budget keys seat ask.now result.0 found.reply found.mark) }
         ensures later { IsLater seat result.0 }
     {
         let mut current = seat;
         for _ in self.rt.forever() {
-            let (next, found) = self.look_and_wait(keys, current, ask, seen, until);
-            if !shows(&found, seen) || self.has_waited(until) {
+            let (next, found) = self.look_and_wait(keys, current, ask, seen, wait);
+            if !shows(&found, seen) || self.has_waited(wait) {
                 return (next, found);
             }
             current = next;
@@ -179,7 +191,8 @@ impl<S: RoundsTag, H: Wait + Drop, Q: Wait + Clock> NodeContext<'_, S, H, Q> {
         unreachable!()
     }
 
-    /// Answers a poll, with marks by these keys. One without a mark, or without time, looks once. Its faults, in this order:
+    /// Answers a poll of this caller, with marks by these keys. One without a mark, or without time, looks once. If the caller leaves,
+    /// the poll gives its place back, and its answer is the last page. Its faults, in this order:
     ///
     /// - `TurnsSpent` if too many wait.
     /// - The faults of `watch`.
@@ -190,17 +203,21 @@ impl<S: RoundsTag, H: Wait + Drop, Q: Wait + Clock> NodeContext<'_, S, H, Q> {
         seat: ReaderSeat<S>,
         ask: &Ask,
         patience: &Patience,
+        caller: &HttpCaller,
     ) -> (ReaderSeat<S>, Result<MarkedReply, Fault>)
         ensures polled { IfOk result.1 (λ found. IsPolled S.opening S.settings.budget keys seat ask.now result.0 found.reply found.mark) }
         ensures later { IsLater seat result.0 }
     {
-        let until = deadline_after(self.rt, patience.seconds.saturating_mul(1_000));
+        let wait = PollWait {
+            until: deadline_after(self.rt, patience.seconds.saturating_mul(1_000)),
+            caller,
+        };
         match patience.seen {
             Some(seen) if patience.seconds > 0 => {
                 if !self.desk.take_poll() {
                     return (seat, Err(Fault::TurnsSpent));
                 }
-                let (seat, found) = self.look_until(keys, seat, ask, seen, until);
+                let (seat, found) = self.look_until(keys, seat, ask, seen, &wait);
                 self.desk.leave_poll();
                 (seat, found)
             }

@@ -7,6 +7,7 @@ ghost use Rattle.sb_run.specs.HttpReads.{AnswersQuestion, AreOwnersAfter, AreOwn
 use crate::control::{refused_by, reply_to_ask};
 use crate::dialer::{Dialing, RoundsTag};
 use crate::heard::age_of;
+use crate::http_caller::HttpCaller;
 use crate::http_socket::HttpSocket;
 use crate::observer::Observer;
 use crate::sockets::{Timed, limit};
@@ -48,6 +49,8 @@ const ACCEPT_PAUSE: u64 = 20;
 pub(crate) struct SeatBackend<'a, 'n, 'd, S: RoundsTag, H: Wait + Drop, Q, O> {
     node: &'a NodeContext<'n, S, H, Q>,
     dialing: &'a Dialing<'d, O>,
+    /// Who asks.
+    caller: &'a HttpCaller,
     seat: ReaderSeat<S>,
     /// Those of the marks that polls get.
     keys: RandomState,
@@ -143,6 +146,7 @@ impl<S: RoundsTag, H: Wait + Drop, Q: Wait + Clock, O: Observer> SeatBackend<
         let SeatBackend {
             node: _,
             dialing: _,
+            caller: _,
             seat,
             keys: _,
         } = self;
@@ -176,11 +180,11 @@ impl<S: RoundsTag, H: Wait + Drop, Q: Wait + Clock, O: Observer> Backend
     fn poll(&mut self, ask: &Ask, patience: &Patience) -> Result<MarkedReply, Fault> {
         replace_with(
             &mut self.seat,
-            (self.node, self.keys, ask, patience),
-            |seat, (node, keys, ask, patience)| -> (ReaderSeat<S>, Result<MarkedReply, Fault>)
+            (self.node, self.keys, ask, patience, self.caller),
+            |seat, (node, keys, ask, patience, who)| -> (ReaderSeat<S>, Result<MarkedReply, Fault>)
                 ensures polled { IfOk result.1 (λ found. IsPolled S.opening S.settings.budget keys seat ask.entry.now result.0 found.reply found.mark) }
                 ensures later { IsLater seat result.0 }
-            { node.poll(keys, seat, ask, patience) },
+            { node.poll(keys, seat, ask, patience, who) },
         )
     }
 
@@ -256,12 +260,16 @@ impl<S: RoundsTag, H: Wait + Drop, Q: Wait + Clock> NodeContext<'_, S, H, Q> {
         stream: UnixStream,
         seat: ReaderSeat<S>,
     ) -> ReaderSeat<S> {
+        let Ok(caller) = HttpCaller::of(&stream) else {
+            return seat;
+        };
         let mut service = HttpService {
             alloc: self.alloc,
             door: socket.door(),
             backend: SeatBackend {
                 node: self,
                 dialing,
+                caller: &caller,
                 seat,
                 keys: socket.keys(),
             },

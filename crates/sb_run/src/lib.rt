@@ -137,6 +137,8 @@
 //! - Over HTTP the owners or the metrics are a fault each time, or the metrics are others. `tools/check-node` refuses it.
 //! - A poll over HTTP answers at once, or only once its time is over. Or each connection makes its marks by other keys.
 //!   `tools/check-node` refuses it.
+//! - A poll over HTTP goes on after its caller hung up, or ends although its caller is there. The tests of `sb_run` and
+//!   `tools/check-node` refuse it.
 //! - `HttpSocket::bind` takes an address that `is_own_port` refuses. Nothing refuses it: `attrdir` asks that before.
 //! - A port counts as a socket, so a request may name any host there. `tools/check-node` refuses it.
 //! - A connection over HTTP has other limits, of bytes or of time. `tools/check-node` refuses it.
@@ -163,6 +165,7 @@ mod facts;
 mod first_hearing;
 mod first_message;
 mod heard;
+mod http_caller;
 mod http_polls;
 mod http_socket;
 mod http_threads;
