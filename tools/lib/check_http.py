@@ -4,6 +4,7 @@ import hashlib
 import json
 import os
 import re
+import select
 import shlex
 import shutil
 import socket
@@ -410,6 +411,64 @@ def http_polls(check):
     want("a poll after a restart", (status, took < 5), (200, True))
 
 
+def bytes_of_poll(mark):
+    return f"GET /v1/rows?wait=60s&seen={mark} HTTP/1.1\r\nHost: localhost\r\n\r\n".encode()
+
+
+def mark_now(place):
+    """The mark of the rows that a node shows."""
+    return place.json("/v1/rows?wait=0s")[1]["seen"]
+
+
+def five_polls(place):
+    """Five callers that ask at once for other rows: those that are answered first, and those that wait then."""
+    content, streams = bytes_of_poll(mark_now(place)), [place.connect() for _ in range(5)]
+    for stream in streams:
+        stream.sendall(content)
+    answered = select.select(streams, [], [], SECONDS)[0]
+    return answered, [it for it in streams if it not in answered]
+
+
+def close_all(streams):
+    for stream in streams:
+        stream.close()
+
+
+def polls_wait(node, place):
+    """Four callers that stay are answered once something changes, and not before."""
+    answered, waiting = five_polls(place)
+    want("who is turned away", [parsed(read_all(it))[0] for it in answered], [503])
+    # (meanwhile a node looks many times whether they left)
+    want("who is answered although nothing changed", select.select(waiting, [], [], 2)[0], [])
+    node.put("k", 6)
+    want("those that waited", [parsed(read_all(it))[0] for it in waiting], 4 * [200])
+    close_all(answered + waiting)
+
+
+def http_leavers(check):
+    """At a socket and at a port a poll frees its place soon after its caller hung up, or is answered if it only ended its writing; others wait on."""
+    if lacks_curl(check):
+        return
+    for at in ("socket", "port"):
+        folder = check.folder()
+        node, place = node_at(check, "a", folder / "a.http" if at == "socket" else free_port(), folder=folder)
+        node.put("k", 5)
+        polls_wait(node, place)
+        for turn in range(3):
+            answered, waiting = five_polls(place)
+            want(f"whether polls wait at a {at}", len(waiting) > 0, True)
+            close_all(answered + waiting)
+            began, statuses = time.monotonic(), []
+            while statuses[-1:] != [200]:
+                statuses.append(place.json(f"/v1/rows?wait=1s&seen={mark_now(place)}")[0])
+                # (without that look they would keep their places for 60 s)
+                if time.monotonic() - began > 15:
+                    raise Difference(f"what polls get at a {at} once four others hung up for the {turn + 1}. time: {statuses}")
+        mark, began = mark_now(place), time.monotonic()
+        status, _, body = place.bytes(bytes_of_poll(mark), ends=True)
+        want(f"a caller at a {at} that only ends its writing", (status, json.loads(body).get("seen"), time.monotonic() - began < 15), (200, mark, True))
+
+
 def http_page(check):
     """The page of a node has its own script and style alone, whose hashes are those of its policy, and no address of elsewhere."""
     if lacks_curl(check):
@@ -628,4 +687,4 @@ def http_examples(check):
         want(f"the example {line}", with_no_ages(found), with_no_ages(wanted) + "\n")
 
 
-PARTS = (http_rows, http_owners, http_writes, http_first_writes, http_health, http_metrics, http_scrape, http_polls, http_page, http_refusals, http_bounds, http_silence, http_crowd, http_places, http_examples)
+PARTS = (http_rows, http_owners, http_writes, http_first_writes, http_health, http_metrics, http_scrape, http_polls, http_leavers, http_page, http_refusals, http_bounds, http_silence, http_crowd, http_places, http_examples)
