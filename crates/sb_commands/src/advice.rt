@@ -51,7 +51,7 @@ fn about_reading(place: FaultPlace<'_>) -> &'static str {
     match place {
         FaultPlace::Silent(_) | FaultPlace::Control(_) | FaultPlace::Node(_) => ASK_AGAIN,
         FaultPlace::Taken(_) => "give another path, or remove the file",
-        FaultPlace::Listening(_) => "end the node that listens there, or give another path",
+        FaultPlace::Listening(_) => "end the program that listens there, or give another path",
         FaultPlace::TooLong(_) | FaultPlace::Peer(_) => SHORTER_PATH,
         FaultPlace::Template(_) => "give the path of a file of UTF-8 that you may read",
         FaultPlace::NoFolder(_) => MAKE_FOLDER,

@@ -147,7 +147,7 @@ pub enum FaultPlace<'a> {
     Session(&'a str),
     /// At the path of a socket that a node makes, because a file is there.
     Taken(&'a str),
-    /// At the path of a socket that a node makes, because another node listens there.
+    /// At the path of a socket that a node makes, because a program listens there.
     Listening(&'a str),
     /// At the path of a socket that a node makes, which is empty or too long for one.
     TooLong(&'a str),
@@ -287,7 +287,7 @@ fn text_of_reading(place: FaultPlace<'_>) -> Option<&'static str> {
             "a socket could not be made: a file that is not a socket is at its path"
         }
         FaultPlace::Listening(_) => {
-            "a socket could not be made: a node listens at its path already"
+            "a socket could not be made: a program listens at its path already"
         }
         FaultPlace::TooLong(_) => {
             "a socket could not be made: its path is empty, or has more than 107 bytes"
