@@ -446,7 +446,7 @@ def polls_wait(node, place):
 
 
 def http_leavers(check):
-    """At a socket and at a port a poll frees its place soon after its caller hung up, or is answered if it only ended its writing; others wait on."""
+    """A poll frees its place soon after its caller hung up, and is answered if that only ended its writing; the others wait on."""
     if lacks_curl(check):
         return
     for at in ("socket", "port"):
