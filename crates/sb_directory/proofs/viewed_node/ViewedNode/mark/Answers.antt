@@ -25,8 +25,8 @@ returns-in_err-mark-clause-refused g c =
     let same : inside.core.node ≡ node_after opening c.note_call.new.self.history = c.self.invariant.0.node ∙ ap (λ (l : ViewedNode). node_after opening l.history) seen in
     let none : inside.core.node.conflict ≡ None = grind (arith, common_steps) in
     λ other. (
-      ap (λ (l : ViewedNode). mark_due_after opening l.history) (sym c.note_call.ensures.same)
-      ∙ refused_mark opening c.note_call.new.self.history inside.core.node same none _ c.in_err-mark.ensures.refused other)
+    ap (λ (l : ViewedNode). mark_due_after opening l.history) (sym c.note_call.ensures.same)
+    ∙ refused_mark opening c.note_call.new.self.history inside.core.node same none _ c.in_err-mark.ensures.refused other)
 
 -- that block is not taken
 pub returns-in-Err-clause-refused : goal.returns-in-Err-clause-refused
@@ -37,5 +37,5 @@ returns-in-Err-clause-refused g c =
     let same : inside.core.node ≡ node_after opening c.note_call.new.self.history = c.self.invariant.0.node ∙ ap (λ (l : ViewedNode). node_after opening l.history) seen in
     let none : inside.core.node.conflict ≡ None = grind (arith, common_steps) in
     λ other. (
-      ap (λ (l : ViewedNode). mark_due_after opening l.history) (sym c.note_call.ensures.same)
-      ∙ refused_delta opening c.note_call.new.self.history inside.core.node same none _ c.in_ok-mark.ensures.left c.in-Err.ensures.refused other)
+    ap (λ (l : ViewedNode). mark_due_after opening l.history) (sym c.note_call.ensures.same)
+    ∙ refused_delta opening c.note_call.new.self.history inside.core.node same none _ c.in_ok-mark.ensures.left c.in-Err.ensures.refused other)
