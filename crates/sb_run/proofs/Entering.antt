@@ -1,4 +1,4 @@
--- What a session enters from a seat, over the steps of the handler that it asks.
+-- What a session enters from a seat, and what it sends, over the steps of the handler that it asks.
 use Rattle.std.proofs.Common.{◌≡◌, ℕ, ◌+◌, ◌==◌, Bool, true, false, List, [], ◌∷◌, ◌++◌, length, take, Option, Some, None, Result, Ok, Err, ⊎_elim, refl, sym, ap, subst, ◌∙◌}
 use Rattle.std.proofs.Math.Seq.{take-append_seam}
 use Rattle.std.specs.List.{flat_map}
@@ -19,7 +19,7 @@ use Rattle.sb_session.specs.declared.replies.Replies.TheVariants as replies
 use Rattle.sb_session.specs.declared.talk.Ended.{Ended}
 use Rattle.sb_session.specs.Handlers.{Act, tells, gives, applies, may_enter}
 use Rattle.sb_session.specs.Received.{delta_in}
-use Rattle.sb_session.specs.Sessions.{Session, refusal_of}
+use Rattle.sb_session.specs.Sessions.{Session, new_session, refusal_of}
 use Rattle.sb_session.specs.Taking.{RefusesEither, AnswersDigest, Applies, TakesUp, TakesUnless, Takes, AsksWith, AsksIn, Asks}
 use Rattle.sb_session.specs.Talks.{Party, party_of, Move, hears, speaks, heard_in, SpeaksOn, Speaks, Moves, Refuses, Run, Course, Ends, at_end, at_bye, at_rounds, at_reading, at_message, at_speaking, at_writing, TalksFrom, Talks}
 use Rattle.sb_views.specs.declared.event.Event.{Event}
@@ -35,6 +35,8 @@ use Rattle.sb_handlers.specs.Deferring.{DeferringStep, Notes, deferring-nothing}
 use Rattle.sb_handlers.specs.Gates.{IsShut, GatedStep}
 use Rattle.sb_handlers.proofs.LeavingOut.{forgetting_applies, gated_applies}
 use Rattle.sb_run.specs.Entering.{Enters, EntersAny, EntersAll, HearsFrom, Hears, HearsInput, IsLooking, Served, ServesEach, ServesOnly, EachServes}
+use Rattle.sb_run.specs.Sending.{AnsweredSo, SendsAnswers}
+use Rattle.sb_run.proofs.Sending.{serves_gave, serves_told, defers_gave, session_sends}
 
 -- ---- a seat that stayed still before
 
@@ -360,6 +362,43 @@ module _ {A B C G W : Type 0} (first : A) (forgotten : A → W) (names_of : W �
   session_enters rounds session last old new result talks names before after forgot from to =
       session_hears Forgetting rounds session first last old new result talks seat_of named (λ a b act step. ap names_of step.0) none_still delta_entered
       names before after forgot from to
+
+  -- ---- what it sends
+
+  last_call_grows : (a b : A) (act : Act) → Forgetting a act b → IsPrefix (seat_of a).last_call (seat_of b).last_call
+  last_call_grows a b (tells from want answer) step = (none_still a b (tells from want answer) refl step).last_call
+  last_call_grows a b (gives theirs answer) step = (none_still a b (gives theirs answer) refl step).last_call
+  last_call_grows a b (applies blocks (Err fault)) step = (none_still a b (applies blocks (Err fault)) refl step).last_call
+  last_call_grows a b (applies blocks (Ok ends)) step =
+      let entered = delta_entered a b blocks ends step in
+      prefix_trans (seat_of a).last_call entered.history (seat_of b).last_call entered.begins.last_call
+      (Applied (kept_blocks (named a) blocks) entered.ends ∷ [], sym entered.last_call)
+
+  delta_given : (a b : A) (theirs : digests.Digest) (blocks : List Block) → Forgetting a (gives theirs (Ok blocks)) b
+      → AnsweredSo opening settings (seat_of b).last_call (kinds.Delta blocks)
+  delta_given a b theirs blocks step =
+      let passed : Passes (gated a) (gives theirs (Ok blocks)) (gated b) = ⊎_elim (λ own. own.1) (λ out. absurd out) step.1 in
+      let inner : Within (deferring (gated a)) (gives theirs (Ok blocks)) (deferring (gated b)) = ⊎_elim (λ own. own.1) (λ turned. absurd cc (turned.0.0)) passed.2 in
+      defers_gave (offers (deferring (gated a))) (Serves opening settings) theirs (seat_of b) blocks (AnsweredSo opening settings (seat_of b).last_call (kinds.Delta blocks))
+      (λ mid copy served. serves_gave opening settings mid (seat_of b) copy blocks served) (seat_of a) inner.0
+
+  digest_told : (a b : A) (from : Option (List ℕ)) (want : Bool) (digest : digests.Digest) → Forgetting a (tells from want (Ok digest)) b
+      → AnsweredSo opening settings (seat_of b).last_call (kinds.Digest digest)
+  digest_told a b from want digest step =
+      let passed : Passes (gated a) (tells from want (Ok digest)) (gated b) = ⊎_elim (λ own. own.1) (λ out. absurd out) step.1 in
+      let inner : Within (deferring (gated a)) (tells from want (Ok digest)) (deferring (gated b)) = ⊎_elim (λ own. own.1) (λ turned. absurd (turned.0)) passed.2 in
+      serves_told opening settings (seat_of a) (seat_of b) from want digest inner.0
+
+  -- a session of it sends the node's answers alone
+  pub session_answers : (rounds : Option ℕ) (session : Session) (last : A) (old new : Connection) (result : Result Ended Fault)
+      → Talks Forgetting (party_of true rounds session first) last old new result
+      → session ≡ new_session settings.cluster opening.held.me → (after : Seat) → after ≡ seat_of last → SendsAnswers opening settings after.last_call old.output new.output
+  session_answers rounds session last old new result talks is after to =
+      session_sends Forgetting seat_of opening settings last_call_grows delta_given digest_told rounds session first last old new result talks is
+      (λ course held ends.
+      (ended_rests Forgetting seat_of named (λ a b act step. ap names_of step.0) none_still delta_entered (party_of true rounds session first) course last held old new
+      result ends).1.last_call)
+      after to
 
 -- ---- the sessions of a worker
 

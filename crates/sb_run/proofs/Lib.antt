@@ -16,6 +16,7 @@ pub mod WriteReplies
 pub mod HttpPolls
 pub mod Ages
 pub mod Staged
+pub mod Sending
 pub mod Entering
 pub mod InTurn
 pub mod PeerTurns

@@ -5,6 +5,7 @@ pub mod Hellos
 pub mod Pools
 pub mod Sources
 pub mod Entering
+pub mod Sending
 pub mod Exchanges
 pub mod Arriving
 pub mod Running

@@ -4,6 +4,7 @@ ghost use Rattle.sb_directory.specs.Serving.{IsStill, IsLater};
 ghost use Rattle.sb_run.specs.Entering.{Hears};
 ghost use Rattle.sb_run.specs.Exchanges.{MakesExchanges};
 ghost use Rattle.sb_run.specs.Hellos.{Greets};
+ghost use Rattle.sb_run.specs.Sending.{SendsAnswers};
 ghost use Rattle.sb_run.specs.Turns.{is_answer};
 
 use crate::dialer::RoundsTag;
@@ -110,6 +111,8 @@ impl<S: RoundsTag, H: Wait + Drop, Q: Wait + Clock> NodeContext<'_, S, H, Q> {
         // The seat makes the events of the deltas that came over the connection, in their order, and no other.
         ensures entered { Hears self.now.forgotten.now.names.items connection.old connection.new seat result.0 }
         ensures greets { Greets S.settings.cluster S.opening.held.me connection.old.output connection.new.output }
+        // All that it sends are the node's Hello and its answers: deltas to digests, and digests.
+        ensures says { SendsAnswers S.opening S.settings result.0.last_call connection.old.output connection.new.output }
         ensures rounds { result.1 ≡ Ok Ended.RoundsDone → MakesExchanges exchanges connection.old connection.new }
         ensures reads { connection.new.steps ≤ connection.old.steps + self.now.pace.max_reads }
     {

@@ -100,6 +100,7 @@
 //! - A thread that dials serves a session over bytes of its own, before or after `talk`. Nothing refuses it: contracts do
 //!   not see what a socket gives. A delta has to come out of bytes (`ReceivedDelta`), so no shorter way does it. For workers
 //!   a clause of `serve_pool` refuses it.
+//! - A thread writes something to a peer before its session begins, or after it ended. Tests and `tools/check-node` refuse it.
 //! - The thread that accepts hands a worker other bytes than came first. Tests refuse it.
 //! - `serve_pool` returns all seats and serves nobody, or its sessions make fewer reads than allowed. Tests refuse
 //!   it.

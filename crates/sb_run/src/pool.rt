@@ -8,6 +8,7 @@ ghost use Rattle.sb_directory.specs.Serving.{IsLater};
 ghost use Rattle.sb_run.specs.Pools.{IsKept, AreKept};
 ghost use Rattle.sb_run.specs.Sources.{IsNumbered, IsQuestion, IsGivenBy};
 ghost use Rattle.sb_run.specs.Entering.{Hears, HearsInput, IsLooking, ServesOnly, EachServes};
+ghost use Rattle.sb_run.specs.Sending.{SendsAnswers};
 ghost use Rattle.sb_session.specs.Sessions.{new_session};
 
 use core::mem::replace_with;
@@ -98,6 +99,8 @@ impl<S: DirectoryTag, H: Wait + Drop, Q: Wait> Serving<'_, S, H, Q> {
         // The seat makes the events of the deltas that came over the connection, in their order, and no other.
         ensures entered { Hears self.now.forgotten.now.names.items connection.old connection.new seat result.0 }
         ensures greets { Greets S.settings.cluster S.opening.held.me connection.old.output connection.new.output }
+        // All that it sends are the node's Hello and its answers: deltas to digests, and digests.
+        ensures says { SendsAnswers S.opening S.settings result.0.last_call connection.old.output connection.new.output }
         ensures reads { connection.new.steps ≤ connection.old.steps + self.now.max_reads }
     {
         let asker = arrival.name.map(Asker::Named);

@@ -1,5 +1,5 @@
 use Rattle.std.proofs.Common.{rules}
-use Rattle.sb_run.proofs.Entering.{session_enters}
+use Rattle.sb_run.proofs.Entering.{session_enters, session_answers}
 use Rattle.sb_run.proofs.Hellos.{talks_greet}
 use Rattle.sb_run.proofs.Pooling.{kept_behind}
 use Rattle.sb_run.proofs.pool.Serving.serve_session.Goals as goal
@@ -18,3 +18,9 @@ returns-clause-entered g c =
 
 pub returns-clause-greets : goal.returns-clause-greets
 returns-clause-greets g c = talks_greet _ _ _ _ _ _ _ _ _ _ c.session_of-session.ensures c.serve-ended.ensures.talks
+
+pub returns-clause-says : goal.returns-clause-says
+returns-clause-says g c =
+    session_answers c.new-handler.result (λ h. h.forgotten.now) (λ f. f.names.items) (λ h. h.inner) (λ h. h.gate.now) (λ h. h.session) (λ h. h.inner)
+    (λ h. h.offers.all.items) (λ h. h.inner) g.G.Gate.lets g.G.Gate.turns_away g.S.NodeTag.opening g.S.DirectoryTag.settings _ _ _ _ _ _ c.serve-ended.ensures.talks c.session_of-session.ensures
+    c.into_seat.result (search rules)
