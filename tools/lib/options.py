@@ -90,7 +90,7 @@ def read():
         fields["kind"] = re.search(r"^    kind: (.*?),\n    value", body, re.M | re.S)[1]
         options[const] = Option(const, " ".join(re.sub(r"^/// ?", "", it) for it in docs.splitlines()), fields, numbers)
     tasks = {}
-    for const, name, parts in re.findall(r'^(?:pub\(crate\) )?const (\w+): Task = Task \{\n    name: "(\w+)".*?parts: &\[(.*?)\]', source, re.M | re.S):
+    for const, name, parts in re.findall(r'^(?:pub\(crate\) )?const (\w+): Task = Task \{\n    name: "([\w-]+)".*?parts: &\[(.*?)\]', source, re.M | re.S):
         tasks[const] = name, [options[it] for it in re.findall(r"\w+", parts)]
     order = re.findall(r"\w+", re.search(r"const TASKS: \[Task; \d+\] = \[(.*?)\];", source, re.S)[1])
     return options, dict(tasks[it] for it in order)
