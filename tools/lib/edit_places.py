@@ -79,6 +79,8 @@ def printed_name(path, span, names):
         fits = [it for it in fits if wanted.startswith(it[-2]) or it[-2].startswith(wanted)]
     elif wanted:
         fits = [it for it in fits if it[-2] == wanted]
+        # (a method is printed in the module of its type, which may be another file)
+        fits = fits or [it for it in parts if it[-2:] == [wanted, span.name]]
     return "::".join(fits[0]) if len(fits) == 1 else None
 
 
