@@ -343,6 +343,9 @@ class Crate:
         if os.environ.get("NOSEED"):
             seed.mkdir()
             names = names_by_text(self.texts)
+            if os.environ.get("ONAMES"):  # what a whole check of this machine printed
+                printed = {name for of, name, _ in attack.LINE.findall(Path(os.environ["ONAMES"]).read_text(encoding="utf-8", errors="replace")) if of == self.name}
+                names = printed or names
             count = self.place(names)
             say(f"{self.name}: without a seed; {count} edits in {len(self.queue)} batches, {len(self.whole)} by a whole check {[it[0] for it in self.whole]}")
             return True

@@ -340,6 +340,15 @@ class Crate:
         shutil.rmtree(self.room, ignore_errors=True)
         self.room.mkdir(parents=True, exist_ok=True)
         seed, start = self.room / "seed", None
+        if os.environ.get("NOSEED"):
+            seed.mkdir()
+            names = names_by_text(self.texts)
+            if os.environ.get("ONAMES"):  # what a whole check of this machine printed
+                printed = {name for of, name, _ in attack.LINE.findall(Path(os.environ["ONAMES"]).read_text(encoding="utf-8", errors="replace")) if of == self.name}
+                names = printed or names
+            count = self.place(names)
+            say(f"{self.name}: without a seed; {count} edits in {len(self.queue)} batches, {len(self.whole)} by a whole check {[it[0] for it in self.whole]}")
+            return True
         try:
             kept = f"{self.crate.folder}/out/incremental"
             start = kept if os.path.isdir(kept) and os.listdir(kept) else rt.work_for(self.crate)
@@ -556,7 +565,7 @@ def chosen(args):
     """Of each crate the edits to try, the recent ones first."""
     known = {tuple(it.split("\t")[:2]) for it in RESULTS.read_text(encoding="utf-8").splitlines()} if RESULTS.is_file() else set()
     wanted = collections.defaultdict(list)
-    for line in (HERE / "UNTRIED_LIST.tsv").read_text(encoding="utf-8").splitlines():
+    for line in Path(os.environ.get("OLIST", HERE / "UNTRIED_LIST.tsv")).read_text(encoding="utf-8").splitlines():
         crate, edit, _, reason = line.split("\t")
         if not args.recent or "last two days" in reason:
             wanted[crate].append(edit)
