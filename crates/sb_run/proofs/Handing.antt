@@ -1,5 +1,5 @@
 -- A seat's last call, and what it has seen, after calls that follow on others.
-use Rattle.std.proofs.Common.{◌≡◌, ◌+◌, List, [], ◌∷◌, Option, Some, None, Result, sym, subst, arith}
+use Rattle.std.proofs.Common.{◌≡◌, ◌+◌, List, [], ◌∷◌, Option, Some, None, Result, refl, sym, subst, arith}
 use mathlib.Core.List.{IsPrefix}
 use Rattle.sb_types.specs.declared.fault.Fault.{Fault}
 use Rattle.sb_holdings.specs.Nodes.{Node}
@@ -9,7 +9,7 @@ use Rattle.sb_views.specs.declared.event.Event.TheVariants.{TookOwn}
 use Rattle.sb_views.proofs.Prefixes.{prefix_self, prefix_trans}
 use Rattle.sb_directory.specs.declared.receipt.Receipt.{Receipt}
 use Rattle.sb_directory.specs.Seats.{Seat, Begins, MakesEvent, with_last_call, own_due_after}
-use Rattle.sb_directory.specs.Serving.{IsLater}
+use Rattle.sb_directory.specs.Serving.{IsStill, IsLater}
 use Rattle.sb_directory.specs.Handling.{later-on}
 use Rattle.sb_run.specs.OwnWriting.{IsTaken, IsTurnedAway, IsHandedIn}
 
@@ -65,3 +65,7 @@ event_later due event old new grows is more = record {
 pub known_later : (before mid after : Seat) → IsLater before mid → Begins after.last_call mid → after ≡ with_last_call mid after.last_call → IsLater before after
 known_later before mid after later begins same =
     later-on before mid after later (subst (IsLater mid) (sym same) (record { seen = prefix_self mid.seen; last_call = begins.last_call; events = omega arith }))
+
+-- a call that made none
+pub known_still : (before after : Seat) → Begins after.last_call before → after ≡ with_last_call before after.last_call → IsStill before after
+known_still before after begins same = subst (IsStill before) (sym same) (record { seen = refl; last_call = begins.last_call; events = refl })

@@ -5,25 +5,24 @@ use Rattle.sb_types.specs.declared.fault.Fault.{Fault}
 use Rattle.sb_holdings.specs.Nodes.{Node}
 use Rattle.sb_log.specs.Records.{Committed, Log}
 use Rattle.sb_directory.specs.Seats.{Seat, Begins, with_last_call}
-use Rattle.sb_directory.specs.Serving.{IsLater}
-use Rattle.sb_directory.specs.Handling.{later-same}
+use Rattle.sb_directory.specs.Serving.{IsStill}
 use Rattle.sb_run.specs.OwnPurging.{IsPurge, IsLogPurged, IsUnpurged, MayPurge}
-use Rattle.sb_run.proofs.Handing.{known_later}
+use Rattle.sb_run.proofs.Handing.{known_still}
 
 module _ {L : Type 0} (seen : L → Log) (opening : Node) (old : L) (owed : Option Committed) (before : Seat) (new : L) (owes : Option Committed) (after : Seat) where
   -- it was not asked for
-  pub none_asked : (least : ℕ) → IsLater before after → new ≡ old → owes ≡ owed → MayPurge seen opening least old owed before new owes after
-  none_asked least later same owing = (after, later, inl (same, owing, refl))
+  pub none_asked : (least : ℕ) → IsStill before after → new ≡ old → owes ≡ owed → MayPurge seen opening least old owed before new owes after
+  none_asked least still same owing = (after, still, inl (same, owing, refl))
 
   -- it was asked for, after a call of the seat that made no event
   pub purge_asked : (least given : ℕ) (asked : Seat) (result : Result (Option ℕ) Fault) → given ≡ least → Begins asked.last_call before → asked ≡ with_last_call before asked.last_call
       → IfOk result (λ floor. IsPurge opening given asked owed floor after) → IfOk result (λ floor. IsLogPurged seen old floor new) → OnOk result (owes ≡ None)
       → IfErr result (λ fault. IsUnpurged seen opening given old owed asked new owes after fault) → MayPurge seen opening least old owed before new owes after
   purge_asked least given asked (Ok floor) is_least begins same purges log none refused =
-      let may : MayPurge seen opening given old owed before new owes after = (asked, known_later before before asked (later-same before) begins same, inr (inl (floor, purges, log, none))) in
+      let may : MayPurge seen opening given old owed before new owes after = (asked, known_still before asked begins same, inr (inl (floor, purges, log, none))) in
       subst (λ (l : ℕ). MayPurge seen opening l old owed before new owes after) is_least may
   purge_asked least given asked (Err fault) is_least begins same purges log none refused =
-      let may : MayPurge seen opening given old owed before new owes after = (asked, known_later before before asked (later-same before) begins same, inr (inr (fault, refused))) in
+      let may : MayPurge seen opening given old owed before new owes after = (asked, known_still before asked begins same, inr (inr (fault, refused))) in
       subst (λ (l : ℕ). MayPurge seen opening l old owed before new owes after) is_least may
 
 -- what comes before and after it changes neither the log nor what is owed

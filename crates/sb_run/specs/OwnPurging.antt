@@ -5,7 +5,7 @@ use Rattle.sb_holdings.specs.Nodes.{Node}
 use Rattle.sb_log.specs.Records.{Committed, Log}
 use Rattle.sb_log.specs.Puts.{Purges as LogPurges}
 use Rattle.sb_directory.specs.Seats.{Seat, Begins, Refuses, with_last_call}
-use Rattle.sb_directory.specs.Serving.{IsLater}
+use Rattle.sb_directory.specs.Serving.{IsStill, IsLater}
 use Rattle.sb_directory.specs.Purging.{Purges, purge_due_after}
 use Rattle.sb_run.specs.OwnWriting.{count_owed, IsHandedIn, IsHeldBack}
 
@@ -51,10 +51,10 @@ running_least given = if nat_eq given 0 then 0 else max given 64
 abbrev pub counts_now : ℕ → ℕ → Bool → Bool
 counts_now least writes is_full = (nat_lt 0 least && nat_lt 0 writes) && (is_full || nat_le (least / 8) writes)
 
--- it did not look whether a purge is due; or it did, after a later call of the seat
+-- it did not look whether a purge is due; or it did, after a call of the seat that made no event
 abbrev pub MayPurge : {L : Type 0} → (L → Log) → Node → ℕ → L → Option Committed → Seat → L → Option Committed → Seat → Type 0
 MayPurge seen opening least old owed before new owes after =
-    (asked : Seat) × IsLater before asked
+    (asked : Seat) × IsStill before asked
     × (((new ≡ old) × (owes ≡ owed) × (after ≡ asked))
     ⊎ (((answer : Option ℕ) × IsPurge opening least asked owed answer after × IsLogPurged seen old answer new × (owes ≡ None))
     ⊎ ((fault : Fault) × IsUnpurged seen opening least old owed asked new owes after fault)))

@@ -18,9 +18,9 @@ use Rattle.sb_views.specs.Histories.{node_after}
 use Rattle.sb_views.specs.Publishing.{IsView}
 use Rattle.sb_query.specs.Statuses.{status_page}
 use Rattle.sb_directory.specs.Seats.{Seat}
-use Rattle.sb_directory.specs.Serving.{IsLater}
 use Rattle.sb_run.specs.declared.peers.Peer as dialed
 use Rattle.sb_run.specs.declared.facts.Facts.{Facts}
+use Rattle.sb_run.specs.Entering.{IsLooking}
 use Rattle.sb_run.specs.Facts.{figures_of}
 use Rattle.sb_run.specs.Turns.{code_of}
 
@@ -69,7 +69,7 @@ pub record IsStatusPage (opening : Node) (settings : Settings) (after : Seat) (a
   pub are_facts : AreFacts opening own peers after facts
   pub page : reply ≡ kinds.NodeStatus (status_page (identity_of opening.held.me settings.cluster release) (figures_of facts) peers asked settings.budget)
 
--- such a page, or that there was no memory; the seat may have seen more
+-- such a page, or that there was no memory; the seat may have seen more, and made no event
 abbrev pub IsStatusReply : Node → Settings → Seat → ℕ → Seat → Message → Type 0
 IsStatusReply opening settings before asked after reply =
-    IsLater before after × (IsStatusPage opening settings after asked reply ⊎ (reply ≡ kinds.Refused (number_of NoMemory)))
+    IsLooking before after × (IsStatusPage opening settings after asked reply ⊎ (reply ≡ kinds.Refused (number_of NoMemory)))

@@ -4,8 +4,9 @@ ghost use Rattle.sb_codec.specs.Limits.{is_identity};
 ghost use Rattle.sb_views.specs.Histories.{node_after};
 ghost use Rattle.sb_query.specs.Statuses as pages;
 ghost use Rattle.sb_views.specs.NodeViews.{upto_of};
-ghost use Rattle.sb_directory.specs.Serving.{IsStill, IsLater};
+ghost use Rattle.sb_directory.specs.Serving.{IsStill};
 ghost use Rattle.sb_run.specs.Control.{IsAgesReply};
+ghost use Rattle.sb_run.specs.Entering.{IsLooking};
 ghost use Rattle.sb_run.specs.Facts.{figures_of};
 ghost use Rattle.sb_run.specs.StatusReplies as spec;
 ghost use Rattle.sb_run.specs.StatusReplies.{identity_of, IsCounted, IsShownUpTo, IsStatusReply};
@@ -121,7 +122,7 @@ impl<S: RoundsTag, H: Wait + Drop, Q: Wait + Clock> NodeContext<'_, S, H, Q> {
         ensures keys { IfOk result.1 (λ held. IsCounted S.opening result.0.last_call held.keys) }
         ensures version { IfOk result.1 (λ held. IsShownUpTo S.opening result.0.seen held.version) }
         ensures memory { IfErr result.1 (λ fault. fault ≡ Fault.NoMemory) }
-        ensures later { IsLater seat result.0 }
+        ensures looks { IsLooking seat result.0 }
     {
         let mut seat = seat;
         let counts = match self.node_counts(&mut seat) {

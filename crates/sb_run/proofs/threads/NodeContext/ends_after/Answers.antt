@@ -1,4 +1,4 @@
-use Rattle.sb_directory.specs.Handling.{later-same}
+use Rattle.sb_directory.specs.Handling.{still-same}
 use Rattle.sb_run.proofs.OwnPurging.{none_asked, purge_between}
 use Rattle.sb_run.proofs.threads.NodeContext.ends_after.Goals as goal
 
@@ -7,7 +7,7 @@ returns-then-ends_with_log-clause-purges g c =
     let told = c.ends_with_log.new.writes in
     let same = c.ends_with_log.ensures.same in
     none_asked g.L.WriteLog.seen g.S.NodeTag.opening c.args.writes.now.log c.args.writes.now.owed c.args.seat.now told.log told.owed c.args.seat.now c.args.turns.now.least
-    (later-same c.args.seat.now) same.0 same.1
+    (still-same c.args.seat.now) same.0 same.1
 
 pub returns-clause-purges : goal.returns-clause-purges
 returns-clause-purges g c =

@@ -1,6 +1,5 @@
 use Rattle.std.proofs.Common.{refl}
-use Rattle.sb_directory.specs.Handling.{later-same}
-use Rattle.sb_run.proofs.Handing.{known_later}
+use Rattle.sb_run.proofs.Handing.{known_still}
 use Rattle.sb_run.proofs.OwnPurging.{none_asked, purge_asked}
 use Rattle.sb_run.proofs.threads.NodeContext.purge_after.Goals as goal
 
@@ -9,7 +8,7 @@ returns-then-is_some-clause-purges g c =
     let asked = c.key_count-is_full.new.seat in
     let counted = c.key_count-is_full.ensures in
     none_asked g.L.WriteLog.seen g.S.NodeTag.opening c.args.writes.now.log c.args.writes.now.owed c.args.seat.now c.args.writes.now.log c.args.writes.now.owed asked c.args.turns.now.least
-    (known_later c.args.seat.now c.args.seat.now asked (later-same c.args.seat.now) counted.begins counted.seat) refl refl
+    (known_still c.args.seat.now asked counted.begins counted.seat) refl refl
 
 pub returns-in-Ok-Some-clause-purges : goal.returns-in-Ok-Some-clause-purges
 returns-in-Ok-Some-clause-purges g c =

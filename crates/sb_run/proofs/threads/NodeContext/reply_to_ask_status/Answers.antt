@@ -10,7 +10,7 @@ returns-in-Ok-page_with g c =
     let version = rw c.in-Ok-counted.is at c.count_held-seat.ensures.version in
     let held = c.facts-facts.ensures.held in
     page_answers g.S.NodeTag.opening g.S.DirectoryTag.settings c.args.seat c.count_held-seat.result.0 c.args.asked.now c.facts-facts.result c.deref.result.now.peers.all.items c.in-Ok.report.peers.items
-    (short_text c.release.result.now) c.in-Ok-page_with.page c.count_held-seat.ensures.later
+    (short_text c.release.result.now) c.in-Ok-page_with.page c.count_held-seat.ensures.looks
     (record {
       statuses = c.in-Ok.ensures.peers;
       caught_up = c.facts-facts.ensures.peers.1 ∙ c.in-Ok.ensures.caught_up;
