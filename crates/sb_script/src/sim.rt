@@ -1,7 +1,7 @@
 //! How a script is run.
 ghost use Rattle.std.specs.Prelude.{◌≡◌, ◌+◌, ◌<◌, ◌≤◌, true, false, vec_len, OnOk, IfOk, IfErr};
 ghost use Rattle.sb_script.specs.Script.{EndsSo, bytes_to_come, status_of};
-ghost use Rattle.sb_script.specs.Printed.{wrong_line};
+ghost use Rattle.sb_script.specs.Printed.{fault_line, wrong_line};
 ghost use Rattle.sb_script.specs.Faults.{is_world_fault};
 ghost use Rattle.sb_script.specs.Told.{EndsAt, Tells, TellsFrom};
 ghost use Rattle.std.specs.Io.KnownBytes.{Appends};
@@ -205,6 +205,7 @@ fn end_at<W: Write + Drop>(number: u64, output: &mut Output<W>) -> Result<Ending
 fn end_without<W: Write + Drop>(fault: Fault, output: &mut Output<W>) -> Result<Ending, Fault>
     requires kind { is_world_fault fault ≡ true }
     ensures none { IfOk result (λ ending. ending ≡ Ending.NoWorld) }
+    ensures printed { OnOk result (Appends (output_contents W.contents output.old) (output_contents W.contents output.new) (fault_line fault)) }
     ensures told { OnOk result (EndsAt Ending.NoWorld (output_contents W.contents output.old) (output_contents W.contents output.new)) }
     ensures fault { IfErr result (λ fault. fault ≡ Fault.WriteFailed (taken_count output.new)) }
 {
