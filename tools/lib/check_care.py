@@ -1,9 +1,11 @@
 """A part of tools/check-node: what a careful watch shows. It runs `attrdir watch` with --hold, --floor, --settle, --listings and --render against
 nodes that run, and compares lines and files with what was written and removed meanwhile."""
 import json
+import os
 import subprocess
 import threading
 import time
+from pathlib import Path
 
 from check_beginning import written_back
 from check_waking import Swallower
@@ -108,6 +110,31 @@ def wrong_templates(check):
     want("a floor above all rows", (status, said.splitlines()[0], "--floor: give 0 to 100" in said), (3, "fault 5", True))
 
 
+def taken_paths(check):
+    """A watch replaces no log, no template, no link, and nothing but a file; it replaces any other file."""
+    node = check.node("a").start()
+    folder = check.folder()
+    node.put("k", 1)
+    template, plain, link, hard = (folder / it for it in ("template", "plain", "link", "hard"))
+    template.write_text("{{owner}} {{k}}\n")
+    plain.write_text("what was here\n")
+    link.symlink_to(plain)
+    os.link(template, hard)
+    kept = {it: it.read_bytes() for it in (template, plain)}
+    beside = folder / "beside"
+    beside.with_name("beside.new").symlink_to(plain)
+    for path in (template, hard, link, node.log, node.control, folder, Path("/dev/null"), beside):
+        status, printed, said = node.command("watch", "--render", str(template), "--to", str(path), "--count", "1")
+        want(f"the end of a watch to {path}", (status, printed, said.splitlines()), (3, "", [
+            "fault 17", "the path is taken by the template, a log, a link, or what is no file", f"file {path}: give a path that nothing else uses, also with .new after it",
+        ]))
+    want("what is left", {it: it.read_bytes() for it in kept}, kept)
+    want("that the link is one", link.is_symlink(), True)
+    want("the version of a write", node.put("k", 2), 2)
+    want("a watch to another file", node.command("watch", "--render", str(template), "--to", str(plain), "--count", "1"), (0, "written 1\n", ""))
+    want("that file", plain.read_text(), "a 2\n")
+
+
 def file_replaced(check):
     """Whoever reads the file has one whole text, it is written only if its text is another one, and again after it could not be written."""
     node = check.node("a").start()
@@ -169,6 +196,10 @@ def listings(check):
         watch.stop()
     rows = [json.loads(it) for it in watch.ended()[1]]
     want("the rows of the last line", [(it["owner"], it["key"]) for it in rows[-1]], [("a", it.split()[0]) for it in SERVERS["a"]] + [("b", "web/weight")])
+    for line in ("set a web/weight 9 weight 9", "written 3", '{"key":"k","owner":"a"}', "5"):
+        ran = subprocess.run([EXAMPLE / "feed", folder / "haproxy.sock", "web"], input=f"{line}\n", capture_output=True, text=True, timeout=SECONDS)
+        said = "feed: this line is not a listing: give the watch the option --listings\n"
+        want(f"what feed makes of {line}", (ran.returncode, ran.stdout, ran.stderr), (2, "", said))
     # no line before there is a row
     empty = check.node("c").start()
     want("nothing of nothing", empty.command("watch", "--listings", "--count", "3", "--every", "1"), (0, "", ""))
@@ -340,4 +371,4 @@ def command_after(check):
         after.communicate()
 
 
-PARTS = (render_words, wrong_templates, file_replaced, listings, hold, floor, settle, not_caught_up, upgrade_in_part, command_after)
+PARTS = (render_words, wrong_templates, taken_paths, file_replaced, listings, hold, floor, settle, not_caught_up, upgrade_in_part, command_after)

@@ -207,9 +207,15 @@ def tell(node, owner, after, *entries):
             pass
 
 
-def away_and_back(control):
-    """What a watch that goes on says of a node that did not answer, and then did."""
-    return [f"attrdir: warning control socket {control}: does not answer", f"attrdir: info control socket {control}: answers"]
+# why a node that ended or starts does not answer
+AWAY = ("no node could be reached: no such file", "no node could be reached: refused, no node listens there", "the node ended the connection")
+
+
+def beside_away_and_back(control, said):
+    """The lines of a watch that goes on, without those of a node that did not answer, and why, and then did."""
+    front = f"control socket {control}: "
+    known = [f"attrdir: info {front}answers", *(f"attrdir: warning {front}does not answer: {why}" for why in AWAY)]
+    return [it for it in said if it not in known]
 
 
 def pages_apart(check):
@@ -259,7 +265,7 @@ def outlasting(check):
         want("that it runs", watch.ran.poll(), None)
     finally:
         watch.stop()
-    want("what it said", set(watch.all_said()) - set(away_and_back(node.control)), set())
+    want("what it said", beside_away_and_back(node.control, watch.all_said()), [])
     want("without --retry", node.command("watch", "--count", "1"), (0, "set p x 6 weight 60\n", ""))
 
 
@@ -301,7 +307,7 @@ def removed_rows(check):
         want("that it runs", watch.ran.poll(), None)
     finally:
         watch.stop()
-    want("what it said", set(watch.all_said()) - set(away_and_back(node.control)), set())
+    want("what it said", beside_away_and_back(node.control, watch.all_said()), [])
 
 
 def rows_in_pieces(check):
@@ -343,7 +349,7 @@ def rows_in_pieces(check):
         want("that it runs", watch.ran.poll(), None)
     finally:
         watch.stop()
-    want("what it said", set(watch.all_said()) - set(away_and_back(node.control)), set())
+    want("what it said", beside_away_and_back(node.control, watch.all_said()), [])
     whole, part = rows(("b", "k", 2, 1), ("b", "l", 3, 1)), rows(("b", "l", 3, 1))
     made = MadeUp(check.folder() / "made.ctl", [whole, part, whole])
     found = run(check.program, "watch", "--retry", "--every", "0", "--count", "3", "--control", str(made.path))
@@ -380,7 +386,7 @@ def earlier_versions(check):
         want("that it runs", watch.ran.poll(), None)
     finally:
         watch.stop()
-    said = [it for it in watch.all_said() if it not in away_and_back(node.control)]
+    said = beside_away_and_back(node.control, watch.all_said())
     front = f"control socket {node.control}: "
     want("what it said", said, [
         f"attrdir: warning {front}since its start the node has shown less of 2 owners than was printed, the first is p; their printed rows stay",
@@ -397,7 +403,9 @@ def waiting(check):
         watch.awaits_said("does not answer")
         want("that it waits", watch.ran.poll(), None)
         node.start()
-        want("its end", watch.ended(), (0, ["asked"], away_and_back(node.control)))
+        status, printed, said = watch.ended()
+        want("its end", (status, printed), (0, ["asked"]))
+        want("what it said", (len(said), beside_away_and_back(node.control, said)), (2, []))
     finally:
         watch.stop()
     wrong("what is no control socket", run(check.program, "watch", "--retry", "--control", str(node.sock)), 3, "fault 13")

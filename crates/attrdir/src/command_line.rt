@@ -15,8 +15,8 @@ use sb_codec::Ask;
 use sb_commands::{
     AgeQuery, AskedNode, CarefulWatch, Caution, Failure, Floor, Portion, RenderedFile, RowFormat,
     RowQuery, Start, View, WatchPace, WatchQuery, ages_of, begin_log, key_of, name_of, prefix_of,
-    print_all, print_log, print_one, print_owners, print_status, purge_log, put, read_template,
-    restore_log, text_of, value_of, watch, watch_on, write_lines,
+    print_all, print_log, print_one, print_owners, print_status, purge_log, put, restore_log,
+    text_of, value_of, watch, watch_on, write_lines,
 };
 use sb_script::{Detail, Output, sim_run_uncounted};
 use sb_types::{Fault, Key, Name, Slot, Value};
@@ -257,12 +257,12 @@ fn watch_pace_of(given: &ArgMatches<'_>) -> WatchPace {
     }
 }
 
-/// How a watch shows rows. The faults of `read_template`.
+/// How a watch shows rows. The faults of `RenderedFile::new`.
 fn view_of<'a>(rt: &HostRuntime, given: &ArgMatches<'a>) -> Result<View<'a>, Failure<'a>> {
     match RENDER.value_if_any(given) {
         Some(template) => {
-            let template = read_template(rt, template)?;
-            Ok(View::File(RenderedFile::new(template, TO.value(given))))
+            let file = RenderedFile::new(rt, template, TO.value(given))?;
+            Ok(View::File(file))
         }
         None if LISTINGS.is_given(given) => Ok(View::Listings),
         None => Ok(View::Changes),

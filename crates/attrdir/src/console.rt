@@ -348,6 +348,10 @@ impl Observer for Console<'_, '_> {
             PeerState::Down(reason) => {
                 eprintln!(rt; "{head} peer {peer}: does not answer: {reason}")
             }
+            PeerState::Failed(fault @ Fault::UnknownKind(_)) => eprintln!(rt;
+                "{head} peer {peer}: fault {}: {fault}; give the --sock of a node, not its --control",
+                fault.number()
+            ),
             PeerState::Failed(fault) => {
                 eprintln!(rt; "{head} peer {peer}: fault {}: {fault}", fault.number())
             }

@@ -150,7 +150,7 @@ fn socket_of_http<'a>(
         };
     }
     if address == given.sock || address == given.control {
-        return FaultPlace::Listening(address);
+        return FaultPlace::Sockets(address, address);
     }
     obstacle_at(rt, address).unwrap_or(both)
 }

@@ -178,6 +178,7 @@ fn about_writing(place: FaultPlace<'_>) -> &'static str {
         FaultPlace::Metrics(_) | FaultPlace::MetricsOver(_) | FaultPlace::MetricsNowhere => {
             "give another path, of a file for metrics alone"
         }
+        FaultPlace::Rendered(_) => "give a path that nothing else uses, also with .new after it",
         _ => {
             "see where standard output goes; what was printed before is valid, and a write that was asked for was made"
         }
@@ -311,7 +312,7 @@ fn about_fault(fault: &Fault, place: FaultPlace<'_>) -> &'static str {
         Fault::BadValue => about_value(place),
         Fault::BadSetting => about_setting(place),
         Fault::TableFull => {
-            "a running node purges 64 removed keys or more: if it has fewer, stop it, give `attrdir purge --all`, and start it again; or write under a key that it has"
+            "a running node purges 64 removed keys or more: if it has fewer, stop it, give `attrdir purge --all`, and start it again; if it has none, run one more node; or write under a key that it has"
         }
         Fault::OwnersFull => "start the node again, so that it forgets owners that are gone",
         Fault::VersionsSpent => {
@@ -320,8 +321,9 @@ fn about_fault(fault: &Fault, place: FaultPlace<'_>) -> &'static str {
         Fault::NothingThere if matches!(place, FaultPlace::NoRows(_)) => {
             "give the sockets of a node that shows its rows; if none does, make a log without rows by `attrdir begin --from`"
         }
-        Fault::NothingThere =>
-            "this node has no value under this key: get prints the keys that it has",
+        Fault::NothingThere => {
+            "this node has written no value under this key: get --owner with its name prints the keys that it has; a key of another owner is removed at that node"
+        }
         fault => about_log(fault, place),
     }
 }

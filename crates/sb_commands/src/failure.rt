@@ -165,6 +165,8 @@ pub enum FaultPlace<'a> {
     OtherAddress(&'a str),
     /// In a template, or at its path.
     Template(&'a str),
+    /// At the path of the file of a watch, because something is there that a watch does not replace.
+    Rendered(&'a str),
     /// At the path for metrics, because something else is there.
     Metrics(&'a str),
     /// At the path for metrics, because it is also that of the node's log or of a socket.
@@ -306,6 +308,9 @@ fn text_of_writing(place: FaultPlace<'_>) -> Option<&'static str> {
         FaultPlace::Metrics(_) => "the path is taken by a file that is not metrics",
         FaultPlace::MetricsOver(_) => "the path is that of the node's log or of a socket",
         FaultPlace::MetricsNowhere => "the path is empty",
+        FaultPlace::Rendered(_) => {
+            "the path is taken by the template, a log, a link, or what is no file"
+        }
         _ => return None,
     })
 }
@@ -430,6 +435,7 @@ fn path_of<'a>(place: FaultPlace<'a>) -> Option<(&'static str, &'a str)> {
         FaultPlace::Port(address) | FaultPlace::OtherAddress(address) => ("http", address),
         FaultPlace::Metrics(path) | FaultPlace::MetricsOver(path) => ("metrics", path),
         FaultPlace::Template(path) => ("template", path),
+        FaultPlace::Rendered(path) => ("file", path),
         _ => return None,
     })
 }
@@ -467,6 +473,16 @@ fn write_advice<W: fmt::Write>(
     match (fault, place) {
         (Fault::BadSetting, FaultPlace::Number(_, range)) => write!(f, "give {range}"),
         _ => f.write_str(advice(fault, place)),
+    }
+}
+
+/// The text of what ended a command, in one line.
+#[derive(Clone, Copy)]
+pub(crate) struct FailureText<'f, 'a>(pub(crate) &'f Failure<'a>);
+
+impl fmt::Display for FailureText<'_, '_> {
+    fn fmt<W: fmt::Write>(&self, f: &mut fmt::Formatter<W>) -> fmt::Result {
+        write_text(&self.0.fault, self.0.place, f)
     }
 }
 

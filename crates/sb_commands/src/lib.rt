@@ -86,7 +86,7 @@ pub use log_file::{
 pub use one_row::{Portion, RowQuery, print_one};
 pub use owners::print_owners;
 pub use part::{Kind, Part, Range};
-pub use rendered_file::{RenderedFile, read_template};
+pub use rendered_file::RenderedFile;
 pub use replacing::{BESIDE, replace};
 pub use restoring::{AskedNode, restore_log};
 pub use status::print_status;

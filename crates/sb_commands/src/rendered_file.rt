@@ -2,11 +2,16 @@
 use crate::care::longer_pause;
 use crate::failure::{Failure, FaultPlace};
 use crate::rendering::rendered;
-use crate::replacing::replace;
+use crate::replacing::{BESIDE, replace};
 use crate::template::{TemplateLine, template_of};
 use sb_codec::Row;
 use sb_types::Fault;
+use std::io::Read;
+use std::os::unix::fs::MetadataExt;
 use std::{fs, io};
+
+/// The first bytes of a database, such as a log.
+const DATABASE_HEAD: [u8; 16] = *b"SQLite format 3\0";
 
 /// The file that a watch writes from a template.
 #[derive(Drop)]
@@ -21,11 +26,38 @@ pub struct RenderedFile<'a> {
     earliest: u64,
 }
 
+/// Whether the file at a path is a database.
+fn is_database(rt: &HostRuntime, path: &str) -> bool {
+    let Ok(mut file) = fs::open(rt, path) else {
+        return false;
+    };
+    let mut head = [0u8; 16];
+    file.read(&mut head).is_ok() && head == DATABASE_HEAD
+}
+
+/// Whether the file at a path is this one.
+fn is_same_file(rt: &HostRuntime, path: &str, found: &fs::Metadata) -> bool {
+    match fs::metadata(rt, path) {
+        Ok(other) => other.dev() == found.dev() && other.ino() == found.ino(),
+        Err(_) => false,
+    }
+}
+
+/// Whether a watch may replace what is at a path: nothing, or a plain file that is neither a database nor its template. If that
+/// cannot be seen, it may try.
+fn may_replace(rt: &HostRuntime, template: &str, path: &str) -> bool {
+    match fs::symlink_metadata(rt, path) {
+        Ok(found) => {
+            found.file_type().is_file()
+                && !is_same_file(rt, template, &found)
+                && !is_database(rt, path)
+        }
+        Err(_) => true,
+    }
+}
+
 /// Reads a template. `NoMemory`; `ReadFailed`; then the faults of `template_of`, with the line.
-pub fn read_template<'a>(
-    rt: &HostRuntime,
-    path: &'a str,
-) -> Result<Vec<TemplateLine>, Failure<'a>> {
+fn read_template<'a>(rt: &HostRuntime, path: &'a str) -> Result<Vec<TemplateLine>, Failure<'a>> {
     let text = match fs::read_to_string(rt, path) {
         Ok(text) => text,
         Err(error) if error.kind() == io::ErrorKind::OutOfMemory => {
@@ -52,14 +84,27 @@ pub(crate) enum FileWrite {
 }
 
 impl<'a> RenderedFile<'a> {
-    pub fn new(template: Vec<TemplateLine>, path: &'a str) -> RenderedFile<'a> {
-        RenderedFile {
-            template,
+    /// The file at `path` that the template at the other path says. The faults of `read_template`; then `WriteFailed` if something is
+    /// at `path`, or at that of the file beside it, that a watch does not replace. Nothing is written yet.
+    pub fn new(
+        rt: &HostRuntime,
+        template: &'a str,
+        path: &'a str,
+    ) -> Result<RenderedFile<'a>, Failure<'a>> {
+        let lines = read_template(rt, template)?;
+        let Ok(beside) = format!(in rt.alloc(); "{path}{BESIDE}") else {
+            return Err(Failure::from(Fault::NoMemory));
+        };
+        if !may_replace(rt, template, path) || !may_replace(rt, template, beside.as_str()) {
+            return Err(Failure::at(FaultPlace::Rendered(path), Fault::WriteFailed(0)));
+        }
+        Ok(RenderedFile {
+            template: lines,
             path,
             written: None,
             pause: 0,
             earliest: 0,
-        }
+        })
     }
 
     /// Reports that the file could not be written, the first time, and tries again after a longer pause.

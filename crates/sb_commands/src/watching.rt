@@ -2,7 +2,7 @@
 use crate::asking::{page_of, take_all};
 use crate::careful::CarefulWatch;
 use crate::change_source::{ChangeSource, WatchPace};
-use crate::failure::{Failure, FaultPlace};
+use crate::failure::{Failure, FailureText, FaultPlace};
 use crate::keeping::{copy_of, kept_rows};
 use crate::lagging::{Lag, differing_owners};
 use crate::reaches::{OwnerReach, enter_printed, enter_shown, forget_shown};
@@ -214,15 +214,22 @@ impl<'a> PrintedRows<'a> {
         Ok(())
     }
 
-    /// Prints whether the node answers, if that has changed. At first the node is taken to answer.
-    fn tell(&mut self, rt: &HostRuntime, control: &str, is_away: bool) {
-        if is_away != self.is_away {
-            self.is_away = is_away;
-            let _ = if is_away {
-                eprintln!(rt; "attrdir: warning control socket {control}: does not answer")
-            } else {
-                eprintln!(rt; "attrdir: info control socket {control}: answers")
-            };
+    /// Prints that the node answers, if it did not before. At first the node is taken to answer.
+    fn tell_answering(&mut self, rt: &HostRuntime, control: &str) {
+        if self.is_away {
+            self.is_away = false;
+            let _ = eprintln!(rt; "attrdir: info control socket {control}: answers");
+        }
+    }
+
+    /// Prints that the node does not answer, and why, if it did before.
+    fn tell_away(&mut self, rt: &HostRuntime, control: &str, failure: &Failure<'_>) {
+        if !self.is_away {
+            self.is_away = true;
+            let why = FailureText(failure);
+            let _ = eprintln!(rt;
+                "attrdir: warning control socket {control}: does not answer: {why}"
+            );
         }
     }
 
@@ -251,7 +258,7 @@ impl<'a> PrintedRows<'a> {
             return Ok(false);
         }
         let is_caught_up = is_caught_up(rt, control)?;
-        self.tell(rt, control, false);
+        self.tell_answering(rt, control);
         self.tell_waiting(rt, control, !is_caught_up);
         if is_caught_up {
             self.caught_up = stamp;
@@ -291,7 +298,7 @@ impl<'a> PrintedRows<'a> {
         found: &[Row],
         query: &WatchQuery,
     ) -> Result<(), Fault> {
-        self.tell(rt, control, false);
+        self.tell_answering(rt, control);
         self.take(rt, stamp, found, query.prints_asked)?;
         self.show(rt, control, query.prints_asked)?;
         let differing = differing_owners(rt.alloc(), &self.rows, found, &self.reaches)?;
@@ -317,7 +324,7 @@ impl<'a> PrintedRows<'a> {
                 Ok(())
             }
             Err(failure) if failure.may_pass() => {
-                self.tell(rt, control, true);
+                self.tell_away(rt, control, &failure);
                 Ok(())
             }
             Err(failure) => Err(failure),
