@@ -39,13 +39,20 @@ TEXTS = {
     28: "the stream ends inside a frame",
     29: "the reads, calls or events that were allowed are spent",
 }
+OTHER_SOCKET = "what answers is not a control socket: give the --control of the node, not its --sock or --http"
+ADVICE = {
+    10: OTHER_SOCKET,
+    13: OTHER_SOCKET,
+    15: "the log of this node takes no writes: its standard error says why",
+    18: "the node could not write its log, and takes no more writes; this write may have been made",
+}
 
 
 class Fault(Exception):
-    """A request failed. It has the number of the fault and its text; docs/REFERENCE.md explains each number."""
+    """A request failed. It has the number of the fault, its text, and what to do or None; docs/REFERENCE.md explains each number."""
 
     def __init__(self, number, text=None):
-        self.number, self.text = number, text or TEXTS.get(number, "docs/REFERENCE.md explains this number")
+        self.number, self.text, self.advice = number, text or TEXTS.get(number, "docs/REFERENCE.md explains this number"), ADVICE.get(number)
         super().__init__(f"fault {number}: {self.text}")
 
 
@@ -60,9 +67,13 @@ def take(stream, size, of=int, fault=14):
 
 def part(text, pattern, fault, size=1):
     """A text in a message: its length of so many bytes, and then the text, which has to match the pattern."""
-    if not re.fullmatch(pattern, text.encode()):
+    try:
+        content = text.encode()
+    except UnicodeEncodeError:  # a word of a command line that is not UTF-8
+        raise Fault(fault) from None
+    if not re.fullmatch(pattern, content):
         raise Fault(fault)
-    return len(text.encode()).to_bytes(size, "big") + text.encode()
+    return len(content).to_bytes(size, "big") + content
 
 
 class Kept:
@@ -223,13 +234,17 @@ def tell(program, path, fault):
 def main():
     """Runs one command, and prints what it answers as lines of JSON."""
     parser, filters = argparse.ArgumentParser(description=__doc__), ["--owner", "--prefix", "--key"]
-    parser.add_argument("--control", required=True, metavar="PATH", help="the control socket of the node")
+    control = {"metavar": "PATH", "help": "the control socket of the node, or ATTRDIR_CONTROL in the environment"}
+    parser.add_argument("--control", default=os.environ.get("ATTRDIR_CONTROL"), **control)
     commands = parser.add_subparsers(dest="command", required=True)
     for command, words in ("get", filters), ("watch", filters), ("set", ["key", "kind", "value"]), ("del", ["key"]), ("status", []):
         options = commands.add_parser(command, argument_default=argparse.SUPPRESS)
+        options.add_argument("--control", **control)
         for word in words:
             options.add_argument(word)
     given = vars(parser.parse_args())
+    if not given["control"]:
+        parser.error("give --control PATH, or set ATTRDIR_CONTROL")
     node, command = Node(given.pop("control")), given.pop("command")
     if given.get("kind") in ("weight", "flag") and re.fullmatch("0|[1-9][0-9]*|true|false", given["value"]):
         given["value"] = json.loads(given["value"])
@@ -240,7 +255,8 @@ def main():
         for item in answer if command in ("get", "watch") else [answer]:
             show(item)
     except Fault as fault:
-        parser.exit(3, f"fault {fault.number}\n{fault.text}\n")
+        advice = f"control socket {node.path}: {fault.advice}\n" if fault.advice else ""
+        parser.exit(3, f"fault {fault.number}\n{fault.text}\n{advice}")
     except KeyboardInterrupt:
         parser.exit(130)
 

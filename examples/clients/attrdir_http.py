@@ -10,6 +10,8 @@ import sys
 import time
 from urllib.parse import urlencode
 
+ADVICE = "give what the --http of the node has, not its --sock or --control"
+
 
 class Fault(Exception):
     """The node refused a request: the status, the text, and the number of the fault or None, as docs/FORMATS.md has them."""
@@ -71,12 +73,14 @@ class Node:
         """Takes the address, and for how many seconds the node may be silent. ValueError of what is no address of a node."""
         self.address, self.timeout = address, timeout
         self.is_port = re.fullmatch(r"(127\.0\.0\.1|\[::1]):[0-9]+", address) is not None
-        if not self.is_port and (address.isdigit() or ":" in address and "/" not in address):
-            raise ValueError(f"{address} is no address of a node: give 127.0.0.1:PORT, [::1]:PORT, or the path of a socket")
+        is_url = "://" in address
+        if is_url or not self.is_port and (address.isdigit() or ":" in address and "/" not in address):
+            wanted = "127.0.0.1:PORT, [::1]:PORT, or the path of a socket" + ", without http://" * is_url
+            raise ValueError(f"{address} is no address of a node: give {wanted}")
 
     def set(self, key, kind, value):
         """Writes a str (addr, text), an int (weight) or a bool (flag). Returns the version of the write."""
-        return self._ask("PUT", "/v1/keys", json.dumps({"kind": kind, "value": value}), key=key)["version"]
+        return self._ask("PUT", "/v1/keys", json.dumps({"kind": kind, "value": value}, ensure_ascii=False), key=key)["version"]
 
     def delete(self, key):
         """Removes a key of this node. Returns the version of the removal."""
@@ -127,15 +131,22 @@ class Node:
 
     def _ask(self, method="GET", path="/v1/rows", body=None, **query):
         """Sends a request, and returns the object that answers it. A parameter that is None is left out."""
+        for name, word in {**query, "value": body}.items():
+            if re.search("[\ud800-\udfff]", str(word)):  # a byte of a command line that is not UTF-8
+                raise Fault(400, f"the {name} is not UTF-8", {"owner": 2, "value": 4}.get(name, 3))
         connection = http.client.HTTPConnection(self.address if self.is_port else "localhost", timeout=self.timeout + 30 * ("wait" in query))
         try:
             if not self.is_port:
                 connection.sock = socket.socket(socket.AF_UNIX)
                 connection.sock.settimeout(connection.timeout)
                 connection.sock.connect(self.address)
-            connection.request(method, path + "?" + urlencode({name: word for name, word in query.items() if word is not None}), body)
+            connection.request(method, path + "?" + urlencode({name: word for name, word in query.items() if word is not None}), body and body.encode())
             answer = connection.getresponse()
             body = answer.read()
+        except (BrokenPipeError, ConnectionResetError) as error:
+            raise ConnectionError(f"no whole answer came: the node ended, or does not speak HTTP there: {ADVICE}") from error
+        except http.client.BadStatusLine as error:
+            raise ConnectionError(f"what answers there does not speak HTTP: {ADVICE}") from error
         except http.client.HTTPException as error:
             raise ConnectionError(f"no whole answer came: {error!r}") from error
         finally:
@@ -169,13 +180,17 @@ def tell(program, address, fault):
 
 def main():
     parser, filters = argparse.ArgumentParser(description=__doc__), ["--owner", "--prefix"]
-    parser.add_argument("--http", required=True, metavar="ADDRESS", help="what the option --http of the node has")
+    address = {"metavar": "ADDRESS", "help": "what the option --http of the node has"}
+    parser.add_argument("--http", **address)
     commands = parser.add_subparsers(dest="command", required=True)
     for command, words in ("get", filters), ("watch", filters), ("set", ["key", "kind", "value"]), ("del", ["key"]):
-        options = commands.add_parser(command)
+        options = commands.add_parser(command, argument_default=argparse.SUPPRESS)
+        options.add_argument("--http", **address)
         for word in words:
             options.add_argument(word)
     given = vars(parser.parse_args())
+    if given["http"] is None:
+        parser.error("give --http ADDRESS")
     try:
         node, command = Node(given.pop("http")), given.pop("command")
     except ValueError as wrong:

@@ -6,7 +6,8 @@
 #     attrdir_http.sh ADDRESS watch [PREFIX]    prints "+ ROW" for each row that comes and "- ROW" for each that goes, until Ctrl-C
 #
 # ADDRESS is that of the node's --http: 127.0.0.1:PORT, [::1]:PORT, or the path of a socket. A row is a line of JSON.
-# If the node refuses, the status is 3, and its answer is on standard error. If no node answers, the status is that of curl.
+# If a word cannot be an address, a name or a key, the status is 2. If the node refuses, it is 3, and its answer is on standard error. If no node
+# answers, it is that of curl.
 # A watch goes on then: it prints a line on standard error once the node does not answer, and one once it answers again.
 set -u
 LC_ALL=C
@@ -21,10 +22,21 @@ ask() {
         127.0.0.1:* | "[::1]:"*) set -- "http://$address$1" ;;
         *) set -- "http://localhost$1" --unix-socket "$address" ;;
     esac
-    answer=$(curl -sS -g -m 90 --noproxy '*' -w '\n%{http_code}' "$@") || return
+    answer=$(curl -sS -g -m 90 --noproxy '*' -w '\n%{http_code}' "$@") || { explain $? || return; }
     code=${answer##*"$line"} body=${answer%"$line"*}
     body=${body%"$line"}
     [ "$code" = 200 ] || { printf '%s\n' "status $code: $body" >&2 && return 3; }
+}
+
+# Prints on standard error what this status of curl means here, and ends with that status.
+explain() {
+    advice='give what the --http of the node has, not its --sock or --control'
+    case $1 in
+        1) printf '%s\n' "what answers at $address does not speak HTTP: $advice" >&2 ;;
+        7) printf '%s\n' "no node answers at $address" >&2 ;;
+        52 | 55 | 56) printf '%s\n' "the node at $address ended, or does not speak HTTP there: $advice" >&2 ;;
+    esac
+    return "$1"
 }
 
 # Writes the control byte 7f as an escape of JSON. The node has written the others so.
@@ -61,7 +73,7 @@ watch() {
             comm -3 "$old" "$now" | sed -e 's/^\t/+ /' -e t -e 's/^/- /' || return # nobody reads it any more
             cp "$now" "$old" && mark=$seen
         elif [ "${code:-503}" = 503 ]; then
-            tell 'does not answer' warning "$(head -n 1 "$said")"
+            tell 'does not answer' warning "$(sed -e :a -e '$!N;s/\n/; /;ta' "$said")"
             sleep 1 # the node does not run, or others wait in all its places
         else
             cat "$said" >&2
@@ -70,13 +82,32 @@ watch() {
     done
 }
 
-address=${1-} command=${2-}
+refuse() {
+    printf '%s\n' "$1" >&2
+    exit 2
+}
+
+# Ends with status 2 if a word has another byte than names or keys. It would be a part of the URL with a meaning of its own.
+check_name() {
+    case $1 in
+        *[!a-z0-9-]*) refuse "'$1' is no name: a name has only the bytes a-z, 0-9 and -" ;;
+    esac
+}
+check_key() {
+    case $1 in
+        *[!a-z0-9._/-]*) refuse "'$1' is no key: a key and a prefix have only the bytes a-z, 0-9, '.', '_', '/' and -" ;;
+    esac
+}
+
+address=${1-} command=${2-} wanted='give 127.0.0.1:PORT, [::1]:PORT, or the path of a socket'
 case $address in
+    *://*) refuse "$address is no address of a node: $wanted, without http://" ;;
     127.0.0.1:* | "[::1]:"* | */* | '') ;;
-    *:* | "${address##*[!0-9]*}") # this one is a number alone
-        printf '%s\n' "$address is no address of a node: give 127.0.0.1:PORT, [::1]:PORT, or the path of a socket" >&2
-        exit 2
-        ;;
+    *:* | "${address##*[!0-9]*}") refuse "$address is no address of a node: $wanted" ;; # the second one is a number alone
+esac
+case $#,$command in
+    4,row) check_name "$3" && check_key "$4" ;;
+    3,*) check_key "$3" ;;
 esac
 case $#,$command in
     2,rows | 3,rows) ask "/v1/rows?prefix=${3-}" && pages "${3-}" ;;

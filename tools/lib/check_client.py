@@ -45,6 +45,18 @@ def command(node, *words):
     return ran.returncode, ran.stdout, ran.stderr
 
 
+def by_variable(words, variable):
+    """The same without its option, and with this ATTRDIR_CONTROL, or none."""
+    environment = {**os.environ, **({} if variable is None else {"ATTRDIR_CONTROL": variable})}
+    ran = subprocess.run([sys.executable, CLIENT, *words], env=environment, stdin=subprocess.DEVNULL, capture_output=True, encoding="utf-8", timeout=SECONDS)
+    return ran.returncode, ran.stdout, ran.stderr
+
+
+def printed_of(node):
+    """All rows as the client prints them."""
+    return escaped(node.command("get", "--format", "json")[1])
+
+
 def fault_of(call, *words):
     """The number and the text of the fault by which a call ends."""
     try:
@@ -158,6 +170,15 @@ def client_commands(check):
         program = node.command(*wrong)
         want(f"{wrong}", (status, printed, said.splitlines()[0]), (3, "", program[2].splitlines()[0]))
     want("wrong command lines", [command(node, *it)[0] for it in ([], ["put"], ["set", "k"], ["get", "k"])], [2, 2, 2, 2])
+    for words, variable in (
+        (["get", "--control", str(node.control)], None), (["get", "--control", str(node.control)], "none.ctl"), (["--control", str(node.control), "get"], "none.ctl"), (["get"], str(node.control)),
+    ):
+        want(f"{words} with {variable}", by_variable(words, variable), (0, printed_of(node), ""))
+    for variable in (None, ""):
+        want(f"no control socket and {variable!r}", by_variable(["get"], variable)[:2], (2, ""))
+    for key, value, fault in (("k", "bad\udcff", 4), ("k\udcff", "b", 3)):
+        status, printed, said = command(node, "set", key, "text", value)
+        want("what is not UTF-8", (status, printed, said.splitlines()[0]), (3, "", f"fault {fault}"))
 
 
 def client_watches(check):
@@ -369,6 +390,13 @@ def client_faults(check):
         want("the number of a refusal", found, fault)
         if fault in (1, 2, 3, *range(6, 10), *range(10, 19), 21, 28, 29) and fault != 7:
             want("the text of a refusal", words, closer.get(fault, told[fault]))
+    for fault, advice in (
+        (15, "the log of this node takes no writes: its standard error says why"),
+        (18, "the node could not write its log, and takes no more writes; this write may have been made"),
+    ):
+        place = MadeUp(check.folder() / "made.ctl", [refused(fault)]).path
+        ran = run(sys.executable, str(CLIENT), "--control", str(place), "set", "k", "weight", "5")
+        want(f"what is printed of fault {fault}", ran, (3, "", f"fault {fault}\n{told[fault]}\ncontrol socket {place}: {advice}\n"))
     door = socket.socket(socket.AF_UNIX)
     door.bind(str(folder / "silent.ctl"))
     door.listen(8)
@@ -495,14 +523,42 @@ def http_client_faults(check):
         want(f"{words}", asked(*words), (3, "", f"fault {fault}: {told[fault]}\n"))
     want("a write at a port", by_http(port, "set", "k", "weight", "5"), (3, "", "status 403: writes are taken at a Unix socket only\n"))
     for command in ("rows", "watch"):
-        status, printed, said = by_shell(folder / "a.http", command, "P")
+        status, printed, said = by_shell(folder / "a.http", command, "p" * 65)
         want(f"a wrong prefix of {command}", (status, printed, json.loads(said.partition(": ")[2])["fault"], said[:12]), (3, "", 3, "status 400: "))
-    want("no node", (by_http(folder / "none.http", "get")[:2], by_shell(folder / "none.http", "rows")[:2]), ((3, ""), (7, "")))
+    allowed = {"name": "a name has only the bytes a-z, 0-9 and -", "key": "a key and a prefix have only the bytes a-z, 0-9, '.', '_', '/' and -"}
+    for words, wrong, what in (
+        (("rows", "web/#x"), "web/#x", "key"), (("watch", "P"), "P", "key"), (("row", "a", "k&owner=b"), "k&owner=b", "key"), (("row", "a/k", "K"), "a/k", "name"), (("row", "a%2", "k"), "a%2", "name"),
+    ):
+        want(f"{words}", by_shell(folder / "a.http", *words), (2, "", f"'{wrong}' is no {what}: {allowed[what]}\n"))
+    for words, fault in ((("set", "k", "text", "bad\udcff"), 4), (("set", "k\udcff", "text", "b"), 3), (("get", "--prefix", "\udcff"), 3), (("get", "--owner", "\udcff"), 2)):
+        want(f"{words}", [(status, printed, said.split(":")[0]) for status, printed, said in [asked(*words)]], [(3, "", f"fault {fault}")])
+    status, printed, said = by_shell(folder / "none.http", "rows")
+    want("no node", (by_http(folder / "none.http", "get")[:2], status, printed, said.splitlines()[1:]), ((3, ""), 7, "", [f"no node answers at {folder / 'none.http'}"]))
     want("wrong command lines", [by_shell(*it)[0] for it in (("x",), ("x", "put"), ("x", "row", "a"), ("x", "rows", "a", "b"))], [2, 2, 2, 2])
-    for address in ("localhost:19111", "127.0.0.2:8080", "10.0.0.1:80", ":80", "8080"):
+    for address in ("localhost:19111", "127.0.0.2:8080", "10.0.0.1:80", ":80", "8080", "http://127.0.0.1:8080", "https://localhost/v1/rows"):
         for status, printed, said in (by_http(address, "get"), by_shell(address, "rows"), by_shell(address, "watch")):
-            wanted = f"{address} is no address of a node: give 127.0.0.1:PORT, [::1]:PORT, or the path of a socket\n"
+            without = ", without http://" if "/" in address else ""
+            wanted = f"{address} is no address of a node: give 127.0.0.1:PORT, [::1]:PORT, or the path of a socket{without}\n"
             want(f"the end at {address}", (status, printed, said[-len(wanted) :]), (2, "", wanted))
+
+
+def client_wrong_sockets(check):
+    """If a client is given another one of the three sockets of a node, it names the option to give."""
+    if lacks_curl(check):
+        return
+    folder = check.folder()
+    node, _ = node_at(check, "a", folder / "a.http", folder=folder)
+    advice = "does not speak HTTP{}: give what the --http of the node has, not its --sock or --control"
+    for place, speaks, status in ((node.sock, False, 1), (node.control, True, 52)):
+        python = f"{place}: no whole answer came: the node ended, or " + advice.format(" there") if speaks else f"{place}: what answers there " + advice.format("")
+        want(f"{place} by Python", by_http(place, "get"), (3, "", f"{python}\n"))
+        shell = f"the node at {place} ended, or " + advice.format(" there") if speaks else f"what answers at {place} " + advice.format("")
+        found, printed, said = by_shell(place, "rows")
+        want(f"{place} by the shell", (found, printed, said.splitlines()[1:]), (status, "", [shell]))
+    for place, fault in ((node.sock, 13), (folder / "a.http", 10)):
+        ran = run(sys.executable, str(CLIENT), "--control", str(place), "get")
+        text = "what answers is not a control socket: give the --control of the node, not its --sock or --http"
+        want(f"{place} at the control socket", (*ran[:2], ran[2].splitlines()[::2]), (3, "", [f"fault {fault}", f"control socket {place}: {text}"]))
 
 
 def http_client_answers(check):
@@ -610,6 +666,6 @@ def client_page(check):
 
 PARTS = (
     client_rows, client_commands, client_watches, client_watches_pages, client_watches_back, client_watch_rules, client_statuses, client_status_words,
-    client_faults, client_alone, http_client_rows, http_client_faults, http_client_answers, http_client_watches, client_unread,
+    client_faults, client_wrong_sockets, client_alone, http_client_rows, http_client_faults, http_client_answers, http_client_watches, client_unread,
     client_page,
 )
