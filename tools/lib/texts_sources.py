@@ -106,3 +106,22 @@ def messages_of_no_reader(files):
         if re.match(r"crates/\w+/src/.*\.rt$", path) and not FEEDING.match(path):
             for found in re.finditer(r"\btaken_from\b", text_of(path)):
                 yield f"{path}:{line_at(text_of(path), found.start())}: makes a received message that no reader gave"
+
+
+# crates whose sessions and scripts count each read; what reads from a reader; and the counters, by the names of their values
+COUNTING = re.compile(r"crates/sb_(?:frames|session|control|script)/src/.*\.rt$")
+READS = re.compile(r"\b(\w+)\.(?:read\w*|by_ref|chain)\(|\b(?:reader|input)\.(?:bytes|take)\(|\bBufReader\b|\bio::(?:copy|read_to_string)\b")
+COUNTERS = ("steps", "last")
+COUNTED_READ = ("crates/sb_frames/src/steps.rt", "reader.read(bytes)")
+
+
+def reads_that_nobody_counts(files):
+    """Places where a session or a script reads, or may read, and `Steps::read` does not count it."""
+    for path in filter(COUNTING.match, files):
+        lines = text_of(path).split("\n")
+        for at, line in enumerate(lines, 1):
+            for found in READS.finditer(line.partition("//")[0]):
+                if found[1] not in COUNTERS and (path, line.strip()) != COUNTED_READ:
+                    yield f"{path}:{at}: reads without `Steps::read`, so nobody counts it"
+        if path == COUNTED_READ[0] and sum(it.strip() == COUNTED_READ[1] for it in lines) != 1:
+            yield f"{path}: does not read at one place alone"
