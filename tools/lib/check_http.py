@@ -329,7 +329,9 @@ def http_metrics(check):
         caller.start()
     for caller in callers:
         caller.join()
-    want("the statuses of four callers at once", (len(statuses), set(statuses)), (400, {200}))
+    # (a node whose metrics are in use all the time answers 503, which is rare)
+    want("the statuses of four callers at once", (len(statuses), set(statuses) <= {200, 503}, statuses.count(503) <= 20), (400, True, True))
+    want("the status of one more", place.bytes(b"GET /metrics HTTP/1.1\r\nHost: localhost\r\n\r\n")[0], 200)
     alone, at_alone = node_at(check, "c", free_port(), "--pause", "100", folder=folder)
     while b"attrdir_rounds_total" not in at_alone.curl("/metrics")[2] and time.monotonic() < end:
         time.sleep(0.05)
@@ -337,12 +339,14 @@ def http_metrics(check):
 
 
 def http_scrape(check):
-    """promtool finds nothing wrong with examples/prometheus.yml, and reads the alerts that it names."""
+    """promtool finds nothing wrong with examples/prometheus.yml, reads the alerts that it names, and passes their tests."""
     if shutil.which("promtool") is None:
         check.lacking.add("promtool is here, so examples/prometheus.yml was not read by it")
         return
     status, printed, said = run("promtool", "check", "config", str(ROOT / "examples/prometheus.yml"))
     want("what promtool says of examples/prometheus.yml", (status, printed.count("SUCCESS"), said), (0, 3, ""))
+    status, printed, said = run("promtool", "test", "rules", str(ROOT / "examples/alerts-test.yml"))
+    want("what promtool says of the alerts, by their tests", (status, printed.count("SUCCESS")), (0, 1))
 
 
 def http_polls(check):
@@ -635,13 +639,16 @@ def http_places(check):
         address = f"127.0.0.1:{taken.getsockname()[1]}"
         status, _, said = run(check.program, *[str(it) for it in check.node("a", "--http", address, folder=folder).words()[1:]])
         want("a port that is taken", (status, said.splitlines()[:2], said.splitlines()[2].split(": ")[0]), (3, ["fault 16", "the node cannot listen at this port"], f"http {address}"))
-    for place, wanted in ((free_port(), "sockets"), (folder / "a.sock", "socket")):
+    for place in (free_port(), folder / "a.sock"):
         node = check.node("a", "--http", f"127.0.0.1:{place}" if isinstance(place, int) else str(place), folder=folder)
         words = [str(it) for it in node.words()[1:]]
         if isinstance(place, int):
             words[words.index("--control") + 1] = str(node.sock)
         said = run(check.program, *words)[2].splitlines()
-        want(f"two sockets in one place, and --http {place}", (said[0], said[2].split(" ")[0]), ("fault 16", wanted))
+        want(f"two sockets in one place, and --http {place}", (said[0], said[2].split(": ")), ("fault 16", [
+            f"sockets {node.sock} and {node.sock}",
+            "see that these are two different paths, that the disk has room, and that the process may open more files (ulimit -n)",
+        ]))
     want("what is left", sorted(it.name for it in folder.iterdir() if it.name.endswith((".sock", ".ctl"))), [])
     node = check.node("a", "--http", "x", "--seats", "3", "--workers", "1", folder=folder)
     said = run(check.program, *[str(it) for it in node.words()[1:]])[2].splitlines()

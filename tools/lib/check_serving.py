@@ -7,7 +7,7 @@ import subprocess
 import threading
 import time
 
-from nodes import BYE, ROWS, SECONDS, Difference, ask, connect, delta, digest, exchange, hello, read_frame, run, send_in_pieces, want, weight
+from nodes import BYE, ROWS, SECONDS, TRIES, Difference, ask, connect, delta, digest, exchange, hello, read_frame, run, send_in_pieces, want, weight
 
 # the most bytes of the path of a socket
 PATH_MOST = 107
@@ -279,7 +279,14 @@ def reads(check):
             want(f"whether byte by byte is answered by {options}", 3 in slowly(stream, asked), is_answered)
         node.kill()
     for pieces, ends_well in ((9, True), (10, False)):
-        read_from_all(check, pieces, 9, ends_well)
+        # (pieces can come together on a busy machine, and are then one read: what is wrong is wrong each time)
+        for tries_left in range(TRIES - 1, -1, -1):
+            try:
+                read_from_all(check, pieces, 9, ends_well)
+                break
+            except Difference:
+                if ends_well or not tries_left:
+                    raise
 
 
 def read_from_all(check, pieces, max_reads, ends_well):
