@@ -32,8 +32,8 @@
 //!   which there is none. `tools/check-logs` refuses it.
 //! - `begin` begins after another version within the limits, or asks another node. `tools/check-logs` and
 //!   `tools/check-node` refuse it.
-//! - `restore` asks another node, leaves rows out, makes half a log, or leaves a file beside the log. `tools/check-node`
-//!   refuses it.
+//! - `restore` asks another node, leaves rows out, makes half a log, replaces a log that has writes, or leaves a file beside
+//!   the log. `tools/check-node` refuses it.
 //! - `set`, `del`, `get`, `watch`, `status` or `owners` opens another file or socket, sends another request, or prints
 //!   something else. `tools/check-node` refuses it.
 //! - `watch --retry` enters wrongly what a node has shown and what it printed (`enter_shown`, `enter_printed`). It then

@@ -62,7 +62,7 @@ pub record IsStored (opening : Node) (old : Log) (before : Seat) (key : List ℕ
   pub version : version_of stored ≡ committed.entry.version
   pub passes : PassesOn opening before committed stored owed after
 
--- at some moment of the call the node had taken no block with a write of another node under its own name
+-- at some moment of the call no block of the own name had reached above the own held version
 abbrev pub IsUndisputed : Node → Seat → Seat → Type 0
 IsUndisputed opening before after = (l : List Event) × Begins l before × IsPrefix l after.last_call × ((node_after opening l).conflict ≡ None)
 

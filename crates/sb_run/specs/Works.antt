@@ -59,3 +59,8 @@ abbrev pub WorksInTurn : {L : Type 0} → (L → Log) → Node → Settings → 
 WorksInTurn seen opening settings beat least [] old new = new ≡ old
 WorksInTurn {L} seen opening settings beat least (work ∷ earlier) old new =
     (before : Owning L) × WorksInTurn seen opening settings beat least earlier old before × DoesNext seen opening settings beat least work before new
+
+-- after some pieces of work, done so, the seat is this one
+abbrev pub WorksTo : {L : Type 0} → (L → Log) → Node → Settings → Option beats.Beat → ℕ → Owning L → Seat → Type 0
+WorksTo {L} seen opening settings beat least old seat =
+    (new : Owning L) × (done : List Work) × WorksInTurn seen opening settings beat least done old new × (new.seat ≡ seat)

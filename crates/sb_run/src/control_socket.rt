@@ -9,7 +9,7 @@ ghost use Rattle.sb_run.specs.Closing.{seen_by};
 ghost use Rattle.sb_run.specs.Control.{AnswersAll, AnswersTo};
 ghost use Rattle.sb_run.specs.OwnPurging.{MayPurge, running_least};
 ghost use Rattle.sb_run.specs.Running.{IsOpenedFrom};
-ghost use Rattle.sb_run.specs.Works.{message_of, writes_after, Does, DoesNext, WorksInTurn};
+ghost use Rattle.sb_run.specs.Works.{message_of, writes_after, Does, DoesNext, WorksInTurn, WorksTo};
 ghost use Rattle.sb_run.specs.declared.arrivals.Work.{Work};
 
 use crate::arrivals::{Request, Requests, Work};
@@ -348,6 +348,9 @@ impl<S: RoundsTag, H: Wait + Drop, Q: Wait + Clock> NodeContext<'_, S, H, Q> {
         requires opened { IsOpenedFrom (seen_by (L.seen writes.log.log) writes.log.closed_by) S.opening }
         ensures exits { result.has_left ≡ true → self.now.pace.on_log_fault ≡ OnLogFault.Exit }
         ensures failed { writes.has_failed ≡ true → self.now.pace.on_log_fault ≡ OnLogFault.Exit → result.has_left ≡ true }
+        // What became of the seat is what some pieces of work did, one after another.
+        ensures works { WorksTo L.seen S.opening S.settings self.now.beat (running_least self.now.pace.purge_removals)
+            (record { log = writes.log; owed = writes.owed; seat = seat }) result.seat }
     {
         let mut writes = writes;
         if self.ends_with_log(&mut writes, dialing.observer()) {

@@ -98,8 +98,10 @@
 //! - A source numbers two sessions alike, or begins with another number than 1. A node's own gate ignores the
 //!   number. Nothing refuses it.
 //! - A thread that dials serves a session over bytes of its own, before or after `talk`. Nothing refuses it: contracts do
-//!   not see what a socket gives. A delta has to come out of bytes (`ReceivedDelta`), so no shorter way does it. For workers
-//!   a clause of `serve_pool` refuses it.
+//!   not see what a socket gives. A delta has to come out of bytes (`ReceivedDelta`), so no shorter way does it. Within
+//!   `serve_pool` a clause refuses it of workers. Before or after it, in `serve_arrivals`, nothing does.
+//! - `run_node` runs first, and then returns why it must not. `a_node_that_is_refused_did_not_run` and
+//!   `a_closed_log_is_no_open_one` refuse it.
 //! - A thread writes something to a peer before its session begins, or after it ended. Tests and `tools/check-node` refuse it.
 //! - The thread that accepts hands a worker other bytes than came first. Tests refuse it.
 //! - `serve_pool` returns all seats and serves nobody, or its sessions make fewer reads than allowed. Tests refuse

@@ -252,3 +252,25 @@ fn an_open_log_is_no_closed_one(rt: HostRuntime) {
     same(&rt, &got(&rt, ran).faults, &0);
     same(&rt, &witness.causes.lock(&rt).len(), &0);
 }
+
+/// A closed log that is given to `run_node` is refused, and the node did not run before.
+#[test]
+fn a_closed_log_is_no_open_one(rt: HostRuntime) {
+    let paths = paths_of("shut.sock", "shut.control", &[]);
+    let alloc = rt.alloc();
+    let witness = new_witness(&rt, alloc, None);
+    let config = NodeConfig {
+        settings: settings(&rt, 3),
+        paths,
+        pace: pace(1, 0),
+        beat: None,
+        forgotten: &[],
+    };
+    let log = FullDisk {
+        owner: name(&rt, b"a"),
+        cluster: name(&rt, b"c1"),
+    };
+    let ran = run_node(&rt, alloc, config, log, &witness);
+    same(&rt, &ran, &Err(Fault::Closed));
+    same(&rt, &witness.causes.lock(&rt).len(), &0);
+}

@@ -169,6 +169,35 @@ fn rounds_without_peers(rt: HostRuntime) {
     same(&rt, &met, &(true, [false, false]));
 }
 
+/// Tests that a node over this log is refused by this fault, and did not listen before.
+fn refuses_unheard(rt: &HostRuntime, settings: Settings, log: PlainLog, fault: Fault) {
+    let paths = paths_of("unheard.sock", "unheard.control", &[]);
+    let looker = Looker {
+        rt,
+        paths: &paths,
+        saw_both: AtomicBool::new(false),
+    };
+    let config = NodeConfig {
+        settings,
+        paths,
+        pace: pace(1, 0),
+        beat: None,
+        forgotten: &[],
+    };
+    let ran = run_node(rt, rt.alloc(), config, log, &looker);
+    let met = (ran, looker.saw_both.load(Ordering::SeqCst));
+    same(rt, &met, &(Err(fault), false));
+}
+
+#[test]
+fn a_node_that_is_refused_did_not_run(rt: HostRuntime) {
+    let alloc = rt.alloc();
+    let of_c2 = PlainLog::new(alloc, name(&rt, b"a"), name(&rt, b"c2"), 100);
+    refuses_unheard(&rt, settings(&rt, 3), of_c2, Fault::WrongCluster);
+    let of_c1 = new_log(&rt, alloc, b"a");
+    refuses_unheard(&rt, settings(&rt, 2), of_c1, Fault::BadSetting);
+}
+
 /// Whether the file that was there first is as before. Removes it.
 fn is_kept(rt: &(impl Files + Abort), alloc: Global) -> bool {
     let file = got(rt, File::open(rt, "taken"));
