@@ -3,6 +3,7 @@ what it changes."""
 import os
 import shutil
 import socket
+import stat
 import subprocess
 import threading
 import time
@@ -158,6 +159,19 @@ def permissions(check):
     os.chmod(closed, 0o555)
     ends(node.words(), 16, "a socket could not be made: not permitted")
     want("what is in the folder", list(closed.iterdir()), [])
+
+
+def socket_permissions(check):
+    """Each socket of a node has the permissions that the umask of the node leaves."""
+    for mask in (0o022, 0o077, 0o007):
+        folder = check.folder()
+        door = folder / "a.http"
+        node = check.node("a", "--http", str(door), folder=folder)
+        node.how["preexec_fn"] = lambda: os.umask(mask)
+        node.start()
+        found = [stat.S_IMODE(it.stat().st_mode) for it in (node.sock, node.control, door)]
+        want(f"the permissions of the sockets of a node with the umask {mask:03o}", found, [0o777 & ~mask] * 3)
+        node.kill()
 
 
 class Peer:
@@ -326,4 +340,4 @@ def workers(check):
         check.node("a", *options).start().kill()
 
 
-PARTS = (orders, budgets, versions, paths, permissions, turns, changes, paces, reads, workers)
+PARTS = (orders, budgets, versions, paths, permissions, socket_permissions, turns, changes, paces, reads, workers)
