@@ -137,6 +137,11 @@ impl Shortage {
     }
 }
 
+/// Whether the path of a peer looks like a host and a port.
+fn is_host_and_port(peer: &str) -> bool {
+    peer.contains(':') && !peer.contains('/')
+}
+
 /// Whether so many of at most so many are nine tenths or more.
 fn is_nearly(count: usize, most: usize) -> bool
     ensures { most * 9 < 2 ^ 64 → result ≡ spec.is_nearly count most }
@@ -345,6 +350,9 @@ impl Observer for Console<'_, '_> {
         let _ = match state {
             PeerState::Never => Ok(()),
             PeerState::Answers => eprintln!(rt; "{head} peer {peer}: answers"),
+            PeerState::Down(reason) if is_host_and_port(peer) => eprintln!(rt;
+                "{head} peer {peer}: does not answer: {reason}; a peer is the path of a socket, not HOST:PORT"
+            ),
             PeerState::Down(reason) => {
                 eprintln!(rt; "{head} peer {peer}: does not answer: {reason}")
             }

@@ -20,7 +20,7 @@ use sqlite::{Alter, Connection};
 use std::alloc::Global;
 use std::fs::{remove_file, symlink_metadata};
 use std::io::ErrorKind;
-use std::net::{Net, SocketAddr, TcpListener, TcpStream};
+use std::net::{Ipv4Addr, Net, SocketAddr, TcpListener, TcpStream};
 use std::os::unix::fs::FileTypeExt;
 use std::os::unix::net::UnixListener;
 use std::sync::Mutex;
@@ -139,9 +139,6 @@ fn socket_of_http<'a>(
     address: &'a str,
 ) -> FaultPlace<'a> {
     let both = FaultPlace::Sockets(given.sock, given.control);
-    if given.sock == given.control {
-        return both;
-    }
     if let Ok(port) = address.parse::<SocketAddr>() {
         return if TcpListener::bind(rt, port).is_ok() {
             both
@@ -149,21 +146,22 @@ fn socket_of_http<'a>(
             FaultPlace::Port(address)
         };
     }
-    if address == given.sock || address == given.control {
-        return FaultPlace::Sockets(address, address);
-    }
     obstacle_at(rt, address).unwrap_or(both)
+}
+
+/// Whether a word is an address without a port.
+fn is_host_alone(word: &str) -> bool {
+    word == "localhost" || word.parse::<Ipv4Addr>().is_ok()
 }
 
 /// Whether a node may answer over HTTP at an address: a port of this machine, or the path of a socket. What has a colon and no
 /// slash is meant as an address, and what is a number as a port.
 fn is_own_address(address: &str) -> bool {
-    match address.parse::<SocketAddr>() {
-        Ok(port) => is_own_port(port),
-        Err(_) => {
-            address.contains('/') || !address.contains(':') && address.parse::<u64>().is_err()
-        }
+    if let Ok(port) = address.parse::<SocketAddr>() {
+        return is_own_port(port);
     }
+    let is_number = address.parse::<u64>().is_ok();
+    address.contains('/') || !(address.contains(':') || is_number || is_host_alone(address))
 }
 
 /// The address for HTTP, if no node answers there.
@@ -181,6 +179,17 @@ fn unreachable_peer<'a>(given: &ServeArguments<'a>) -> Option<&'a str> {
         .iter()
         .copied()
         .find(|path| path.is_empty() || path.len() > SOCKET_PATH_MOST)
+}
+
+/// The path of two sockets of the node.
+fn shared_path<'a>(given: &ServeArguments<'a>) -> Option<&'a str> {
+    if given.sock == given.control {
+        return Some(given.sock);
+    }
+    match given.http {
+        Some(address) if address == given.sock || address == given.control => Some(address),
+        _ => None,
+    }
 }
 
 /// The path for metrics, if it is empty, or if they would replace something else.
@@ -404,11 +413,14 @@ fn checked_settings<'a>(
     Ok(settings)
 }
 
-/// Tests the paths beside that of the log. `ReadFailed` if the path of a peer cannot be that of a socket; `WriteFailed` if metrics
-/// would replace something else.
+/// Tests the paths beside that of the log. `ReadFailed` if the path of a peer cannot be that of a socket, and then if two sockets
+/// of the node have one path; `WriteFailed` if metrics would replace something else.
 fn test_paths<'a>(rt: &HostRuntime, given: &ServeArguments<'a>) -> Result<(), Failure<'a>> {
     if let Some(path) = unreachable_peer(given) {
         return Err(Failure::at(FaultPlace::Peer(path), Fault::ReadFailed));
+    }
+    if let Some(path) = shared_path(given) {
+        return Err(Failure::at(FaultPlace::Sockets(path, path), Fault::ReadFailed));
     }
     if let Some(place) = taken_for_metrics(rt, given) {
         return Err(Failure::at(place, Fault::WriteFailed(0)));
@@ -443,7 +455,7 @@ fn checked_of<'a>(
 /// - `BadSetting`, also for too few seats, for an address that is not one for HTTP, and for a name that it cannot forget;
 ///   `NoMemory`.
 /// - `BadKey` of the key of its beat.
-/// - `ReadFailed` if the path of a peer cannot be that of a socket.
+/// - `ReadFailed` if the path of a peer cannot be that of a socket, and then if two sockets of the node have one path.
 /// - `WriteFailed` if metrics would replace something else.
 ///
 /// Then come the faults of `open_database` and of `log_in`, those of `purge_removals` and of `run_node`, and `WriteFailed` of
