@@ -389,7 +389,7 @@ def earlier_versions(check):
     said = beside_away_and_back(node.control, watch.all_said())
     front = f"control socket {node.control}: "
     want("what it said", said, [
-        f"attrdir: warning {front}since its start the node has shown less of 2 owners than was printed, the first is p; their printed rows stay",
+        f"attrdir: warning {front}since its start the node has shown less of 2 owners than was printed, the first is p; their printed rows stay; if an owner has a new log, start the watch again",
         f"attrdir: info {front}the node shows again what was printed",
     ])
 

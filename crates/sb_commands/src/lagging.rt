@@ -108,7 +108,7 @@ impl Lag {
             self.is_reported = true;
             let first = str::from_utf8(differing.first.bytes()).unwrap_or("");
             let _ = eprintln!(rt;
-                "attrdir: warning control socket {control}: since its start the node has shown less of {} owners than was printed, the first is {first}; their printed rows stay",
+                "attrdir: warning control socket {control}: since its start the node has shown less of {} owners than was printed, the first is {first}; their printed rows stay; if an owner has a new log, start the watch again",
                 differing.count
             );
         }
