@@ -413,8 +413,8 @@ fn checked_settings<'a>(
     Ok(settings)
 }
 
-/// Tests the paths beside that of the log. `ReadFailed` if the path of a peer cannot be that of a socket, and then if two sockets
-/// of the node have one path; `WriteFailed` if metrics would replace something else.
+/// Tests the paths beside that of the log. `ReadFailed` if the path of a peer cannot be that of a socket. Then the same if two
+/// sockets of the node have one path. `WriteFailed` if metrics would replace something else.
 fn test_paths<'a>(rt: &HostRuntime, given: &ServeArguments<'a>) -> Result<(), Failure<'a>> {
     if let Some(path) = unreachable_peer(given) {
         return Err(Failure::at(FaultPlace::Peer(path), Fault::ReadFailed));
