@@ -628,7 +628,7 @@ def http_crowd(check):
 def http_places(check):
     """Only an address of this machine is taken, or the path of a socket, which is removed at the end; a node that waits for callers ends at once."""
     folder = check.folder()
-    others = ("0.0.0.0:0", "10.0.0.1:80", "127.0.0.2:8080", "[::]:80", "localhost:80", "host.example:80", "127.0.0.1:", ":80", "8080")
+    others = ("0.0.0.0:0", "10.0.0.1:80", "127.0.0.2:8080", "[::]:80", "localhost:80", "host.example:80", "127.0.0.1:", ":80", "8080", "localhost", "127.0.0.1", "10.0.0.1", "[::1]")
     for address in (*others, "127.0.0.1:0", "[::1]:0", "127.0.0.1:65536", "[::1%1]:8080"):
         node = check.node("a", "--http", address, folder=folder)
         status, printed, said = run(check.program, *[str(it) for it in node.words()[1:]])
@@ -649,6 +649,7 @@ def http_places(check):
             f"sockets {node.sock} and {node.sock}",
             "see that these are two different paths, that the disk has room, and that the process may open more files (ulimit -n)",
         ]))
+        want("that the log is as it was", node.log.stat().st_size, 0)
     want("what is left", sorted(it.name for it in folder.iterdir() if it.name.endswith((".sock", ".ctl"))), [])
     node = check.node("a", "--http", "x", "--seats", "3", "--workers", "1", folder=folder)
     said = run(check.program, *[str(it) for it in node.words()[1:]])[2].splitlines()

@@ -226,6 +226,15 @@ def turns(check):
     want("the name in each line", [it.split(":")[0] for it in said], ["attrdir"] * 5)
 
 
+def peers_like_addresses(check):
+    """If a peer looks like a host and a port, the line that it cannot be reached says that a peer is the path of a socket."""
+    for peer in ("10.0.0.1:7400", "db.example:7400"):
+        node = check.node("a", "--rounds", "1", "--pause", "0", folder=check.folder(), peers=[peer])
+        status, _, said = node.start().ended()
+        wanted = f"attrdir: warning peer {peer}: does not answer: it cannot be reached; a peer is the path of a socket, not HOST:PORT"
+        want(f"what is said of the peer {peer}", (status, said[1:-1]), (0, [wanted]))
+
+
 def changes(check):
     """Where a round with a peer ends otherwise than the one before, that is said, once."""
     folder = check.folder()
@@ -340,4 +349,4 @@ def workers(check):
         check.node("a", *options).start().kill()
 
 
-PARTS = (orders, budgets, versions, paths, permissions, socket_permissions, turns, changes, paces, reads, workers)
+PARTS = (orders, budgets, versions, paths, permissions, socket_permissions, turns, peers_like_addresses, changes, paces, reads, workers)
