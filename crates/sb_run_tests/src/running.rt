@@ -169,33 +169,41 @@ fn rounds_without_peers(rt: HostRuntime) {
     same(&rt, &met, &(true, [false, false]));
 }
 
-/// Tests that a node over this log is refused by this fault, and did not listen before.
-fn refuses_unheard(rt: &HostRuntime, settings: Settings, log: PlainLog, fault: Fault) {
-    let paths = paths_of("unheard.sock", "unheard.control", &[]);
-    let looker = Looker {
-        rt,
-        paths: &paths,
-        saw_both: AtomicBool::new(false),
-    };
+/// What a node over this log returns. It would make one round.
+fn run_once<R: Host + Net<Listener = TcpListener, Stream = TcpStream>, O: Observer + Sync>(
+    rt: &R,
+    alloc: Global,
+    settings: Settings,
+    paths: &Paths,
+    log: PlainLog,
+    observer: &O,
+) -> Result<Ran, Fault> {
     let config = NodeConfig {
         settings,
-        paths,
+        paths: *paths,
         pace: pace(1, 0),
         beat: None,
         forgotten: &[],
     };
-    let ran = run_node(rt, rt.alloc(), config, log, &looker);
-    let met = (ran, looker.saw_both.load(Ordering::SeqCst));
-    same(rt, &met, &(Err(fault), false));
+    run_node(rt, alloc, config, log, observer)
 }
 
 #[test]
 fn a_node_that_is_refused_did_not_run(rt: HostRuntime) {
     let alloc = rt.alloc();
+    let paths = paths_of("unheard.sock", "unheard.control", &[]);
+    let looker = Looker {
+        rt: &rt,
+        paths: &paths,
+        saw_both: AtomicBool::new(false),
+    };
     let of_c2 = PlainLog::new(alloc, name(&rt, b"a"), name(&rt, b"c2"), 100);
-    refuses_unheard(&rt, settings(&rt, 3), of_c2, Fault::WrongCluster);
+    let ran = run_once(&rt, alloc, settings(&rt, 3), &paths, of_c2, &looker);
+    same(&rt, &ran, &Err(Fault::WrongCluster));
     let of_c1 = new_log(&rt, alloc, b"a");
-    refuses_unheard(&rt, settings(&rt, 2), of_c1, Fault::BadSetting);
+    let ran = run_once(&rt, alloc, settings(&rt, 2), &paths, of_c1, &looker);
+    same(&rt, &ran, &Err(Fault::BadSetting));
+    same(&rt, &looker.saw_both.load(Ordering::SeqCst), &false);
 }
 
 /// Whether the file that was there first is as before. Removes it.
