@@ -10,6 +10,8 @@ import sys
 import time
 from urllib.parse import urlencode
 
+PLACES = "give 127.0.0.1:PORT, [::1]:PORT, or the path of a socket"
+RULES = {"weight": (int, "a weight is a whole number from 0 to 2^63 - 1, without a leading 0"), "flag": (bool, "a flag is true or false")}
 ADVICE = "give what the --http of the node has, not its --sock or --control"
 
 
@@ -30,9 +32,10 @@ class Kept:
         """The node was started again, and has shown nothing since."""
         self.shown, self.gone_before = {}, dict(self.gone)
 
-    def differ(self, owner, old, new):
+    def differ(self, old, new):
         """Whether the watch yields that a row changed: from the one that it keeps to the one that the node shows, each a row or None."""
-        version, shown = (new or old)["version"], self.shown.get(owner, 0)
+        owner, version = (new or old)["owner"], (new or old)["version"]
+        shown = self.shown.get(owner, 0)
         is_held_back = shown < self.yielded.get(owner, 0) >= version  # the owner may have replaced or removed it since
         if not new:
             return version <= shown
@@ -42,11 +45,8 @@ class Kept:
 
     def take(self, found):
         """Takes all rows that the node shows, each under its owner and key. Returns the changes."""
-        changes = []
-        for place in sorted({*self.rows, *found}):
-            old, new = self.rows.get(place), found.get(place)
-            if self.differ(place[0], old, new):
-                changes.append(("set", new) if new else ("gone", old))
+        pairs = [(self.rows.get(place), found.get(place)) for place in sorted({*self.rows, *found})]
+        changes = [("set", new) if new else ("gone", old) for old, new in pairs if self.differ(old, new)]
         for row in found.values():
             self.note(self.shown, row)
         for change, row in changes:
@@ -72,14 +72,21 @@ class Node:
     def __init__(self, address, timeout=60.0):
         """Takes the address, and for how many seconds the node may be silent. ValueError of what is no address of a node."""
         self.address, self.timeout = address, timeout
-        self.is_port = re.fullmatch(r"(127\.0\.0\.1|\[::1]):[0-9]+", address) is not None
+        port = re.fullmatch(r"(?s)(?:127\.0\.0\.1|\[::1]):(.*)", address)
+        self.is_port = port is not None
+        if not address:
+            raise ValueError(f"the address is empty: {PLACES}")
+        if port and not (re.fullmatch("0*[1-9][0-9]{0,4}", port[1]) and int(port[1]) < 65536):
+            raise ValueError(f"{address} is no address of a node: a port is 1 to 65535")
         is_url = "://" in address
-        if is_url or not self.is_port and (address.isdigit() or ":" in address and "/" not in address):
-            wanted = "127.0.0.1:PORT, [::1]:PORT, or the path of a socket" + ", without http://" * is_url
-            raise ValueError(f"{address} is no address of a node: give {wanted}")
+        if is_url or not port and re.fullmatch(r"localhost|[0-9]+(\.[0-9]+){3}|[0-9]+|[^/]*:[^/]*", address):
+            raise ValueError(f"{address} is no address of a node: {PLACES}" + ", without http://" * is_url)
 
     def set(self, key, kind, value):
         """Writes a str (addr, text), an int (weight) or a bool (flag). Returns the version of the write."""
+        of, rule = RULES.get(kind, (type(value), ""))
+        if type(value) is not of or kind == "weight" and not 0 <= value < 2**63:
+            raise Fault(400, f"value {f'{kind} {value}'!r}: {rule}", 4)
         return self._ask("PUT", "/v1/keys", json.dumps({"kind": kind, "value": value}, ensure_ascii=False), key=key)["version"]
 
     def delete(self, key):
@@ -102,7 +109,7 @@ class Node:
                 if getattr(fault, "status", 503) != 503:
                     raise
                 if not is_away:
-                    tell(fault)
+                    tell(ConnectionError("the node ended before it answered; the watch goes on") if run and ADVICE in str(fault) else fault)
                 is_away = True
                 time.sleep(1)  # the node does not run, or others wait in all its places
                 continue
@@ -172,13 +179,8 @@ def show(item):
         signal.raise_signal(signal.SIGPIPE)
 
 
-def tell(program, address, fault):
-    """Prints on standard error that the node does not answer, or that it answers again."""
-    what = f"warning {address}: does not answer: {getattr(fault, 'strerror', None) or fault}" if fault else f"info {address}: answers"
-    print(f"{program}: {what}", file=sys.stderr, flush=True)
-
-
-def main():
+def parsed():
+    """The parser, and the words of the command line by their names."""
     parser, filters = argparse.ArgumentParser(description=__doc__), ["--owner", "--prefix"]
     address = {"metavar": "ADDRESS", "help": "what the option --http of the node has"}
     parser.add_argument("--http", **address)
@@ -188,18 +190,30 @@ def main():
         options.add_argument("--http", **address)
         for word in words:
             options.add_argument(word)
+    for word in sys.argv[1 : sys.argv.index("--") if "--" in sys.argv else None]:
+        name = word.partition("=")[0]
+        if re.fullmatch(r"-[^\d. ][^ ]*", word) and not any(it.startswith(name) for it in ("-h", "--help", "--http", *filters)):
+            parser.error(f"unknown option {name}" + "; if a key or value begins with -, put -- before the key" * (name[1] != "-"))
     given = vars(parser.parse_args())
     if given["http"] is None:
         parser.error("give --http ADDRESS")
+    return parser, given
+
+
+def main():
+    """Runs one command, and prints what it answers as lines of JSON."""
+    parser, given = parsed()
     try:
         node, command = Node(given.pop("http")), given.pop("command")
     except ValueError as wrong:
         parser.error(str(wrong))
-    if given.get("kind") in ("weight", "flag") and re.fullmatch("0|[1-9][0-9]*|true|false", given["value"]):
+    if re.fullmatch("weight (0|[1-9][0-9]{0,18})|flag (true|false)", f"{given.get('kind')} {given.get('value')}"):
         given["value"] = json.loads(given["value"])
     try:
         if command == "watch":
-            given["tell"] = lambda fault: tell(parser.prog, node.address, fault)
+            away, back = f"{parser.prog}: warning {node.address}: does not answer", f"{parser.prog}: info {node.address}: answers"
+            text_of = lambda fault: f"{away}: {getattr(fault, 'strerror', None) or fault}" if fault else back
+            given["tell"] = lambda fault: print(text_of(fault), file=sys.stderr, flush=True)
         answer = getattr(node, "delete" if command == "del" else command)(**given)
         for item in answer if command in ("get", "watch") else [answer]:
             show(item)

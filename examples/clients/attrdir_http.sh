@@ -34,7 +34,11 @@ explain() {
     case $1 in
         1) printf '%s\n' "what answers at $address does not speak HTTP: $advice" >&2 ;;
         7) printf '%s\n' "no node answers at $address" >&2 ;;
-        52 | 55 | 56) printf '%s\n' "the node at $address ended, or does not speak HTTP there: $advice" >&2 ;;
+        52 | 55 | 56)
+            ended="the node at $address ended, or does not speak HTTP there: $advice"
+            [ -z "${mark-}" ] || ended='the node ended before it answered; the watch goes on'
+            printf '%s\n' "$ended" >&2
+            ;;
     esac
     return "$1"
 }
@@ -99,11 +103,30 @@ check_key() {
     esac
 }
 
-address=${1-} command=${2-} wanted='give 127.0.0.1:PORT, [::1]:PORT, or the path of a socket'
-case $address in
-    *://*) refuse "$address is no address of a node: $wanted, without http://" ;;
-    127.0.0.1:* | "[::1]:"* | */* | '') ;;
-    *:* | "${address##*[!0-9]*}") refuse "$address is no address of a node: $wanted" ;; # the second one is a number alone
+# Prints the lines at the top of this file.
+help() { sed -n '2,/^[^#]/s/^# \{0,1\}//p' "$0"; }
+
+# Ends with status 2 if a word is no address. A file of such a name is ./NAME.
+check_address() {
+    places='give 127.0.0.1:PORT, [::1]:PORT, or the path of a socket'
+    case $address in
+        '') refuse "the address is empty: $places" ;;
+        *://*) refuse "$address is no address of a node: $places, without http://" ;;
+        127.0.0.1:*) check_port "${address#127.0.0.1:}" ;;
+        "[::1]:"*) check_port "${address#"[::1]:"}" ;;
+        */*) ;;
+        *) printf '%s\n' "$address" | grep -Eqx 'localhost|[0-9]+(\.[0-9]+){3}|[0-9]+|.*:.*' && refuse "$address is no address of a node: $places" ;;
+    esac
+}
+check_port() {
+    printf '%s\n' "$1" | grep -Eqx '0*[1-9][0-9]{0,4}' && [ "$1" -le 65535 ] || refuse "$address is no address of a node: a port is 1 to 65535"
+}
+
+address=${1-} command=${2-}
+case $#,$address in
+    1,--help | 1,-h) help && exit ;;
+    0,*) ;;
+    *) check_address ;;
 esac
 case $#,$command in
     4,row) check_name "$3" && check_key "$4" ;;
@@ -113,5 +136,5 @@ case $#,$command in
     2,rows | 3,rows) ask "/v1/rows?prefix=${3-}" && pages "${3-}" ;;
     4,row) ask "/v1/rows?owner=$3&key=$4" && printf '%s\n' "$body" | escape ;;
     2,watch | 3,watch) watch "${3-}" ;;
-    *) sed -n '2,/^[^#]/s/^# \{0,1\}//p' "$0" >&2 && exit 2 ;;
+    *) help >&2 && exit 2 ;;
 esac

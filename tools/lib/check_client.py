@@ -15,7 +15,7 @@ from contextlib import suppress
 from queue import Empty, Queue
 
 from check_asking import MadeUp, done, refused, rows, texts
-from check_http import KEY, VALUE, free_port, lacks_curl, node_at
+from check_http import KEY, KIND, VALUE, free_port, lacks_curl, node_at
 from check_scripts import tell
 from check_status import ASK_STATUS, NODE_STATUS
 from check_watch import VALUES, Watching
@@ -33,6 +33,7 @@ def module_of(path):
 
 CLIENT_MODULE, HTTP_MODULE = module_of(CLIENT), module_of(HTTP_CLIENT)
 Fault = CLIENT_MODULE.Fault
+ENDED = "the node ended before it answered; the watch goes on"
 
 
 def client_of(node, timeout=SECONDS):
@@ -50,6 +51,18 @@ def by_variable(words, variable):
     environment = {**os.environ, **({} if variable is None else {"ATTRDIR_CONTROL": variable})}
     ran = subprocess.run([sys.executable, CLIENT, *words], env=environment, stdin=subprocess.DEVNULL, capture_output=True, encoding="utf-8", timeout=SECONDS)
     return ran.returncode, ran.stdout, ran.stderr
+
+
+def names_wrong_options(asked):
+    """A client in Python names an option that it does not have, before and after the command, and says how to give a word that looks like one."""
+    for *words, wanted in (
+        ("--perfix", "web/", "get", "unknown option --perfix"), ("get", "--perfix=web/", "unknown option --perfix"),
+        ("set", "k", "text", "-dash", "unknown option -dash; if a key or value begins with -, put -- before the key"),
+    ):
+        status, printed, said = asked(*words)
+        want(f"the end of {words}", (status, printed, said.splitlines()[-1].partition(": error: ")[2]), (2, "", wanted))
+    for words in (("set", "--", "-k", "text", "--dash"), ("del", "--", "-k"), ("set", "k", "text", "-- a"), ("del", "k")):
+        want(f"the end of {words}", asked(*words)[::2], (0, ""))
 
 
 def printed_of(node):
@@ -169,7 +182,19 @@ def client_commands(check):
         status, printed, said = command(node, *wrong)
         program = node.command(*wrong)
         want(f"{wrong}", (status, printed, said.splitlines()[0]), (3, "", program[2].splitlines()[0]))
+    for wrong in (
+        ["set", "k", "weight", "05"], ["set", "k", "weight", "5.5"], ["set", "k", "weight", "true"], ["set", "k", "weigth", "5"], ["set", "k", "flag", "yes"], ["set", "k", "addr", "a b"],
+        ["set", "K", "weight", "5"], ["get", "--owner", "A"], ["get", "--prefix", "P"],
+    ):
+        status, printed, said = command(node, *wrong)
+        want(f"what is said of {wrong}", (status, printed, said.splitlines()[::2]), (3, "", node.command(*wrong)[2].splitlines()[::2]))
+    weight = "a weight is a whole number from 0 to 2^63 - 1, in digits alone and without a leading 0"
+    for value in ("-1", "9" * 5000):
+        want(f"a weight {value[:9]}", command(node, "set", "k", "weight", value)[2].splitlines()[2], f"value 'weight {value}': {weight}")
     want("wrong command lines", [command(node, *it)[0] for it in ([], ["put"], ["set", "k"], ["get", "k"])], [2, 2, 2, 2])
+    names_wrong_options(lambda *words: command(node, *words))
+    status, printed, said = command(node, "get", "--key", "k2", "--prefix", "l")
+    want("a key and a prefix", (status, printed, said.splitlines()[-1]), (2, "", "attrdir.py: error: --key cannot be used with --prefix"))
     for words, variable in (
         (["get", "--control", str(node.control)], None), (["get", "--control", str(node.control)], "none.ctl"), (["--control", str(node.control), "get"], "none.ctl"), (["get"], str(node.control)),
     ):
@@ -223,6 +248,10 @@ def client_watches(check):
     if not 1 <= time.monotonic() - began <= 10:
         raise Difference(f"six askings took {time.monotonic() - began:.2f} s")
     want("a prefix that is none", fault_of(next, asked.watch(prefix="P"))[0], 3)
+    ending, told = check.folder() / "made.ctl", Queue()
+    MadeUp(ending, [b"", rows(), b""])
+    Changes(CLIENT_MODULE.Node(ending).watch(pause=0.02, tell=told.put))
+    want("what a watch tells", [str(told.get(timeout=SECONDS)) for _ in range(3)], ["fault 28: the stream ends inside a frame", "None", f"fault 28: {ENDED}"])
     want("what is no control socket", fault_of(next, CLIENT_MODULE.Node(node.sock).watch())[0], 13)
 
 
@@ -377,6 +406,9 @@ def client_faults(check):
     for path in (folder / "none.ctl", folder / "taken", folder / ("x" * 120)):
         found, words = fault_of(at(path).set, "k", "weight", 5)
         want(f"the fault of {path.name}", (found, words.startswith("no node could be reached: ")), (16, True))
+        said = [run(*it, "get", "--control", str(path))[2].splitlines() for it in ([check.program], [sys.executable, str(CLIENT)])]
+        if len(path.name) < 108:  # that of a longer path is another one
+            want(f"what to do about {path.name}", said[1][2:], said[0][2:])
     want("the fault at a --sock", fault_of(at(node.sock).get)[0], 13)
     made = lambda *answers: at(MadeUp(check.folder() / "made.ctl", answers).path)
     good = done(5)
@@ -412,7 +444,7 @@ def client_alone(check):
         kept += [ast.dump(it) for it in tree.body if getattr(it, "name", None) == "Kept"]
         imports = [alias.name for it in ast.walk(tree) if isinstance(it, ast.Import) for alias in it.names]
         imports += [it.module for it in ast.walk(tree) if isinstance(it, ast.ImportFrom)]
-        there = set("argparse http.client io json os re signal socket struct sys time typing collections urllib.parse".split())
+        there = set("argparse contextlib http.client io json os re signal socket struct sys time typing collections urllib.parse".split())
         want(f"what {path.name} imports", sorted(set(imports) - there), [])
     want("how both keep rows", kept, 2 * kept[:1])
 
@@ -454,7 +486,7 @@ class MadeUpHttp:
 
 def http_answer(content, length=None):
     """An answer with this object, of which so many bytes are announced."""
-    body = json.dumps(content).encode()
+    body = json.dumps(content, separators=(",", ":")).encode()
     return b"HTTP/1.1 200 OK\r\nContent-Length: %d\r\n\r\n%s" % (len(body) if length is None else length, body)
 
 
@@ -512,15 +544,20 @@ def http_client_faults(check):
     """The clients over HTTP end with status 3 if the node refuses, and if no node answers with that or with the status of curl."""
     if lacks_curl(check):
         return
-    folder, told = check.folder(), {**texts(), 3: KEY, 4: VALUE}
+    folder, told = check.folder(), {**texts(), 0: KIND, 3: KEY, 4: VALUE}
     node, port = node_at(check, "a", folder / "a.http", folder=folder)[0], f"127.0.0.1:{free_port()}"
     check.node("b", "--http", port, folder=folder).start()
     asked = lambda *words: by_http(folder / "a.http", *words)
     want("set", [asked("set", *it) for it in (("k", "weight", "5"), ("k", "flag", "true"), ("k", "text", "5"))], [(0, f"{at}\n", "") for at in (1, 2, 3)])
     want("the row", node.get(), ["a k 3 text 5"])
     want("del", [asked("del", "k"), asked("del", "k")], [(0, "4\n", ""), (3, "", f"fault 9: {told[9]}\n")])
-    for words, fault in ((("set", "k", "weight", "05"), 4), (("set", "K", "weight", "5"), 3), (("get", "--prefix", "P"), 3), (("get", "--owner", "A"), 2), (("watch", "--prefix", "P"), 3)):
-        want(f"{words}", asked(*words), (3, "", f"fault {fault}: {told[fault]}\n"))
+    weight = "a weight is a whole number from 0 to 2^63 - 1, without a leading 0"
+    for kind, value, rule in (("weight", "05", weight), ("weight", "-1", weight), ("weight", str(2**63), weight), ("weight", "true", weight), ("flag", "1", "a flag is true or false")):
+        # nothing is sent, so no node is needed
+        want(f"set {kind} {value}", by_http(folder / "none.http", "set", "k", kind, value), (3, "", f"fault 4: value '{kind} {value}': {rule}\n"))
+    names_wrong_options(asked)
+    for words, fault in ((("set", "k", "weigth", "5"), 0), (("set", "k", "addr", "a b"), 4), (("set", "K", "weight", "5"), 3), (("get", "--prefix", "P"), 3), (("get", "--owner", "A"), 2), (("watch", "--prefix", "P"), 3)):
+        want(f"{words}", asked(*words), (3, "", f"fault {fault or 4}: {told[fault]}\n"))
     want("a write at a port", by_http(port, "set", "k", "weight", "5"), (3, "", "status 403: writes are taken at a Unix socket only\n"))
     for command in ("rows", "watch"):
         status, printed, said = by_shell(folder / "a.http", command, "p" * 65)
@@ -535,11 +572,34 @@ def http_client_faults(check):
     status, printed, said = by_shell(folder / "none.http", "rows")
     want("no node", (by_http(folder / "none.http", "get")[:2], status, printed, said.splitlines()[1:]), ((3, ""), 7, "", [f"no node answers at {folder / 'none.http'}"]))
     want("wrong command lines", [by_shell(*it)[0] for it in (("x",), ("x", "put"), ("x", "row", "a"), ("x", "rows", "a", "b"))], [2, 2, 2, 2])
-    for address in ("localhost:19111", "127.0.0.2:8080", "10.0.0.1:80", ":80", "8080", "http://127.0.0.1:8080", "https://localhost/v1/rows"):
-        for status, printed, said in (by_http(address, "get"), by_shell(address, "rows"), by_shell(address, "watch")):
-            without = ", without http://" if "/" in address else ""
-            wanted = f"{address} is no address of a node: give 127.0.0.1:PORT, [::1]:PORT, or the path of a socket{without}\n"
-            want(f"the end at {address}", (status, printed, said[-len(wanted) :]), (2, "", wanted))
+
+
+def http_client_addresses(check):
+    """The clients over HTTP end with status 2 if a word is no address of a node, and say what one is. The one in shell prints its help."""
+    places = "give 127.0.0.1:PORT, [::1]:PORT, or the path of a socket"
+    hosts = ("localhost:19111", "127.0.0.2:8080", "10.0.0.1:80", ":80", "8080", "localhost", "127.0.0.1", "10.0.0.1")
+    wrong = {it: f"{it} is no address of a node: {places}" for it in hosts}
+    wrong.update({it: f"{it} is no address of a node: {places}, without http://" for it in ("http://127.0.0.1:8080", "https://localhost/v1/rows")})
+    ports = ("127.0.0.1:99999", "127.0.0.1:65536", "[::1]:0", "[::1]:" + 30 * "9", "127.0.0.1:", "127.0.0.1:http")
+    wrong.update({it: f"{it} is no address of a node: a port is 1 to 65535" for it in ports})
+    wrong[""] = f"the address is empty: {places}"
+    for address, said in wrong.items():
+        want(f"the end at {address}", by_shell(address, "rows"), (2, "", f"{said}\n"))
+        try:
+            HTTP_MODULE.Node(address)
+            raise Difference(f"{address} is an address")
+        except ValueError as fault:
+            want(f"what is said of {address}", str(fault), said)
+    for address in ("localhost", ""):
+        status, printed, said = by_http(address, "get")
+        want(f"the end at {address}", (status, printed, said.splitlines()[-1]), (2, "", f"attrdir_http.py: error: {wrong[address]}"))
+        want(f"the end of a watch at {address}", by_shell(address, "watch"), (2, "", f"{wrong[address]}\n"))
+    good = {it: HTTP_MODULE.Node(it).is_port for it in ("127.0.0.1:1", "[::1]:65535", "./localhost", "./127.0.0.1", "1.2.3", "a.http", "/run/a:80")}
+    want("what is an address", good, {it: it.endswith((":1", ":65535")) for it in good})
+    lines = SHELL_CLIENT.read_text().splitlines()[1:]
+    page = "".join(f"{it[2:]}\n" for it in lines[: [it[:1] for it in lines].index("s")])
+    for words, wanted in (["--help"], (0, page, "")), (["-h"], (0, page, "")), ([], (2, "", page)):
+        want(f"the help by {words}", run("sh", str(SHELL_CLIENT), *words), wanted)
 
 
 def client_wrong_sockets(check):
@@ -584,6 +644,10 @@ def http_client_answers(check):
     Changes(HTTP_MODULE.Node(str(node.path), SECONDS).watch()).awaits(("set", "a", "k", 1, 5))
     polls = [it for it in node.targets if "owner" not in it]
     want("the polls of a watch", polls[:4], 4 * ["/v1/rows?prefix=&wait=30s"])
+    told = Queue()
+    Changes(HTTP_MODULE.Node(str(made(b"", rows_of("m"), rows_of("r"), b"")), SECONDS).watch(tell=told.put))
+    ended = "no whole answer came: the node ended, or does not speak HTTP there: give what the --http of the node has, not its --sock or --control"
+    want("what a watch tells", [str(told.get(timeout=SECONDS)) for _ in range(3)], [ended, "None", ENDED])
 
 
 def http_client_watches(check):
@@ -630,6 +694,12 @@ def http_client_watches(check):
     want("what the shell says", [said[0][: len(away)], *said[1:]], [away, front.format("info", "answers")])
     says_it_was_away(python, "attrdir_http.py", folder / "a.http")
     want("what the shell leaves", list((folder / "tmp").iterdir()), [])
+    made = MadeUpHttp(folder / "made.http", http_answer({"more": False, "rows": [], "seen": "m"}), b"").path
+    ending = ClientWatching("sh", SHELL_CLIENT, made, "watch")
+    try:
+        ending.awaits_said(f"warning {made}: does not answer: curl: (52) Empty reply from server; {ENDED}")
+    finally:
+        ending.stop()
 
 
 def client_unread(check):
@@ -651,10 +721,12 @@ def client_unread(check):
 
 
 def client_page(check):
-    """Each example of examples/clients/README.md, a command and the line below it, is what a node h prints that answers at h.http."""
+    """Each example of examples/clients/README.md, a command and the line below it, is what a node h prints that answers at h.http. Those in Python
+    find the clients."""
     if lacks_curl(check):
         return
-    examples = re.findall(r"^    \$ (.*)\n    (.*)$", (CLIENT.parent / "README.md").read_text(), re.MULTILINE)
+    page = (CLIENT.parent / "README.md").read_text()
+    examples = re.findall(r"^    \$ (.*)\n    (.*)$", page, re.MULTILINE)
     want("whether there are examples", len(examples) >= 6, True)
     folder = check.folder()
     node_at(check, "h", folder / "h.http", folder=folder)
@@ -662,10 +734,16 @@ def client_page(check):
     for line, wanted in examples:
         ran = subprocess.run(["sh", "-c", line], cwd=folder, env={**os.environ, "PATH": path}, stdin=subprocess.DEVNULL, capture_output=True, text=True, timeout=SECONDS)
         want(f"the example {line}", ran.stdout + ran.stderr, f"{wanted}\n")
+    imports = re.findall(r"^In Python, after `(export PYTHONPATH=\S+)`, the same is:\n\n    (from .*)$", page, re.MULTILINE)
+    want("how many examples are in Python", len(imports), 2)
+    for export, line in imports:
+        words = f"{export.replace('/the/repository', str(ROOT))}; exec {sys.executable} -c '{line}'"
+        ran = subprocess.run(["sh", "-c", words], cwd=folder, stdin=subprocess.DEVNULL, capture_output=True, text=True, timeout=SECONDS)
+        want(f"the example {line}", (ran.returncode, ran.stderr), (0, ""))
 
 
 PARTS = (
     client_rows, client_commands, client_watches, client_watches_pages, client_watches_back, client_watch_rules, client_statuses, client_status_words,
-    client_faults, client_wrong_sockets, client_alone, http_client_rows, http_client_faults, http_client_answers, http_client_watches, client_unread,
-    client_page,
+    client_faults, client_wrong_sockets, client_alone, http_client_rows, http_client_faults, http_client_addresses, http_client_answers, http_client_watches,
+    client_unread, client_page,
 )
