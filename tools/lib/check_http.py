@@ -639,17 +639,18 @@ def http_places(check):
         address = f"127.0.0.1:{taken.getsockname()[1]}"
         status, _, said = run(check.program, *[str(it) for it in check.node("a", "--http", address, folder=folder).words()[1:]])
         want("a port that is taken", (status, said.splitlines()[:2], said.splitlines()[2].split(": ")[0]), (3, ["fault 16", "the node cannot listen at this port"], f"http {address}"))
-    for place in (free_port(), folder / "a.sock"):
-        node = check.node("a", "--http", f"127.0.0.1:{place}" if isinstance(place, int) else str(place), folder=folder)
+    for at_port in (True, False):
+        apart = check.folder()
+        node = check.node("a", "--http", f"127.0.0.1:{free_port()}" if at_port else str(apart / "a.sock"), folder=apart)
         words = [str(it) for it in node.words()[1:]]
-        if isinstance(place, int):
+        if at_port:
             words[words.index("--control") + 1] = str(node.sock)
         said = run(check.program, *words)[2].splitlines()
-        want(f"two sockets in one place, and --http {place}", (said[0], said[2].split(": ")), ("fault 16", [
+        want(f"two sockets in one place, HTTP at a port {at_port}", (said[0], said[2].split(": ")), ("fault 16", [
             f"sockets {node.sock} and {node.sock}",
             "see that these are two different paths, that the disk has room, and that the process may open more files (ulimit -n)",
         ]))
-        want("that the log is as it was", node.log.stat().st_size, 0)
+        want("what is left in its folder, and the length of its log", ([it.name for it in apart.iterdir()], node.log.stat().st_size), (["a.log"], 0))
     want("what is left", sorted(it.name for it in folder.iterdir() if it.name.endswith((".sock", ".ctl"))), [])
     node = check.node("a", "--http", "x", "--seats", "3", "--workers", "1", folder=folder)
     said = run(check.program, *[str(it) for it in node.words()[1:]])[2].splitlines()
